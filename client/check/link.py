@@ -198,12 +198,14 @@ class Outcome:
     """What came of a link: the script that was sent, the result (None where something of the script is left), and what
     is to be said."""
 
-    __slots__ = ("script", "result", "said", "differs", "stops")
+    __slots__ = ("script", "result", "said", "differs", "stops", "commons")
 
     def __init__(self, script: Script, result: Result | None, said: list[str], differs: bool = False) -> None:
         self.script, self.result, self.said = script, result, said
         self.differs = differs
         """Whether the image is another than GNU ld's, and nothing that is reported says why."""
+        self.commons = False
+        """Whether common blocks, which the session has in another order, make the image worse than it could be."""
         self.stops = False
         """Whether GNU ld makes no image of the script either."""
 
@@ -243,7 +245,9 @@ class CheckedLink:
         changed = self._changed()
         if not changed:
             return Outcome(script, result, [checker.difference(one) for one in found], True)
-        return Outcome(script, result, changed + self._consequences(found))
+        outcome = Outcome(script, result, changed + self._consequences(found))
+        outcome.commons = any(section.name == "COMMON" for section in checker.known.sections())
+        return outcome
 
     def _consequences(self, found: list[Difference]) -> list[str]:
         """What is another where lines of the report say why: the first, and how much more, or all with --verbose."""

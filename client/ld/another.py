@@ -45,9 +45,10 @@ def reason_for_another(
         return _first([str(note) for note in script.left])
     if outcome.differs:
         return f"the image would be another than GNU ld's: {_first(outcome.said)}"
-    others = [line for line in outcome.said if ": changed: " in line and not any(map(line.__contains__, OF_ENTRY))]
-    if others and command.output_format == "binary" and not result.status:
-        return f"a flat image would be another than GNU ld's: {_first(others)}"
+    if is_another(outcome) and command.output_format == "binary" and not result.status:
+        return f"a flat image would be another than GNU ld's: {_first(_changed(outcome))}"
+    if outcome.commons:
+        return "common blocks are in another order than by GNU ld"
     if result.script_refused:
         return None if result.script_refused.number == NO_MEMORY else "the adapted script is outside the profile of ldi"
     faults = list(fault_lines(result.faults)) if result.status else []
@@ -56,6 +57,15 @@ def reason_for_another(
     from client.messages import fault_messages
 
     return _first([message.sentence for message in fault_messages(result.faults, inputs(outcome.script))])
+
+
+def is_another(outcome: Outcome) -> bool:
+    """Whether something is said to be changed in an image, but for its entry."""
+    return bool(_changed(outcome))
+
+
+def _changed(outcome: Outcome) -> list[str]:
+    return [line for line in outcome.said if ": changed: " in line and not any(map(line.__contains__, OF_ENTRY))]
 
 
 def _first(lines: list[str]) -> str:

@@ -59,9 +59,15 @@ class Reasons:
     say_more: Callable[[], None] = lambda: None
     """Says more than the lines, before them: where nothing links, or with --verbose."""
     status: int | None = None
-    """Of a link that nothing makes; then all is said before. None: the status is 2, and the lines are said."""
+    """Of a link that no other linker makes, which is said by `say_more` alone; 0 if `ldi` makes it all the same. None:
+    it is 2, and the lines are said."""
     first: Callable[[], str] | None = None
     """The lines with a first detail, which takes time to find."""
+
+    def say_all(self) -> None:
+        """Says why nothing links."""
+        if self.status != 0:
+            self.say_more()
 
     def text(self) -> str:
         """All in one line."""
@@ -96,7 +102,7 @@ def hand_over(reasons: Reasons, words: Sequence[str], environment: Mapping[str, 
 
 def _refused(reasons: Reasons, why: str, status: int) -> int:
     """Says that nothing links; gives the status."""
-    reasons.say_more()
+    reasons.say_all()
     if reasons.status is not None:
         return reasons.status
     for line in reasons.lines:

@@ -11,7 +11,7 @@ from types import FrameType
 import client.files
 from client.adapt.segments import about_segments
 from client.check.link import CheckedLink, Checker, Outcome, names_others, wants_map
-from client.ld.another import reason_for_another
+from client.ld.another import is_another, reason_for_another
 from client.ld.beside import beside
 from client.ld.command import Command, read_command
 from client.ld.fallback import NONE, VARIABLE, Reasons, hand_over
@@ -396,9 +396,11 @@ class Link:
         self.script = script
         outcome = self._checked(opened, script, result)
         status = self._status(outcome)
-        why = reason_for_another(self.command, script, outcome, self._inputs)
+        why, status = reason_for_another(self.command, script, outcome, self._inputs), self._status(outcome)
         if why is not None:
-            return self._another(Reasons([why], "", lambda: self._report(script, outcome), status or FAULTS))
+            status = self._another(Reasons([why], "", lambda: self._report(script, outcome), status))
+            if status:
+                return status
         self._report(script, outcome)
         if status or outcome.result is None:
             return status
@@ -431,15 +433,15 @@ class Link:
             say(line)
         return bool(lines)
 
-    @staticmethod
-    def _status(outcome: Outcome) -> int:
+    def _status(self, outcome: Outcome) -> int:
         """The status of a link that no other linker makes."""
         result = outcome.result
         if result is None or result.script_refused and result.script_refused.number != NO_MEMORY:
             return REFUSED
         if result.script_refused:
             return MEMORY
-        return FAULTS if outcome.differs or result.status else GOOD
+        is_other = self.command.output_format == "binary" and is_another(outcome)
+        return FAULTS if outcome.differs or result.status or is_other else GOOD
 
     def _another(self, reasons: Reasons) -> int:
         """Has the other linker link."""

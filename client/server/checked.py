@@ -46,7 +46,7 @@ class CheckedLayout:
         """Keeps what was said of a link, which asked for these names; nothing where it was made by another script than
         the adapted one."""
         self._script, self._names = None, names
-        if outcome.script is script and outcome.result is not None and outcome.result.status == 0:
+        if outcome.script is script and outcome.result is not None and not (outcome.result.status or outcome.commons):
             self._script, self._said, self._differs = script, outcome.said, outcome.differs
             self._objects = {item.name: item.data for item in objects}
 

@@ -42,8 +42,8 @@ class ServerHost(Remembering):
 
     def hand_over(self, reasons: Reasons, words: Sequence[str], environment: Mapping[str, str], verbose: bool) -> int:
         """Another linker is the call's to start."""
-        if reasons.status == 1 and environment.get(VARIABLE) == NONE:
-            reasons.say_more()
+        if reasons.status in (0, 1) and environment.get(VARIABLE) == NONE:
+            reasons.say_all()
             return reasons.status
         raise ByItself("; ".join(reasons.lines))
 

@@ -7,7 +7,7 @@ import unittest
 from collections.abc import Iterable
 
 from client.tests.fuzz import objects
-from client.tests.fuzz.linked import CRASHED, REFUSED, SAME, SILENT, link
+from client.tests.fuzz.linked import CRASHED, REFUSED, SAME, SILENT, TWICE, link
 from client.tests.fuzz.scripts import case
 from client.tests.linking import needs
 
@@ -37,11 +37,22 @@ class FuzzTest(unittest.TestCase):
         """So with --gc-sections."""
         self.tried([*range(8200000, 8200000 + COUNT // 3), *COLLECTING], True)
 
-    def tried(self, seeds: Iterable[int], collects: bool) -> None:
+    def test_names_twice(self) -> None:
+        """So with output sections of one name."""
+        self.tried(range(500000, 500000 + COUNT // 5), False, TWICE)
+
+    def test_common_blocks(self) -> None:
+        """So with common blocks in every object; many such links are refused, as the session has another order."""
+        objects.make(".", 1)
+        for seed in range(600000, 600000 + COUNT // 5):
+            came = link(case(seed))
+            self.assertNotIn(came.outcome, (SILENT, CRASHED), f"{seed}: {came.found} {came.said}")
+
+    def tried(self, seeds: Iterable[int], collects: bool, twice: int = 3) -> None:
         """Links the cases of some seeds."""
         outcomes: dict[str, int] = {}
         for seed in seeds:
-            came = link(case(seed, collects))
+            came = link(case(seed, collects, twice))
             outcomes[came.outcome] = outcomes.get(came.outcome, 0) + 1
             with self.subTest(seed):
                 self.assertNotIn(came.outcome, (SILENT, CRASHED), f"{came.found} {came.said}")

@@ -123,7 +123,7 @@ class WatchHost(Remembering):
     def hand_over(self, reasons: Reasons, words: Sequence[str], environment: Mapping[str, str], verbose: bool) -> int:
         """No other linker keeps an image up to date."""
         if reasons.status is not None:
-            reasons.say_more()
+            reasons.say_all()
             return reasons.status
         raise CannotLink("; ".join(reasons.lines))
 

@@ -6,7 +6,7 @@ import struct
 from collections.abc import Mapping
 from dataclasses import dataclass, field
 
-from client.object_file import ALLOC, EXECUTABLE, NOBITS, SYMBOL, Header, ObjectFile
+from client.object_file import ALLOC, EXECUTABLE, NOBITS, SYMBOL, WRITABLE, Header, ObjectFile
 
 SEGMENT = struct.Struct("<IIQQQQQQ")
 MAPPED = re.compile(r"^(\S+)\s+(0x[0-9a-f]+)\s+(0x[0-9a-f]+)(?: load address (0x[0-9a-f]+))?$", re.M)
@@ -28,6 +28,7 @@ class Section:
     """-1 where no segment has it."""
     data: bytes | None
     code: bool
+    writable: bool = False
 
 
 @dataclass
@@ -60,7 +61,7 @@ def read_image(data: bytes, mapped: Loads | None = None) -> Image:
             contents = None if header.kind == NOBITS else data[header.offset:header.offset + header.size]
             load = _load(header, segments, (mapped or {}).get((name, header.address, header.size), -1))
             image.sections.append(Section(name, header.address, header.size, load, contents,
-                                          bool(header.flags & EXECUTABLE)))
+                                          bool(header.flags & EXECUTABLE), bool(header.flags & WRITABLE)))
         if header.kind == 2:
             names = headers[header.link].offset
             for name_at, info, _, section, value, _ in SYMBOL.iter_unpack(
@@ -89,8 +90,8 @@ def _load(header: Header, segments: list[tuple[int, ...]], mapped: int) -> int:
     return loads.pop() if len(loads) == 1 else -1
 
 
-def differences(gnu: Image, ldi: Image) -> list[str]:
-    """What is another in the image of `ldi`."""
+def differences(gnu: Image, ldi: Image, with_headers: bool = False) -> list[str]:
+    """What is another in the image of `ldi`; `with_headers` in the names and flags of sections too."""
     found: list[str] = []
     rest = list(ldi.sections)
     for one in gnu.sections:
@@ -100,6 +101,9 @@ def differences(gnu: Image, ldi: Image) -> list[str]:
             found.append(f"section {one.name} {one.address:#x} {one.size:#x}: {' '.join(here) or 'none'}")
             continue
         rest.remove(match)
+        headers = [(s.name, s.writable, s.code) for s in (one, match)]
+        if with_headers and headers[0] != headers[1]:
+            found.append(f"header of {one.address:#x}: {headers[0]} {headers[1]}")
         if one.load >= 0 and one.load != match.load:
             found.append(f"load address of {one.name} {one.load:#x}: {match.load:#x}")
         if one.load < 0:

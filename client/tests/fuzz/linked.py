@@ -22,6 +22,9 @@ SAME, CHANGED, REFUSED = "same", "changed, which is said", "refused"
 GNU_REFUSES, SILENT, CRASHED = "refused by GNU ld", "SILENT DIFFERENCE", "CRASHED"
 LIMIT = 60.0
 """Seconds that a case may take."""
+TWICE = 25
+"""Of a hundred output sections that might have a name twice, how many do."""
+
 GREATEST = 1 << 25
 """The bytes that a file may have: a case whose image has more is none."""
 GNU = ["ld.bfd", "-static", "--no-warn-rwx-segments", "--no-warn-execstack", "-Map", "gnu.map"]
@@ -60,8 +63,8 @@ def by_ldi(words: list[str]) -> tuple[int, str]:
     return status, said.getvalue()
 
 
-def link(one: Case) -> Came:
-    """Links a case by both."""
+def link(one: Case, with_headers: bool = False) -> Came:
+    """Links a case by both; `with_headers` compares names and flags of sections too."""
     prepare(one)
     try:
         done = subprocess.run([*GNU, *one.words("case.ld", "gnu.out")], capture_output=True, text=True, timeout=60,
@@ -79,7 +82,7 @@ def link(one: Case) -> Came:
     with open("gnu.out", "rb") as file, open("gnu.map", encoding="latin-1") as mapped:
         gnu = read_image(file.read(), loads_of(mapped.read()))
     with open("ldi.out", "rb") as file:
-        found = differences(gnu, read_image(file.read()))
+        found = differences(gnu, read_image(file.read()), with_headers)
     if not found:
         return Came(SAME, said)
     reported = any("changed:" in line or "PHDRS:" in line for line in said.splitlines())
@@ -87,7 +90,7 @@ def link(one: Case) -> Came:
 
 
 def main(words: list[str]) -> int:
-    """`fuzz-adapt COUNT [SEED] [--gc-sections] [-v]`: that many cases, and a line for each silent difference."""
+    """`fuzz-adapt COUNT [SEED] [OPTIONS]`: that many cases, and a line for each silent difference."""
     given, words = words, [word for word in words if not word.startswith("-")]
     count, first = int(words[0]) if words else 300, int(words[1]) if len(words) > 1 else 0
     folder = os.environ.get("FUZZ_FOLDER", "/tmp/fuzz-adapt")
@@ -97,8 +100,10 @@ def main(words: list[str]) -> int:
     resource.setrlimit(resource.RLIMIT_FSIZE, (GREATEST, GREATEST))
     tally: Counter[str] = Counter()
     for seed in range(first, first + count):
+        if "--commons" in given and (seed == first or seed % 10 == 0):
+            objects.make(".", seed // 10)
         faulthandler.dump_traceback_later(LIMIT, exit=True)
-        came = link(case(seed, "--gc-sections" in given))
+        came = link(case(seed, "--gc-sections" in given, TWICE), "--headers" in given)
         tally[came.outcome] += 1
         if came.outcome in (SILENT, CRASHED) or "-v" in given:
             print(f"{seed}: {came.outcome}: {' | '.join(came.found[:4]) or came.said[-300:]}", flush=True)

@@ -3,6 +3,7 @@ from __future__ import annotations
 
 import os
 import subprocess
+from random import Random
 
 SOURCES = {
     "a": """
@@ -172,10 +173,23 @@ DEFINED = ["main", "text_a", "data_a", "helper", "weak_b", "data_b", "use", "tab
 """Names that objects of the pool define."""
 
 
-def make(folder: str) -> None:
-    """Assembles the pool in a folder."""
+def blocks(name: str, random: Random) -> str:
+    """Common blocks of an object: some of its own, and some that others have too, with other sizes and alignments."""
+    names = [f"{name}_{number}" for number in range(random.randrange(8))]
+    names += random.sample([f"shared_{number}" for number in range(12)], random.randrange(6))
+    random.shuffle(names)
+    return "".join(f"\t.comm {one}, {random.randrange(1, 40)}, {1 << random.randrange(7)}\n" for one in names)
+
+
+def make(folder: str, with_blocks: int | None = None) -> None:
+    """Assembles the pool in a folder; each object has common blocks of this seed, if there is one."""
     for name, text in {**SOURCES, **LIBRARY}.items():
-        if not os.path.exists(os.path.join(folder, f"{name}.o")):
-            subprocess.run(["as", "-o", f"{name}.o", "-"], input=text, text=True, check=True, timeout=60, cwd=folder)
+        if with_blocks is not None:
+            text += blocks(name, Random(f"{with_blocks} {name}"))
+        elif os.path.exists(os.path.join(folder, f"{name}.o")):
+            continue
+        subprocess.run(["as", "-o", f"{name}.o", "-"], input=text, text=True, check=True, timeout=60, cwd=folder)
     members = [f"{name}.o" for name in LIBRARY]
+    if os.path.exists(os.path.join(folder, ARCHIVE)):
+        os.unlink(os.path.join(folder, ARCHIVE))
     subprocess.run(["ar", "rcsD", ARCHIVE, *members], check=True, timeout=60, cwd=folder)

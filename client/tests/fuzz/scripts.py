@@ -36,7 +36,8 @@ class Case:
 class Writer:
     """Writes one script."""
 
-    def __init__(self, seed: int) -> None:
+    def __init__(self, seed: int, twice: int = 3) -> None:
+        """Of a hundred output sections whose name another one has already, `twice` keep it."""
         self.random = Random(seed)
         self.names: list[str] = []
         """Output sections so far."""
@@ -44,6 +45,7 @@ class Writer:
         """Symbols so far."""
         self.regions: list[str] = []
         self.phdrs = False
+        self.twice = twice
 
     def chance(self, percent: int) -> bool:
         """Whether something happens that does so this often."""
@@ -244,7 +246,7 @@ class Writer:
     def section(self, body: str = "") -> str:
         """An output section."""
         name = self.random.choice(SECTIONS)
-        if name in self.names and self.chance(97):
+        if name in self.names and self.chance(100 - self.twice):
             name = f".s{len(self.names)}"
         head = self.head(name)
         text = f"{head} {{ {body or self.body()} }}{self.tail()}"
@@ -315,9 +317,9 @@ class Writer:
         return text
 
 
-def case(seed: int, collects: bool = False) -> Case:
-    """The case of a seed, with --gc-sections if it collects."""
-    writer = Writer(seed)
+def case(seed: int, collects: bool = False, twice: int = 3) -> Case:
+    """The case of a seed, with --gc-sections if it collects; `twice` is that of Writer."""
+    writer = Writer(seed, twice)
     random = writer.random
     count = random.choice([1, 2, 2, 3, 4, len(NAMES)])
     objects = random.sample(NAMES, count)

@@ -80,11 +80,15 @@ class CommonTest(BesideTest):
         self.assertEqual(read_image(self.read("own")).places(), read_image(self.read("gnu")).places())
 
     def test_a_build_goes_on(self) -> None:
-        """None of them ends a build."""
+        """None of them ends a build, or leaves a worse image than GNU ld's, also by a later call."""
         self.write("t.ld", PLAIN)
-        self.links("-T", "t.ld", "-o", "own", *self.blocks())
-        self.must("ld.bfd", "-T", "t.ld", "-o", "gnu", *self.blocks())
-        self.assertEqual(read_image(self.read("own")).symbols, read_image(self.read("gnu")).symbols)
+        blocks = self.blocks()
+        for words in (("-T", "t.ld"), ()):
+            self.must("ld.bfd", *words, "-o", "gnu", *blocks)
+            for links in (self.links, self.serves, self.serves):
+                done = links(*words, "-o", "own", *blocks)
+                self.assertLessEqual(len(done.stderr.splitlines()), 1 + done.stderr.count("warning: "), done.stderr)
+                self.assertEqual(read_image(self.read("own")).symbols, read_image(self.read("gnu")).symbols)
 
 
 class ScriptTest(BesideTest):
