@@ -1,0 +1,52 @@
+//! How long it takes to look at files, to read them, and to go over all that is in objects: `read_objects FILE..`
+
+use ldi_front::objects::{Object, Origin};
+use ldi_front::snapshot::{look, Snapshot};
+use std::path::PathBuf;
+use std::time::Instant;
+
+fn main() {
+    let paths: Vec<PathBuf> = std::env::args_os().skip(1).map(PathBuf::from).collect();
+    let mut best = [f64::MAX; 7];
+    let mut counts = [0; 4];
+    for _ in 0..5 {
+        let mut times = Vec::new();
+        let mut begun = Instant::now();
+        let mut lap = || {
+            times.push(begun.elapsed().as_secs_f64() * 1e3);
+            begun = Instant::now();
+        };
+        assert!(paths.iter().all(|path| look(path).is_ok()));
+        lap();
+        let mut snapshot = Snapshot::new();
+        let data: Vec<_> = paths.iter().map(|path| snapshot.read(path).unwrap_or_default()).collect();
+        lap();
+        let objects: Vec<Object> = data
+            .iter()
+            .zip(&paths)
+            .map(|(data, path)| Object::new(path.display().to_string().into(), Origin::of_file(path), data.clone()))
+            .collect();
+        lap();
+        counts = [data.iter().map(|data| data.len()).sum(), 0, 0, 0];
+        for object in &objects {
+            for section in object.sections() {
+                counts[1] += usize::from(!section.name.is_empty());
+                counts[3] += object.relocations(section.index).map(|one| one.kind as usize & 1 | 1).sum::<usize>();
+            }
+            counts[2] += object.symbols().filter(|symbol| symbol.name.len() < 1 << 20).count();
+        }
+        lap();
+        assert!(snapshot.changed().is_empty());
+        lap();
+        assert!(snapshot.changed().is_empty());
+        lap();
+        let mut next = snapshot.next();
+        assert!(paths.iter().all(|path| next.read(path).is_ok()));
+        lap();
+        best.iter_mut().zip(times).for_each(|(best, time)| *best = best.min(time));
+    }
+    let [bytes, sections, symbols, relocations] = counts;
+    println!("{} files, {bytes} bytes, {sections} sections, {symbols} symbols, {relocations} relocations", paths.len());
+    let names = ["stat of each", "read", "tables", "go over all", "first look", "later looks", "next snapshot"];
+    names.iter().zip(best).for_each(|(name, time)| println!("{name:>14} {time:8.2} ms"));
+}
