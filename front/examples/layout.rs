@@ -7,7 +7,7 @@
 //!
 //! An object is a path, or `ARCHIVE(MEMBER)=PATH`. `INNER:WORDS` times the layout (`--time N` evaluates N times).
 
-use ldi_front::layout::evaluation::{Gap, StatementKind};
+use ldi_front::layout::evaluation::{Base, Gap, StatementKind};
 use ldi_front::layout::settings::{GcSettings, OrphanHandling, SectionSort, SortCommon};
 use ldi_front::layout::{Evaluation, Layout, Settings, Stop};
 use ldi_front::objects::{Object, Origin};
@@ -201,7 +201,7 @@ fn print(found: &Evaluation, objects: &[Object], out: &mut dyn Write) -> io::Res
         }
     }
     for symbol in &found.symbols {
-        if let Some(value) = symbol.value {
+        if let Some(value) = symbol.value.filter(|value| value.base != Base::Nowhere) {
             writeln!(out, "symbol {} {:#x} {:?}", symbol.name, value.address, symbol.definer)?;
         }
     }

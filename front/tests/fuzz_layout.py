@@ -30,8 +30,8 @@ class Answer:
     stop: str = ""
     sections: list[list[str]] = field(default_factory=list)
     pieces: list[tuple[int, int, str, str]] = field(default_factory=list)
-    contents: list[tuple[int, bytes, bool]] = field(default_factory=list)
-    """Bytes at addresses; whether they are a gap without a fill."""
+    contents: list[tuple[str, int, int, bytes, bool]] = field(default_factory=list)
+    """Of a section by name and address the bytes at a distance; whether they are a gap without a fill."""
     symbols: dict[str, int] = field(default_factory=dict)
     script: set[str] = field(default_factory=set)
     entry: int = 0
@@ -64,25 +64,25 @@ def number(text: str) -> int:
 
 def read_answer(lines: list[str]) -> Answer:
     """An answer's lines as what they say."""
-    answer, start, has_bytes = Answer(), 0, False
+    answer, start, name, has_bytes = Answer(), 0, "", False
     for line in lines:
         word, *rest = line.split(" ")
         if word in ("refused", "unknown", "failed"):
             answer.stop = line
         elif word == "section":
             answer.sections.append(rest)
-            start, has_bytes = number(rest[1]), rest[7] == "1"
+            name, start, has_bytes = rest[0], number(rest[1]), rest[7] == "1"
         elif word == "input":
             answer.pieces.append((number(rest[0]), number(rest[1]), rest[2], rest[3]))
         elif word == "data" and has_bytes:
             size = number(rest[1])
             value = number(rest[2]) & (1 << 8 * size) - 1
-            answer.contents.append((start + number(rest[0]), value.to_bytes(size, "little"), False))
+            answer.contents.append((name, start, number(rest[0]), value.to_bytes(size, "little"), False))
         elif word == "gap" and has_bytes:
             size, fill = number(rest[1]), b"\0" if rest[2] == "-" else bytes.fromhex(rest[2])
             if size < 1 << 16:
                 data = (fill * (size // len(fill) + 1))[:size]
-                answer.contents.append((start + number(rest[0]), data, rest[2] == "-"))
+                answer.contents.append((name, start, number(rest[0]), data, rest[2] == "-"))
         elif word == "symbol":
             answer.symbols[rest[0]] = number(rest[1])
             if rest[2].startswith("Script"):
@@ -148,16 +148,16 @@ def differences(answer: Answer, gnu: Image, data: bytes, mapped: str) -> list[st
     for name, value in gnu.symbols.items():
         if name not in answer.symbols and name in answer.script:
             found.append(f"symbol {name}: {value:#x}")
-    for address, content, is_open in answer.contents:
+    for name, address, offset, content, is_open in answer.contents:
         for section in gnu.sections:
-            if section.data is not None and section.address <= address < section.address + section.size:
-                theirs_at = section.data[address - section.address:][:len(content)]
+            if section.data is not None and (section.name, section.address) == (name, address):
+                theirs_at = section.data[offset:][:len(content)]
                 if theirs_at != content and not (is_open and section.code and set(theirs_at) <= NOPS):
-                    found.append(f"bytes at {address:#x}: {content[:8].hex()}, GNU ld {theirs_at[:8].hex()}")
+                    found.append(f"bytes of {name} at {offset:#x}: {content[:8].hex()}, GNU ld {theirs_at[:8].hex()}")
     if answer.entry != gnu.entry:
         found.append(f"entry {answer.entry:#x}: {gnu.entry:#x}")
     count = int.from_bytes(data[56:58], "little")
-    if answer.headers not in (-1, count):
+    if 0 <= answer.headers < count:
         found.append(f"program headers {answer.headers}: {count}")
     return found
 
@@ -252,6 +252,7 @@ def main(words: list[str]) -> int:
     tally: Counter[str] = Counter()
     for seed in range(first, first + count):
         one = with_commons(seed) if "--commons" in given else case(seed, "--gc-sections" in given)
+        one.script = re.sub(r"^(  ASSERT.*\)); $", r"\1", one.script, flags=re.M)  # none there for GNU ld 2.40
         if "--orphans" in given:
             one = without_rest(one, seed)
         came, said = compare(program, one, [word for word in given if word in ("-N", "-n")])

@@ -52,7 +52,7 @@ pub struct Evaluation {
     pub regions: Vec<Region>,
     /// Where the program begins.
     pub entry: Entry,
-    /// How many program headers there are.
+    /// How many program headers SIZEOF_HEADERS counts; the image may have fewer.
     pub header_count: u64,
     /// Whether the script asks for SIZEOF_HEADERS.
     pub wants_headers: bool,

@@ -122,11 +122,7 @@ impl Link<'_> {
                         (None, Some(after)) => self.value(after).address,
                         (None, None) => step.dot,
                     },
-                    gap: (step.gap != 0).then(|| Gap {
-                        offset: step.gap_offset,
-                        size: step.gap,
-                        fill: step.fill.as_ref().map(|fill| fill.to_vec()),
-                    }),
+                    gap: self.gap_of(step),
                 }
             }
             StepKind::Assert { .. } => StatementKind::Assert,
@@ -140,6 +136,31 @@ impl Link<'_> {
             StepKind::CreateObjectSymbols | StepKind::Insert(..) | StepKind::Other => StatementKind::Other,
         };
         Statement { span: step.span, output: step.output, dot: step.dot, kind }
+    }
+
+    /// The gap of an assignment to `.`. Where an orphan follows that is aligned, GNU ld's statement of the gap is used for
+    /// that alignment once more, and nothing fills what it was for (ldlang.c, `insert_pad`).
+    fn gap_of(&self, step: &Step) -> Option<Gap> {
+        let end = step.gap_offset.wrapping_add(step.gap);
+        let is_before_orphans = || {
+            let body = &self.output(step.output?)?.body;
+            let (last, front) = body.split_last()?;
+            let (before, orphans) = (self.step(*front.last()?)?, self.step(*last)?);
+            let taking = match orphans.kind {
+                StepKind::Input(taking) => self.program.takings.get(taking)?,
+                _ => return None,
+            };
+            let is_this = before.span == step.span && before.gap_offset == step.gap_offset;
+            Some(is_this && taking.is_of_orphans && taking.gaps.first()?.offset == end)
+        };
+        (step.gap != 0).then(|| Gap {
+            offset: step.gap_offset,
+            size: step.gap,
+            fill: match is_before_orphans() {
+                Some(true) => Some(vec![0]),
+                _ => step.fill.as_ref().map(|fill| fill.to_vec()),
+            },
+        })
     }
 
     fn output_result(&self, output: &Output) -> OutputSection {

@@ -157,9 +157,7 @@ impl Link<'_> {
                 Some(StepKind::Assign { .. }) => {
                     self.segment.seen = RelroSeen::None;
                     dot = self.assign(id, Base::Absolute, dot)?;
-                    if let Some(region) = self.program.default_region.and_then(|region| self.region_mut(region)) {
-                        region.current = dot;
-                    }
+                    self.set_default_region(dot);
                     match self.segment.seen {
                         RelroSeen::Start if self.segment.start_at.is_none() => self.segment.start_at = Some(id),
                         RelroSeen::End if self.segment.end_at.is_none() => self.segment.end_at = Some(id),
@@ -169,11 +167,19 @@ impl Link<'_> {
                 }
                 Some(StepKind::Assert { condition, .. }) => {
                     self.fold_absolute(condition, dot)?;
+                    self.set_default_region(dot);
                 }
                 _ => {}
             }
         }
         Ok(())
+    }
+
+    /// `.` is where the default region goes on, after an assignment and an ASSERT alike.
+    fn set_default_region(&mut self, dot: u64) {
+        if let Some(region) = self.program.default_region.and_then(|region| self.region_mut(region)) {
+            region.current = dot;
+        }
     }
 
     // --- output sections ---
