@@ -1,4 +1,5 @@
-"""What stands outside the crates of the rules that are tables: the client's module, and the tables of the documents.
+"""What stands outside the crates of the rules that are tables: the modules of the client and of the front end, and the
+tables of the documents.
 
 The rows come from the crates (tools/rule_rows.py), words for people from tools/rules.toml. In a document a table stands
 between `<!-- rules: NAME -->` and `<!-- /rules -->`.
@@ -19,6 +20,7 @@ from rule_rows import Fault, Refusal
 ROOT = Path(__file__).resolve().parent.parent
 WORDS = "tools/rules.toml"
 CLIENT = "client/rules.py"
+FRONT = "front/src/report/rules.rs"
 LONGEST = 120
 NO_MEMORY = "NoMemory"
 
@@ -135,6 +137,106 @@ def client(rules: Rules) -> str:
     return "\n".join(lines)
 
 
+# The front end
+
+FRONT_TYPES = '''//! The rules of `ldi` that are tables. `tools/rules` writes this file: do not edit it.
+
+use Word::{Hex, Literal, Name, Number, Text};
+
+/// A type of relocations that `ldi` links (psABI for x86-64, 'Relocation Types').
+#[derive(Clone, Copy, PartialEq, Eq, Debug)]
+pub struct RelocationRule {
+    /// Its number.
+    pub number: u32,
+    /// Its name.
+    pub name: &'static str,
+    /// The bytes of its field.
+    pub width: u8,
+    /// The least and the greatest value that fits, where not every value does.
+    pub range: Option<(i64, i64)>,
+    /// Whether it counts from the place of its field.
+    pub is_pc_relative: bool,
+}
+
+type Range = Option<(i64, i64)>;
+
+const fn row(number: u32, name: &'static str, width: u8, range: Range, is_pc_relative: bool) -> RelocationRule {
+    RelocationRule { number, name, width, range, is_pc_relative }
+}
+
+/// What a word of a fault line is.
+#[derive(Clone, Copy, PartialEq, Eq, Debug)]
+pub enum Word {
+    /// A name, without a space.
+    Name,
+    /// A number in decimal.
+    Number,
+    /// A number of 16 hexadecimal digits.
+    Hex,
+    /// All that follows.
+    Text,
+    /// Itself.
+    Literal(&'static str),
+}
+
+/// A fault line: its number, its rule and its words.
+#[derive(Clone, Copy, PartialEq, Eq, Debug)]
+pub struct FaultForm {
+    /// `F1` to `F15`
+    pub code: &'static str,
+    /// The rule.
+    pub rule: FaultRule,
+    /// What follows the number.
+    pub words: &'static [Word],
+}
+'''
+
+
+def _texts(name: str, texts: dict[int, str], about: str) -> list[str]:
+    """A table of sentences of the front end's module."""
+    lines = [f"/// {about}", "#[rustfmt::skip]", f"pub const {name}: &[(u32, &str)] = &["]
+    for number, text in texts.items():
+        shown = json.dumps(text, ensure_ascii=False)[1:-1]
+        parts = [shown] if len(shown) < LONGEST - 16 else ["", *textwrap.wrap(shown, LONGEST - 14)]
+        lines.append(f'    ({number}, "' + " \\\n        ".join(parts).lstrip() + '"),')
+    return [*lines, "];", ""]
+
+
+def _words(kinds: tuple[str, ...]) -> str:
+    known = {"name": "Name", "number": "Number", "hex": "Hex", "text": "Text"}
+    return ", ".join(known.get(kind, f"Literal({json.dumps(kind)})") for kind in kinds)
+
+
+def front(rules: Rules) -> str:
+    """The front end's module."""
+    lines = [FRONT_TYPES, "/// The types of relocations.", "pub const RELOCATIONS: &[RelocationRule] = &["]
+    for row in rules.relocations:
+        limits = f"Some({row.range})" if row.range else "None"
+        relative = "true" if row.calculation.endswith("P") else "false"
+        lines.append(f'    row({row.number}, "{row.name}", {row.width}, {limits}, {relative}),')
+    lines += ["];", "", "/// The rules of fault lines.", "#[derive(Clone, Copy, PartialEq, Eq, Hash, Debug)]",
+              "pub enum FaultRule {"]
+    for fault in rules.faults:
+        lines += [f"    /// `{fault.head}`", f"    {fault.rule},"]
+    lines += ["}", "", "/// The fault lines.", "pub const FAULTS: &[FaultForm] = &["]
+    lines += [f'    FaultForm {{ code: "{code}", rule: FaultRule::{rule}, words: &[{_words(words)}] }},'
+              for rule, (code, words) in _forms(rules).items()]
+    lines += ["];", ""]
+    for row in rules.refusals["edit"]:
+        name = "_".join(re.findall("[A-Z][a-z]*", row.rule)).upper()
+        lines += [f"/// The refusal of an edit: {rules.words['edit'][row.rule]['meaning']}.",
+                  f"pub const {name}: u32 = {row.number};"]
+    lines += ["", *_texts("EDITS", _sentences(rules, "edit"), "A sentence for each refusal of an edit."),
+              *_texts("OBJECTS", _sentences(rules, "object"),
+                      "What docs/objects.md says of each number, for where `readobj` cannot be had."),
+              *_texts("SCRIPTS", _sentences(rules, "script"),
+                      "What docs/scripts.md says of each number, for where `readscript` cannot be had."),
+              "/// The words that scripts of the profile keep for themselves.", "#[rustfmt::skip]",
+              "pub const RESERVED: &[&str] = &["]
+    words = textwrap.wrap(" ".join(f'"{row.word}",' for row in rules.reserved), LONGEST - 4)
+    return "\n".join([*lines, *(f"    {line}" for line in words), "];", ""])
+
+
 # The documents
 
 def _table(head: list[str], rows: list[list[str]]) -> list[str]:
@@ -221,5 +323,6 @@ def heads(rules: Rules) -> Iterator[tuple[str, list[str], list[str]]]:
 def files(rules: Rules) -> Iterator[tuple[str, str]]:
     """Each file that is written, and what must stand in it."""
     yield CLIENT, client(rules)
+    yield FRONT, front(rules)
     for path in TABLES:
         yield path, with_tables(path, (ROOT / path).read_text(encoding="utf-8"), rules)

@@ -37,7 +37,7 @@ fn read(objects: &[Object]) -> (QuickMap<&[u8], Known>, HashSet<ObjectIndex>) {
         let owner = ObjectIndex(number as u32);
         for symbol in object.globals() {
             let (size, align) = (symbol.size, symbol.value.max(1));
-            let name = <&[u8]>::from(symbol.name);
+            let name: &[u8] = symbol.name;
             let new = match (symbol.rank(), known.get(name).copied()) {
                 (None, _) | (Some(Rank::Common), Some(Known::Strong)) => continue,
                 // A block of a size that is greater is the one that counts; the greatest alignment does in any case
@@ -129,7 +129,7 @@ fn sorted(mut blocks: Vec<(Vec<u8>, Block)>, sort: Option<SortCommon>) -> Vec<(V
 /// The names in the order of GNU ld's table of symbols, which depends on the order in which they were entered.
 fn table_order<'a>(link: &'a Link<'_>, objects: &'a [Object]) -> Vec<&'a [u8]> {
     let of_script = link.program.symbols.named().map(|name| name.as_slice());
-    let of_objects = objects.iter().flat_map(|object| object.globals()).map(|symbol| <&[u8]>::from(symbol.name));
+    let of_objects = objects.iter().flat_map(|object| object.globals()).map(|symbol| symbol.name.as_ref());
     let mut table = Table::default();
     let mut seen: HashSet<&[u8], std::hash::BuildHasherDefault<super::names::QuickHasher>> = HashSet::default();
     for name in of_script.chain(of_objects) {

@@ -67,6 +67,31 @@ impl Expr {
     pub fn new(kind: ExprKind, span: Span) -> Expr {
         Expr { kind, span }
     }
+
+    /// Shows the expression and all in it, each before its operands.
+    pub fn visit<'a>(&'a self, see: &mut dyn FnMut(&'a Expr)) {
+        see(self);
+        match &self.kind {
+            ExprKind::Number(_)
+            | ExprKind::Dot
+            | ExprKind::Symbol(_)
+            | ExprKind::Query(..)
+            | ExprKind::SizeofHeaders => {}
+            ExprKind::Unary(_, inner) | ExprKind::SegmentStart(_, inner) | ExprKind::Assert(inner, _) => {
+                inner.visit(see)
+            }
+            ExprKind::Binary(_, left, right) => {
+                left.visit(see);
+                right.visit(see);
+            }
+            ExprKind::Conditional(test, then, otherwise) => {
+                test.visit(see);
+                then.visit(see);
+                otherwise.visit(see);
+            }
+            ExprKind::Call(_, arguments) => arguments.iter().for_each(|argument| argument.visit(see)),
+        }
+    }
 }
 
 impl PartialEq for Expr {
