@@ -16,6 +16,7 @@ pub use words::{expand_words, split_words, Words};
 
 use bstr::BString;
 use indexmap::IndexMap;
+use std::collections::BTreeSet;
 use std::path::PathBuf;
 use thiserror::Error;
 
@@ -111,6 +112,21 @@ pub enum ServerRequest {
     Stop,
 }
 
+/// What GNU ld is to let pass, going on after a fault.
+#[derive(Clone, Copy, PartialEq, Eq, PartialOrd, Ord, Hash, Debug)]
+pub enum Leniency {
+    /// `--allow-multiple-definition`, `-z muldefs`: the first of several strong definitions of a name counts.
+    MultipleDefinitions,
+    /// `--unresolved-symbols` and its like, `-z undefs`: an undefined name that is used is 0.
+    UndefinedNames,
+    /// `--noinhibit-exec`: an image is made all the same.
+    NoInhibitExec,
+    /// `--no-check-sections`: output sections may share addresses.
+    NoCheckSections,
+    /// `-z noreloc-overflow`: a value may be longer than its field.
+    RelocationOverflow,
+}
+
 /// A `--defsym`, which is an assignment of a script.
 #[derive(Clone, PartialEq, Eq, Debug)]
 pub struct Defsym {
@@ -153,7 +169,7 @@ pub struct Command {
     pub prints_collected: bool,
     /// `--print-memory-usage`
     pub prints_memory_usage: bool,
-    /// `--orphan-handling`
+    /// `--orphan-handling`; there is no difference here between none, `place` and `warn`.
     pub orphans: Option<Orphans>,
     /// `--defsym`, in their order
     pub defsyms: Vec<Defsym>,
@@ -200,6 +216,8 @@ pub struct Command {
     pub is_without_server: bool,
     /// `--server-status` or `--server-stop`
     pub server_request: Option<ServerRequest>,
+    /// What GNU ld is to let pass.
+    pub lenient: BTreeSet<Leniency>,
     /// The inputs, in their order.
     pub inputs: Vec<Input>,
     /// Options without effect here, and what that means; each once.
@@ -248,6 +266,7 @@ impl Default for Command {
             is_without_fallback: false,
             is_without_server: false,
             server_request: None,
+            lenient: BTreeSet::new(),
             inputs: Vec::new(),
             notes: Vec::new(),
             impossible: Vec::new(),
@@ -259,6 +278,11 @@ impl Command {
     /// Whether the words name a file or a library.
     pub fn has_inputs(&self) -> bool {
         self.inputs.iter().any(|input| matches!(input, Input::File(..) | Input::Library(..)))
+    }
+
+    /// Whether the words name a script.
+    pub fn has_script(&self) -> bool {
+        !self.scripts.is_empty() || self.default_script.is_some()
     }
 
     /// Keeps a note, once.

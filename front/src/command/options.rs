@@ -2,7 +2,7 @@
 //!
 //! docs/makefiles.md has the same table for people.
 
-use super::{Ask, ServerRequest, WordsRefused};
+use super::{Ask, Leniency, ServerRequest, WordsRefused};
 use bstr::{BStr, BString, ByteSlice};
 
 /// Whether an option has a value.
@@ -47,6 +47,7 @@ pub enum Action {
     Init,
     KeepExported,
     Keyword,
+    Lenient(Leniency),
     Library,
     Machine,
     MapFile,
@@ -221,6 +222,12 @@ pub static OPTIONS: &[OptionRow] = &[
     row("t trace", Absent, Taken(Action::Trace)),
     row("print-output-format", Absent, Taken(Action::Ask(Ask::OutputFormat))),
     row("print-sysroot", Absent, Taken(Action::Ask(Ask::Sysroot))),
+    row("no-check-sections", Absent, Taken(Action::Lenient(Leniency::NoCheckSections))),
+    row("noinhibit-exec", Absent, Taken(Action::Lenient(Leniency::NoInhibitExec))),
+    row("allow-multiple-definition", Absent, Taken(Action::Lenient(Leniency::MultipleDefinitions))),
+    row("unresolved-symbols", Needed, Taken(Action::Lenient(Leniency::UndefinedNames))),
+    row("ignore-unresolved-symbol", Needed, Taken(Action::Lenient(Leniency::UndefinedNames))),
+    row("warn-unresolved-symbols", Absent, Taken(Action::Lenient(Leniency::UndefinedNames))),
     row("no-server", Absent, Taken(Action::NoServer)),
     row("no-fallback", Absent, Taken(Action::NoFallback)),
     row("server-status", Absent, Taken(Action::Server(ServerRequest::Status))),
@@ -342,12 +349,6 @@ pub static OPTIONS: &[OptionRow] = &[
     row("n nmagic", Absent, Said("segments lie in the file as their addresses modulo 4,096 ask")),
     row("cref", Absent, Said("the map has no cross references")),
     row("y trace-symbol", Needed, Said("nothing is traced")),
-    row("no-check-sections", Absent, Said("output sections that share addresses are errors")),
-    row("noinhibit-exec", Absent, Said("a link with faults makes no image")),
-    row("allow-multiple-definition", Absent, Said("two strong definitions of a name are an error")),
-    row("unresolved-symbols", Needed, Said("an undefined name that is used is an error")),
-    row("ignore-unresolved-symbol", Needed, Said("an undefined name that is used is an error")),
-    row("warn-unresolved-symbols", Absent, Said("an undefined name that is used is an error")),
     row("package-metadata", Optional, Said("the image has no note of a package")),
     row("version-script", Needed, Said("symbols have no versions, and none is hidden")),
     // of other linkers
@@ -380,6 +381,8 @@ static NO_WARNING: OptionRow = row("no-warn-", Absent, Ignored);
 pub enum KeywordEffect {
     /// It is taken: by the layout, or as a page's size.
     Taken,
+    /// GNU ld is to let something pass.
+    Lenient(Leniency),
     /// It changes nothing of a static image, or only headers that `ldi` never makes.
     Ignored,
     /// It has no effect here, and one line says what that means.
@@ -453,11 +456,12 @@ const KEYWORDS_IGNORED: &[&str] = &[
     "x86-64-v4",
 ];
 
-const KEYWORDS_SAID: &[(&str, &str)] = &[
-    ("muldefs", "two strong definitions of a name are an error"),
-    ("noreloc-overflow", "a value that does not fit its field is an error"),
-    ("nosectionheader", "the image has section headers"),
-    ("undefs", "an undefined name that is used is an error"),
+const KEYWORDS_SAID: &[(&str, &str)] = &[("nosectionheader", "the image has section headers")];
+
+const KEYWORDS_LENIENT: &[(&str, Leniency)] = &[
+    ("muldefs", Leniency::MultipleDefinitions),
+    ("noreloc-overflow", Leniency::RelocationOverflow),
+    ("undefs", Leniency::UndefinedNames),
 ];
 
 /// What becomes of a word of `-z`, without what stands after `=`; `None` where it is not known.
@@ -468,6 +472,8 @@ pub fn find_keyword(name: &[u8]) -> Option<KeywordEffect> {
     }
     let said = KEYWORDS_SAID.iter().find(|(word, _)| word.as_bytes() == name);
     let said = said.map(|(_, meaning)| KeywordEffect::Said(meaning));
+    let lenient = KEYWORDS_LENIENT.iter().find(|(word, _)| word.as_bytes() == name);
+    let said = said.or_else(|| lenient.map(|(_, leniency)| KeywordEffect::Lenient(*leniency)));
     said.or_else(|| is_here(KEYWORDS_IGNORED).then_some(KeywordEffect::Ignored))
 }
 

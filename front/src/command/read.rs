@@ -1,6 +1,6 @@
 //! The words of a command line, read into a `Command`.
 
-use super::options::{find_keyword, find_option, Action, Argument, Effect, KeywordEffect, OptionRow};
+use super::options::{dashed, find_keyword, find_option, Action, Argument, Effect, KeywordEffect, OptionRow};
 use super::{Command, Defsym, Format, Input, InputFlags, Orphans, OutputFormat, WordsRefused};
 use bstr::{BStr, BString, ByteSlice};
 use std::ffi::OsStr;
@@ -63,7 +63,8 @@ impl Reader {
             }
             None => None,
         };
-        found.rows.iter().try_for_each(|row| self.apply(row, value.as_ref().map(|value| value.as_bstr())))
+        let value = value.as_ref().map(|value| value.as_bstr());
+        found.rows.iter().try_for_each(|row| self.apply(row, &written(row, word), value))
     }
 
     fn finish(mut self) -> Result<Command, WordsRefused> {
@@ -82,12 +83,13 @@ impl Reader {
         Ok(command)
     }
 
-    fn apply(&mut self, row: &OptionRow, value: Option<&BStr>) -> Result<(), WordsRefused> {
+    /// Does what an option says; `written` is its name in the words.
+    fn apply(&mut self, row: &OptionRow, written: &str, value: Option<&BStr>) -> Result<(), WordsRefused> {
         match row.effect {
             Effect::Taken(action) => return self.take(action, value.unwrap_or_else(|| b"".as_bstr())),
             Effect::Ignored => {}
-            Effect::Said(meaning) => self.command.note(format!("{}: {meaning}", row.spelling())),
-            Effect::Impossible(reason) => self.impossible(format!("{}: {reason}", row.spelling())),
+            Effect::Said(meaning) => self.command.note(format!("{written}: {meaning}")),
+            Effect::Impossible(reason) => self.impossible(format!("{written}: {reason}")),
         }
         Ok(())
     }
@@ -113,6 +115,9 @@ impl Reader {
             Action::Init => command.init = value.to_owned(),
             Action::KeepExported => command.keeps_exported = true,
             Action::MapFile => command.map_file = Some(path_of(value)),
+            Action::Lenient(leniency) => {
+                command.lenient.insert(leniency);
+            }
             Action::NoBuildId => self.has_build_id = false,
             Action::NoFallback => command.is_without_fallback = true,
             Action::NoServer => command.is_without_server = true,
@@ -252,6 +257,9 @@ impl Reader {
         };
         match find_keyword(name) {
             Some(KeywordEffect::Taken) => return self.keyword_taken(text, name, value),
+            Some(KeywordEffect::Lenient(leniency)) => {
+                self.command.lenient.insert(leniency);
+            }
             Some(KeywordEffect::Ignored) => {}
             Some(KeywordEffect::Said(meaning)) => self.command.note(format!("-z {}: {meaning}", name.as_bstr())),
             None => self.command.note(format!("-z {text}: not known, without effect")),
@@ -268,6 +276,14 @@ impl Reader {
         }
         Ok(())
     }
+}
+
+/// An option by the name that a word has for it.
+fn written(row: &OptionRow, word: &BStr) -> String {
+    let text = word.split(|byte| *byte == b'=').next().unwrap_or_default();
+    let name = text.trim_start_with(|c| c == '-');
+    let own = row.names().find(|own| own.as_bytes() == name);
+    own.map_or_else(|| row.spelling(), dashed)
 }
 
 /// The bytes without white space at both ends.

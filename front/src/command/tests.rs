@@ -153,9 +153,33 @@ fn what_gcc_passes_by_itself_needs_no_other_linker() {
 
 #[test]
 fn options_without_effect_are_said_once() {
-    let command = read(&["-s", "-s", "-z", "muldefs", "-zodd", "-z", "odd"]);
+    let command = read(&["-s", "-s", "-z", "nosectionheader", "-zodd", "-z", "odd"]);
     assert_eq!(command.notes.len(), 3);
     assert!(read(&["-z", "max-page-size=4096"]).notes.is_empty());
+}
+
+#[test]
+fn an_option_is_spoken_of_by_the_name_that_the_words_have() {
+    assert_eq!(read(&["--strip-all"]).notes, ["--strip-all: the image keeps its table of global names"]);
+    assert_eq!(read(&["-relocatable"]).impossible, ["--relocatable: relocatable output"]);
+    assert_eq!(read(&["--reloc"]).impossible, ["-r: relocatable output"]);
+}
+
+#[test]
+fn what_gnu_ld_is_to_let_pass_is_kept() {
+    let words = ["-zmuldefs", "--unresolved-symbols=ignore-all", "--noinhibit-exec", "--no-check-sections"];
+    let command = read(&words);
+    let expected =
+        [Leniency::MultipleDefinitions, Leniency::UndefinedNames, Leniency::NoInhibitExec, Leniency::NoCheckSections];
+    assert!(command.lenient.iter().eq(&expected) && command.notes.is_empty());
+    assert!(read(&["-z", "noreloc-overflow"]).lenient.contains(&Leniency::RelocationOverflow));
+}
+
+#[test]
+fn orphans_are_kept_as_they_are_written() {
+    for (word, orphans) in [("place", Orphans::Place), ("warn", Orphans::Warn), ("error", Orphans::Error)] {
+        assert_eq!(read(&[&format!("--orphan-handling={word}")]).orphans, Some(orphans));
+    }
 }
 
 #[test]

@@ -109,6 +109,10 @@ impl<'a> Loader<'a> {
         if let Some(target) = scripts().find_map(|script| script.target.as_ref()) {
             return Err(InputFault::OfOtherLinkers(format!("TARGET({target}): another format")));
         }
+        let other = scripts().find_map(ScriptInputs::other_format).filter(|_| command.output_format.is_none());
+        if let Some(format) = other {
+            return Err(InputFault::OfOtherLinkers(format!("OUTPUT_FORMAT({format}): another format")));
+        }
         Ok(Loader {
             command,
             request: *request,

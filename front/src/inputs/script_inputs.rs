@@ -35,8 +35,8 @@ pub struct ScriptInputs {
     pub entry: Option<BString>,
     /// OUTPUT: the image's name where there is no `-o`; the last of them counts.
     pub output: Option<BString>,
-    /// OUTPUT_FORMAT
-    pub output_format: Option<OutputFormat>,
+    /// OUTPUT_FORMAT; of several formats the first one
+    pub output_format: Option<BString>,
     /// TARGET of another format than ELF-64
     pub target: Option<BString>,
     /// What is no INPUT, GROUP or SEARCH_DIR, and has an effect: what a script in the place of an object may not have.
@@ -56,6 +56,21 @@ impl ScriptInputs {
         self.startup.is_some() || !self.inputs.is_empty()
     }
 
+    /// The form of the image that it asks for: `None` where it does not say, or asks for another format
+    /// ([`ScriptInputs::other_format`]).
+    pub fn image_format(&self) -> Option<OutputFormat> {
+        match self.output_format.as_ref()?.as_bytes() {
+            b"binary" => Some(OutputFormat::Binary),
+            name if name.starts_with(ELF.as_bytes()) => Some(OutputFormat::Elf),
+            _ => None,
+        }
+    }
+
+    /// A format of the image that only another linker makes.
+    pub fn other_format(&self) -> Option<&BString> {
+        self.output_format.as_ref().filter(|_| self.image_format().is_none())
+    }
+
     fn take(&mut self, statement: &Statement) {
         let other = match statement {
             Statement::Input(files) => return self.inputs.push(ScriptInput::Files(nodes(files))),
@@ -71,13 +86,8 @@ impl ScriptInputs {
 
     /// The format of the image; says whether it is the one of objects.
     fn take_format(&mut self, names: &[BString]) -> bool {
-        let first = names.first().map(|name| name.as_bytes());
-        self.output_format = match first {
-            Some(b"binary") => Some(OutputFormat::Binary),
-            Some(name) if name == ELF.as_bytes() => Some(OutputFormat::Elf),
-            _ => None,
-        };
-        self.output_format == Some(OutputFormat::Elf)
+        self.output_format = names.first().cloned();
+        names.first().map_or(false, |name| name == ELF)
     }
 
     /// What a script in the place of an object may not have; gives its name.

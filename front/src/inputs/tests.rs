@@ -83,6 +83,11 @@ fn request<'a>(command: &'a Command, scripts: &'a [ScriptInputs]) -> Request<'a>
     Request { command, scripts, has_own_script: true, wanted: &[] }
 }
 
+/// What the text of a script says.
+fn script_inputs(text: &str) -> ScriptInputs {
+    ScriptInputs::of(&crate::script::parse(Path::new("t.ld"), text.as_bytes()).unwrap().script)
+}
+
 fn file(word: &str) -> InputFile {
     let name = word.strip_prefix("-l");
     InputFile { name: name.unwrap_or(word).into(), is_library: name.is_some(), is_as_needed: false }
@@ -444,8 +449,8 @@ fn a_file_of_a_statement_is_linked_once_at_the_first_place() {
     ["m.o", "vec.o", "near/far.o"].iter().for_each(|name| project.defines(name, "x"));
     let vec = project.words(&["vec.o"]).remove(0);
     let script = ScriptInputs { inputs: vec![of_statement(&vec.to_string())], ..ScriptInputs::default() };
-    assert_eq!(project.try_load(&["-Tt.ld", "m.o"], &[script.clone()]).unwrap(), ["vec.o", "m.o"]);
-    assert_eq!(project.try_load(&["-Tt.ld", "m.o", "vec.o"], &[script.clone()]).unwrap(), ["vec.o", "m.o"]);
+    assert_eq!(project.try_load(&["-Tt.ld", "m.o"], std::slice::from_ref(&script)).unwrap(), ["vec.o", "m.o"]);
+    assert_eq!(project.try_load(&["-Tt.ld", "m.o", "vec.o"], std::slice::from_ref(&script)).unwrap(), ["vec.o", "m.o"]);
     assert_eq!(project.try_load(&["m.o", "-Tt.ld"], &[script]).unwrap(), ["m.o", "vec.o"]);
 }
 
@@ -458,6 +463,42 @@ fn a_file_of_a_statement_in_another_folder_has_another_name() {
     let loaded = load(&request(&command, &script), &mut Snapshot::new(), None).unwrap();
     assert_eq!(loaded.objects[0].origin().path, project.0.join("near/far.o"));
     assert_eq!(loaded.renamed.get(bstr::B("far.o").as_bstr()).unwrap(), loaded.objects[0].name());
+}
+
+#[test]
+fn a_script_says_what_is_linked() {
+    let found = script_inputs(
+        "STARTUP(first.o) INPUT(a.o -lb AS_NEEDED(c.o)) GROUP(d.a) SEARCH_DIR(dir) EXTERN(x y) ENTRY(start) OUTPUT(image)
+         SECTIONS { ENTRY(inner) .text : { vec.o(.text) *(.text) lib.a:m.o(.x) [a-z].o(.y) KEEP(far.o(.data)) alone.o }
+         .data : { vec.o(.data) EXCLUDE_FILE(z.o) *(.z) } }",
+    );
+    let names = |files: &[InputFile]| -> Vec<String> { files.iter().map(|file| file.name.to_string()).collect() };
+    let inputs: Vec<_> = found
+        .inputs
+        .iter()
+        .map(|input| match input {
+            ScriptInput::Files(files) => names(files).join(" "),
+            ScriptInput::Group(files) => format!("({})", names(files).join(" ")),
+            ScriptInput::OfStatement(name) => format!("of {name}"),
+        })
+        .collect();
+    assert_eq!(inputs, ["a.o b c.o", "(d.a)", "of vec.o", "of far.o", "of alone.o", "of vec.o"]);
+    assert_eq!((found.startup, found.output), (Some("first.o".into()), Some("image".into())));
+    assert_eq!((found.entry, found.folders), (Some("inner".into()), vec!["dir".into()]));
+    assert_eq!(found.undefined, ["x", "y"]);
+}
+
+#[test]
+fn what_a_script_in_the_place_of_an_object_may_not_have_is_named() {
+    for (text, other) in [
+        ("INPUT(a.o) GROUP(b.a) SEARCH_DIR(c) OUTPUT_FORMAT(elf64-x86-64) OUTPUT_ARCH(i386:x86-64)", None),
+        ("x = 4;", Some("x")),
+        ("INPUT(a.o) EXTERN(b)", Some("EXTERN")),
+        ("OUTPUT_FORMAT(binary)", Some("OUTPUT_FORMAT")),
+        ("SECTIONS { .x : { *(.x) } }", Some("SECTIONS")),
+    ] {
+        assert_eq!(script_inputs(text).other.as_deref(), other, "{text}");
+    }
 }
 
 #[test]
@@ -489,10 +530,18 @@ fn search_dir_goes_after_the_folders_before_its_script() {
 
 #[test]
 fn another_target_is_another_linkers() {
-    let script = [ScriptInputs { target: Some("elf32-i386".into()), ..ScriptInputs::default() }];
-    let command = read_command(&["-Tt.ld".into()]).unwrap();
-    let fault = load(&request(&command, &script), &mut Snapshot::new(), None).unwrap_err();
-    assert_eq!(fault, InputFault::OfOtherLinkers("TARGET(elf32-i386): another format".into()));
+    let load_with = |words: &[&str], script: &str| {
+        let command = read_command(&words.iter().map(|word| BString::from(*word)).collect::<Vec<_>>()).unwrap();
+        let script = [script_inputs(script)];
+        load(&request(&command, &script), &mut Snapshot::new(), None).map(|loaded| loaded.objects.len())
+    };
+    let other = |text: &str| Err(InputFault::OfOtherLinkers(text.to_owned()));
+    assert_eq!(load_with(&["-Tt"], "TARGET(elf32-i386)"), other("TARGET(elf32-i386): another format"));
+    let pe = "OUTPUT_FORMAT(pei-x86-64)";
+    assert_eq!(load_with(&["-Tt"], pe), other("OUTPUT_FORMAT(pei-x86-64): another format"));
+    assert_eq!(load_with(&["-Tt", "--oformat=binary"], pe), Ok(0));
+    assert_eq!(load_with(&["-Tt"], "OUTPUT_FORMAT(binary)"), Ok(0));
+    assert_eq!(load_with(&["-Tt"], "TARGET(elf64-x86-64) OUTPUT_FORMAT(elf64-x86-64)"), Ok(0));
 }
 
 #[test]

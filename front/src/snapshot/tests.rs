@@ -77,7 +77,7 @@ fn a_folder_in_the_place_of_another_is_looked_into() {
     snapshot.read(&path).unwrap();
     assert!(snapshot.changed().is_empty());
     fs::rename(&inside, &beside).unwrap();
-    assert_eq!(snapshot.changed().files, [path.clone()]);
+    assert_eq!(snapshot.changed().files, std::slice::from_ref(&path));
     fs::create_dir_all(&inside).unwrap();
     fs::write(&path, "1").unwrap();
     assert_eq!(snapshot.changed().files, [path]);
