@@ -1,0 +1,259 @@
+//! Changes of a text by spans: all else stays byte for byte, and each line of the result knows where it came from.
+
+use std::collections::BTreeMap;
+
+use crate::script::tree::Span;
+
+/// A piece that is put before an offset.
+#[derive(Clone, Debug)]
+struct Insert {
+    /// Its place among those of one offset.
+    order: i32,
+    what: What,
+}
+
+#[derive(Clone, Debug)]
+enum What {
+    Text(Vec<u8>),
+    /// A stretch of the text with its own changes.
+    Moved(Span),
+}
+
+/// Changes over one text. A change inside another one that replaces its surroundings is dropped.
+#[derive(Debug, Default)]
+pub(super) struct Edits {
+    /// Spans and their new texts; `None` for what is moved elsewhere.
+    replaced: Vec<(Span, Option<Vec<u8>>)>,
+    inserted: BTreeMap<u32, Vec<Insert>>,
+}
+
+/// The text that was made, and for each of its lines an offset of the old text that it came from.
+#[derive(Clone, PartialEq, Eq, Debug)]
+pub(super) struct Rendered {
+    pub(super) text: Vec<u8>,
+    pub(super) origins: Vec<u32>,
+}
+
+impl Edits {
+    /// Another text in place of a span; comments and line ends of the span stay after it.
+    pub(super) fn replace(&mut self, text: &[u8], span: Span, new: impl Into<Vec<u8>>) {
+        let mut new = new.into();
+        let rest = kept(text.get(span.start as usize..span.end as usize).unwrap_or_default());
+        if !new.is_empty() && rest.starts_with(b"/") {
+            new.push(b' ');
+        }
+        new.extend(rest);
+        self.replaced.push((span, Some(new)));
+    }
+
+    /// Takes a span out, but for its comments and line ends.
+    pub(super) fn blank(&mut self, text: &[u8], span: Span) {
+        self.replace(text, span, Vec::new());
+    }
+
+    /// A text before an offset; those of one offset stand by `order`, then as they came.
+    pub(super) fn insert(&mut self, at: u32, order: i32, text: impl Into<Vec<u8>>) {
+        self.inserted.entry(at).or_default().push(Insert { order, what: What::Text(text.into()) });
+    }
+
+    /// A span with its own changes to another place; nothing stays where it was.
+    pub(super) fn move_to(&mut self, span: Span, at: u32, order: i32) {
+        self.inserted.entry(at).or_default().push(Insert { order, what: What::Moved(span) });
+        self.replaced.push((span, None));
+    }
+
+    /// The changed text.
+    pub(super) fn render(mut self, text: &[u8]) -> Rendered {
+        self.replaced.sort_by_key(|(span, _)| (span.start, std::cmp::Reverse(span.end)));
+        for inserts in self.inserted.values_mut() {
+            inserts.sort_by_key(|insert| insert.order);
+        }
+        let mut rendering = Rendering { edits: &self, old: text, text: Vec::with_capacity(text.len()), origins: vec![0] };
+        rendering.stretch(Span { start: 0, end: u32::try_from(text.len()).unwrap_or(u32::MAX) }, None);
+        Rendered { text: rendering.text, origins: rendering.origins }
+    }
+}
+
+/// What stays of a text that is taken out: its comments and its line ends.
+fn kept(text: &[u8]) -> Vec<u8> {
+    let mut rest = Vec::new();
+    let mut at = 0;
+    while let Some(byte) = text.get(at) {
+        let here = text.get(at..).unwrap_or_default();
+        if here.starts_with(b"/*") {
+            let length = memchr::memmem::find(here.get(2..).unwrap_or_default(), b"*/").map_or(here.len(), |end| end + 4);
+            rest.extend_from_slice(here.get(..length).unwrap_or_default());
+            at += length;
+            continue;
+        }
+        if *byte == b'\n' {
+            rest.push(b'\n');
+        }
+        at += 1;
+    }
+    rest
+}
+
+/// A text while it is made.
+struct Rendering<'a> {
+    edits: &'a Edits,
+    old: &'a [u8],
+    text: Vec<u8>,
+    origins: Vec<u32>,
+}
+
+impl Rendering<'_> {
+    /// A stretch of the old text with its changes; one that is moved here is not taken for moved away.
+    fn stretch(&mut self, whole: Span, moved: Option<Span>) {
+        let edits = self.edits;
+        let first = edits.replaced.partition_point(|(span, _)| span.start < whole.start);
+        let spans = edits.replaced.get(first..).unwrap_or_default().iter();
+        let inside = spans.take_while(|(span, _)| span.start <= whole.end);
+        let mut done = whole.start;
+        for (span, new) in inside {
+            if span.start < done || span.end > whole.end || Some(*span) == moved {
+                continue;
+            }
+            done = self.own(done, span.start, moved);
+            self.inserts(span.start, moved);
+            match new {
+                Some(new) => self.put(new, span.start, false),
+                None => {}
+            }
+            done = done.max(span.end);
+            if span.start == span.end {
+                continue;
+            }
+        }
+        self.own(done, whole.end, moved);
+        if moved.is_none() {
+            self.inserts(whole.end, moved);
+        }
+    }
+
+    /// The old text between two offsets, with what is inserted before the bytes of it; gives the second offset.
+    fn own(&mut self, from: u32, to: u32, moved: Option<Span>) -> u32 {
+        let places: Vec<u32> = match from < to {
+            true => self.edits.inserted.range(from..to).map(|(at, _)| *at).collect(),
+            false => Vec::new(),
+        };
+        let mut done = from;
+        for at in places {
+            let old = self.old;
+            self.put(old.get(done as usize..at as usize).unwrap_or_default(), done, true);
+            done = at;
+            self.inserts(at, moved);
+        }
+        let old = self.old;
+        self.put(old.get(done as usize..to as usize).unwrap_or_default(), done, true);
+        to.max(from)
+    }
+
+    fn inserts(&mut self, at: u32, moved: Option<Span>) {
+        if moved.map_or(false, |span| span.start == at || span.end == at) {
+            return;
+        }
+        let edits = self.edits;
+        for insert in edits.inserted.get(&at).map(Vec::as_slice).unwrap_or_default() {
+            match &insert.what {
+                What::Text(text) => self.put(text, at, false),
+                What::Moved(span) => {
+                    self.put(b" ", span.start, false);
+                    self.stretch(*span, Some(*span));
+                    self.put(b" ", span.end.saturating_sub(1), false);
+                }
+            }
+        }
+    }
+
+    /// Bytes that came from an offset, on from it if they are of the old text.
+    fn put(&mut self, bytes: &[u8], offset: u32, is_own: bool) {
+        if bytes.is_empty() {
+            return;
+        }
+        if self.text.last().map_or(true, |last| *last == b'\n') {
+            self.set_origin(offset);
+        }
+        let mut origin = offset;
+        for at in memchr::memchr_iter(b'\n', bytes) {
+            let after = at as u32 + 1;
+            origin = if is_own { offset + after } else { self.next_line(origin) };
+            self.origins.push(origin);
+        }
+        self.text.extend_from_slice(bytes);
+    }
+
+    /// Where the line that has no byte yet came from.
+    fn set_origin(&mut self, offset: u32) {
+        if let Some(last) = self.origins.last_mut() {
+            *last = offset;
+        }
+    }
+
+    /// The offset of the line after that of an offset.
+    fn next_line(&self, offset: u32) -> u32 {
+        let rest = self.old.get(offset as usize..).unwrap_or_default();
+        memchr::memchr(b'\n', rest).map_or(offset, |at| offset + at as u32 + 1)
+    }
+}
+
+#[cfg(test)]
+mod tests {
+    use super::*;
+
+    fn span(start: u32, end: u32) -> Span {
+        Span { start, end }
+    }
+
+    fn rendered(text: &str, change: impl FnOnce(&mut Edits)) -> (String, Vec<u32>) {
+        let mut edits = Edits::default();
+        change(&mut edits);
+        let done = edits.render(text.as_bytes());
+        (String::from_utf8(done.text).unwrap(), done.origins)
+    }
+
+    #[test]
+    fn what_is_not_changed_stays() {
+        assert_eq!(rendered("a\nb\n", |_| ()), ("a\nb\n".into(), vec![0, 2, 4]));
+    }
+
+    #[test]
+    fn comments_and_line_ends_stay() {
+        let text = "one(\n /* two */ three)\nfour";
+        let done = rendered(text, |edits| edits.blank(text.as_bytes(), span(0, 22)));
+        assert_eq!(done.0, "\n/* two */\nfour");
+        let done = rendered(text, |edits| edits.replace(text.as_bytes(), span(0, 22), "x"));
+        assert_eq!(done, ("x\n/* two */\nfour".into(), vec![0, 5, 23]));
+    }
+
+    #[test]
+    fn texts_are_inserted_in_their_order() {
+        let done = rendered("ab", |edits| {
+            edits.insert(1, 5, "3");
+            edits.insert(1, 0, "1");
+            edits.insert(1, 0, "2");
+            edits.insert(2, 0, "4");
+        });
+        assert_eq!(done.0, "a123b4");
+    }
+
+    #[test]
+    fn a_change_within_another_is_dropped() {
+        let done = rendered("abcdef", |edits| {
+            edits.replace(b"abcdef", span(1, 5), "X");
+            edits.replace(b"abcdef", span(2, 3), "Y");
+            edits.insert(3, 0, "Z");
+        });
+        assert_eq!(done.0, "aXf");
+    }
+
+    #[test]
+    fn a_stretch_moves_with_its_changes() {
+        let text = "first\nsecond\nthird";
+        let done = rendered(text, |edits| {
+            edits.move_to(span(13, 18), 0, 0);
+            edits.replace(text.as_bytes(), span(14, 15), "H");
+        });
+        assert_eq!(done, (" tHird first\nsecond\n".into(), vec![13, 6, 13]));
+    }
+}

@@ -1,0 +1,217 @@
+//! The local rules: an expression of GNU ld's language in an equal form of the profile.
+//!
+//! A rule says nothing of whether the form has the same value in its place; who uses it compares values.
+
+use bstr::{BString, ByteSlice};
+
+use super::expression::{binary, made, number, written};
+use crate::script::tree::{BinaryOperator, Expr, ExprKind, Function, Name, Query, UnaryOperator};
+
+/// What the rules ask of the place where an expression stands.
+pub(super) trait Around {
+    /// What the profile calls a symbol that is meant here; `None` for one that it cannot name here.
+    fn symbol(&self, name: &Name) -> Option<Name>;
+    /// What the profile calls an output section that is complete here; `None` for one that it cannot name here.
+    fn section(&self, name: &Name) -> Option<Name>;
+    /// The region's own name, for an alias.
+    fn region(&self, name: &Name) -> Name;
+    /// The value that GNU ld has for an expression; `None` where that is not known.
+    fn value(&self, e: &Expr) -> Option<u64>;
+}
+
+/// An expression of the profile, with why it was changed.
+#[derive(Clone, Debug, Default)]
+pub(super) struct Reasons {
+    /// What is said of the change, each once.
+    pub(super) said: Vec<String>,
+    /// The symbols of objects whose values are written as numbers.
+    pub(super) foreign: Vec<(Name, u64)>,
+    /// Whether a value that the layout decides is written as a number.
+    pub(super) is_numeric: bool,
+    /// Why there is no form at all: names that have no value here.
+    pub(super) missing: Vec<Name>,
+    /// The ASSERTs in it: their conditions and messages.
+    pub(super) assertions: Vec<(Expr, Name)>,
+}
+
+impl Reasons {
+    pub(super) fn say(&mut self, text: impl Into<String>) {
+        let text = text.into();
+        if !self.said.contains(&text) {
+            self.said.push(text);
+        }
+    }
+}
+
+/// An equal form of the profile. What has none is the number that GNU ld has for it.
+pub(super) fn translate(e: &Expr, around: &dyn Around, reasons: &mut Reasons) -> Expr {
+    let kind = match &e.kind {
+        ExprKind::Number(_) | ExprKind::Dot => return e.clone(),
+        ExprKind::Symbol(name) => match around.symbol(name) {
+            Some(own) if own == *name => return e.clone(),
+            Some(own) => ExprKind::Symbol(own),
+            None => return foreign(e, name, around, reasons),
+        },
+        ExprKind::Unary(UnaryOperator::Plus, inner) => {
+            reasons.say("no `+` stands before an operand");
+            return translate(inner, around, reasons);
+        }
+        ExprKind::Unary(operator, inner) => ExprKind::Unary(*operator, translated(inner, around, reasons)),
+        ExprKind::Binary(operator, left, right) => {
+            let (left, right) = (translate(left, around, reasons), translate(right, around, reasons));
+            return operation(*operator, left, right, reasons);
+        }
+        ExprKind::Conditional(test, yes, no) => match decided(test, around) {
+            Some(is_true) => {
+                reasons.say(format!("{} is decided", described(test)));
+                return translate(if is_true { yes } else { no }, around, reasons);
+            }
+            None => ExprKind::Conditional(
+                translated(test, around, reasons),
+                translated(yes, around, reasons),
+                translated(no, around, reasons),
+            ),
+        },
+        ExprKind::Call(function, arguments) => return call(e, *function, arguments, around, reasons),
+        ExprKind::Query(query, name) => return asked(e, *query, name, around, reasons),
+        ExprKind::SegmentStart(name, inner) => {
+            reasons.say(format!("SEGMENT_START of {name} is its value"));
+            return translate(inner, around, reasons);
+        }
+        ExprKind::SizeofHeaders => return numeric(e, "SIZEOF_HEADERS", around, reasons),
+        ExprKind::Assert(condition, message) => {
+            reasons.say("ASSERT is a statement and has no value");
+            reasons.assertions.push(((**condition).clone(), message.clone()));
+            return translate(condition, around, reasons);
+        }
+    };
+    Expr::new(kind, e.span)
+}
+
+fn translated(e: &Expr, around: &dyn Around, reasons: &mut Reasons) -> Box<Expr> {
+    Box::new(translate(e, around, reasons))
+}
+
+/// A condition of DEFINED alone, whose value is known.
+fn decided(test: &Expr, around: &dyn Around) -> Option<bool> {
+    match &test.kind {
+        ExprKind::Query(Query::Defined, _) => around.value(test).map(|value| value != 0),
+        ExprKind::Unary(UnaryOperator::Not, inner) => decided(inner, around).map(|is_true| !is_true),
+        _ => None,
+    }
+}
+
+fn described(test: &Expr) -> String {
+    match &test.kind {
+        ExprKind::Query(Query::Defined, name) => format!("DEFINED({name})"),
+        ExprKind::Unary(_, inner) => described(inner),
+        _ => "a condition".into(),
+    }
+}
+
+/// A symbol that the profile cannot name here: an object's, or one of the script that is assigned later.
+fn foreign(e: &Expr, name: &Name, around: &dyn Around, reasons: &mut Reasons) -> Expr {
+    match around.value(e) {
+        Some(value) => {
+            reasons.say(format!("{name} as its value"));
+            reasons.foreign.push((name.clone(), value));
+            reasons.is_numeric = true;
+            number(value)
+        }
+        None => {
+            reasons.missing.push(name.clone());
+            e.clone()
+        }
+    }
+}
+
+/// A value of GNU ld's that no form of the profile has.
+fn numeric(e: &Expr, what: &str, around: &dyn Around, reasons: &mut Reasons) -> Expr {
+    match around.value(e) {
+        Some(value) => {
+            reasons.say(format!("{what} is {}", written(value)));
+            reasons.is_numeric = true;
+            number(value)
+        }
+        None => {
+            reasons.missing.push(BString::from(what));
+            e.clone()
+        }
+    }
+}
+
+fn operation(operator: BinaryOperator, left: Expr, right: Expr, reasons: &mut Reasons) -> Expr {
+    if operator != BinaryOperator::Xor {
+        return made(ExprKind::Binary(operator, Box::new(left), Box::new(right)));
+    }
+    reasons.say("`a ^ b` is `(a | b) - (a & b)`");
+    let either = binary(BinaryOperator::Or, left.clone(), right.clone());
+    let both = made(ExprKind::Binary(BinaryOperator::And, Box::new(left), Box::new(right)));
+    made(ExprKind::Binary(BinaryOperator::Subtract, Box::new(either), Box::new(both)))
+}
+
+fn call(e: &Expr, function: Function, arguments: &[Expr], around: &dyn Around, reasons: &mut Reasons) -> Expr {
+    let mut own = || arguments.iter().map(|argument| translate(argument, around, reasons)).collect::<Vec<_>>();
+    match function {
+        Function::Align => made(ExprKind::Call(Function::Align, own())),
+        Function::Block | Function::Next => {
+            let own = own();
+            reasons.say("it is ALIGN");
+            made(ExprKind::Call(Function::Align, own))
+        }
+        Function::Absolute | Function::DataSegmentEnd => {
+            let inner = own().pop().unwrap_or_else(|| number(0));
+            reasons.say("numbers are never relative to a section");
+            inner
+        }
+        Function::Max | Function::Min => {
+            let own = own();
+            let (word, operator) = match function {
+                Function::Max => ("MAX", BinaryOperator::Greater),
+                _ => ("MIN", BinaryOperator::Less),
+            };
+            reasons.say(format!("{word} as `? :`"));
+            match own.as_slice() {
+                [left, right] => {
+                    let test = made(ExprKind::Binary(operator, Box::new(left.clone()), Box::new(right.clone())));
+                    let (left, right) = (Box::new(left.clone()), Box::new(right.clone()));
+                    made(ExprKind::Conditional(Box::new(test), left, right))
+                }
+                _ => e.clone(),
+            }
+        }
+        Function::DataSegmentAlign => numeric(e, "DATA_SEGMENT_ALIGN", around, reasons),
+        Function::DataSegmentRelroEnd => numeric(e, "DATA_SEGMENT_RELRO_END", around, reasons),
+        Function::Log2Ceil => numeric(e, "LOG2CEIL", around, reasons),
+    }
+}
+
+fn asked(e: &Expr, query: Query, name: &Name, around: &dyn Around, reasons: &mut Reasons) -> Expr {
+    match query {
+        Query::Addr | Query::Loadaddr | Query::Sizeof => match around.section(name) {
+            Some(own) => Expr::new(ExprKind::Query(query, own), e.span),
+            None => numeric(e, &text_of(query, name), around, reasons),
+        },
+        Query::Origin | Query::Length => Expr::new(ExprKind::Query(query, around.region(name)), e.span),
+        Query::Alignof | Query::Constant | Query::Defined => numeric(e, &text_of(query, name), around, reasons),
+    }
+}
+
+fn text_of(query: Query, name: &Name) -> String {
+    let word = match query {
+        Query::Addr => "ADDR",
+        Query::Alignof => "ALIGNOF",
+        Query::Constant => "CONSTANT",
+        Query::Defined => "DEFINED",
+        Query::Length => "LENGTH",
+        Query::Loadaddr => "LOADADDR",
+        Query::Origin => "ORIGIN",
+        Query::Sizeof => "SIZEOF",
+    };
+    format!("{word}({})", name.to_str_lossy())
+}
+
+/// The operator of an update, as `+=`, with the old value: the whole right side.
+pub(super) fn updated(target: Expr, operator: BinaryOperator, value: &Expr) -> Expr {
+    made(ExprKind::Binary(operator, Box::new(target), Box::new(value.clone())))
+}
