@@ -62,6 +62,12 @@ impl Edits {
         self.replaced.push((span, None));
     }
 
+    /// Whether a text that was written last has a name in it.
+    pub(super) fn mentions(&self, name: &[u8]) -> bool {
+        let texts = self.replaced.iter().rev().take(2).filter_map(|(_, text)| text.as_deref());
+        texts.into_iter().any(|text| memchr::memmem::find(text, name).is_some())
+    }
+
     /// The changed text.
     pub(super) fn render(mut self, text: &[u8]) -> Rendered {
         self.replaced.sort_by_key(|(span, _)| (span.start, std::cmp::Reverse(span.end)));

@@ -1,1 +1,99 @@
-//! A script of the profile, from the tree of a script and its layout.
+//! A script of GNU ld's language as one of the profile of `ldi` (docs/scripts.md).
+//!
+//! There is one mechanism. What the profile can say stays as it is written, or stands in an equal form by a local rule
+//! (`rules`). While the statements are gone over, the layout that `ldi` will make of what is written is followed, and
+//! compared with GNU ld's own (`layout`) at each place: where the two differ, the value that GNU ld finds is written, with
+//! an ASSERT of it where it is an object's. So a rule need not know where it holds.
+
+mod body;
+mod edits;
+mod expression;
+mod head;
+mod input;
+mod items;
+mod note;
+mod profile;
+mod rules;
+mod segments;
+mod top;
+mod versions;
+mod view;
+mod walk;
+
+use bstr::{BStr, BString};
+
+use crate::finish::WantedSegment;
+use crate::layout::Evaluation;
+use crate::script::source::{Place, Source};
+use crate::script::tree::{Name, Script};
+
+pub use note::{Note, NoteKind, Topic};
+
+/// The entry symbol of an image whose entry no name has.
+pub const NUMBER_ENTRY: &str = "ld.ldi.entry";
+
+/// A script that is to be written, and what is known for it.
+#[derive(Clone, Copy)]
+pub struct Request<'a> {
+    /// The script.
+    pub script: &'a Script,
+    /// Its text.
+    pub source: &'a Source,
+    /// What GNU ld makes of it; without it, only the rules are gone by.
+    pub evaluation: Option<&'a Evaluation>,
+    /// The names of the objects in the session, in the order of the link.
+    pub objects: &'a [&'a BStr],
+    /// Whether the caller links the files that the script names, and keeps what EXTERN names.
+    pub is_followed: bool,
+    /// `-e`: a symbol, or a number.
+    pub entry: Option<&'a BStr>,
+    /// Whether an entry is written where the script has none: GNU ld's is `start`, else the start of `.text`.
+    pub has_default_entry: bool,
+    /// Names of symbols and the objects that define them, for what is said.
+    pub defines: &'a dyn Fn(&BStr) -> bool,
+}
+
+/// A script of the profile.
+#[derive(Clone, Debug, Default)]
+pub struct Residual {
+    /// Its text.
+    pub text: Vec<u8>,
+    /// For each line of the text the file and line that it came from.
+    pub lines: Vec<Place>,
+    /// What became of the constructs, in the order of the text.
+    pub notes: Vec<Note>,
+    /// The symbols of objects whose values are written in it.
+    pub foreign: Vec<(Name, u64)>,
+    /// Whether values that move with an edit are written as numbers.
+    pub has_moving_values: bool,
+    /// The entry symbol, where the script cannot name it: it is an option of the session.
+    pub entry: Option<BString>,
+    /// Output sections that have another name in the image, and their own.
+    pub names: Vec<(BString, BString)>,
+    /// The program headers that PHDRS ask for.
+    pub segments: Option<Vec<WantedSegment>>,
+    /// Why these cannot be known.
+    pub segments_problem: Option<String>,
+    /// Whether OUTPUT_FORMAT asks for a flat image.
+    pub is_flat: bool,
+}
+
+impl Residual {
+    /// Whether something of the script is left.
+    pub fn is_left(&self) -> bool {
+        self.notes.iter().any(|note| note.kind == NoteKind::Left)
+    }
+
+    /// What has another meaning now.
+    pub fn changed(&self) -> impl Iterator<Item = &Note> {
+        self.notes.iter().filter(|note| note.kind == NoteKind::Changed)
+    }
+}
+
+/// Writes a script in the profile.
+pub fn residual(request: Request<'_>) -> Residual {
+    walk::Walk::new(request).run()
+}
+
+#[cfg(test)]
+mod tests;

@@ -1,0 +1,525 @@
+//! The statements of an output section.
+
+use bstr::ByteSlice;
+
+use super::expression::{binary, difference, has_dot_or_align, made, number, uses_dot, written};
+use super::head::{aligned, has_bytes, is_linked};
+use super::note::NoteKind;
+use super::rules::{translate, Reasons};
+use super::top::whole_value;
+use super::view::View;
+use super::walk::{At, Settled, Walk};
+use crate::layout::evaluation::{Gap, Placed, StatementKind};
+use crate::layout::ids::SectionId;
+use crate::script::tree::{
+    Assignment, AssignOperator, BinaryOperator, DataText, DataWidth, Expr, ExprKind, Function, InputStatement, Name,
+    OutputSection, SectionStatement, Span,
+};
+
+/// The bytes of gaps that are written as data, at most.
+const GREATEST_GAP: u64 = 1 << 16;
+
+/// The body of an output section while it is gone over.
+#[derive(Debug)]
+pub(super) struct Body<'a> {
+    place: Option<&'a Placed>,
+    name: Name,
+    /// Where the section begins.
+    start: u64,
+    /// Where the next statement begins, from there.
+    pub(super) at: u64,
+    /// Whether the file has bytes for the section.
+    pub(super) has_bytes: bool,
+    /// The symbol of its start, and whether it is written.
+    start_symbol: Option<(Name, bool)>,
+    /// The offset after the opening brace.
+    open: u32,
+    /// The fill that the profile has for all gaps.
+    fill: Vec<u8>,
+}
+
+impl<'a> Body<'a> {
+    pub(super) fn new(section: &OutputSection, place: Option<&'a Placed>, start: u64) -> Body<'a> {
+        Body {
+            place,
+            name: section.name.node.clone(),
+            start,
+            at: 0,
+            has_bytes: false,
+            start_symbol: None,
+            open: section.body.span.start + 1,
+            fill: Vec::new(),
+        }
+    }
+
+    /// The location counter.
+    fn dot(&self) -> u64 {
+        self.start.wrapping_add(self.at)
+    }
+}
+
+impl<'a> Walk<'a> {
+    /// All statements of a section.
+    pub(super) fn body(&mut self, section: &'a OutputSection, body: &mut Body<'a>) {
+        if let Some(fill) = &section.fill {
+            body.fill = self.fill_bytes(fill);
+            if body.fill.len() > 8 {
+                body.fill.clear();
+            }
+        }
+        for statement in &section.body.node {
+            self.section_statement(&statement.node, statement.span, body);
+        }
+        let close = section.body.span.end.saturating_sub(1);
+        self.rest(body, close);
+        if let Some(place) = body.place {
+            if place.size > body.at && !place.is_gone {
+                self.gap_to(body, place.size, None, close);
+            }
+        }
+    }
+
+    /// Input sections that no statement of the section takes: GNU ld puts orphans of its name there.
+    fn rest(&mut self, body: &mut Body<'a>, close: u32) {
+        let (evaluation, place) = match (self.request.evaluation, body.place) {
+            (Some(evaluation), Some(place)) => (evaluation, place),
+            _ => return,
+        };
+        let mut taken = std::collections::HashSet::new();
+        for id in evaluation.by_span.values().filter_map(|id| evaluation.statement(*id)) {
+            if let StatementKind::Input { sections, .. } = &id.kind {
+                if id.output.and_then(|output| evaluation.output(output)).map_or(false, |output| output.name == body.name)
+                {
+                    taken.extend(sections.iter().copied());
+                }
+            }
+        }
+        let rest: Vec<SectionId> = place.inputs.iter().copied().filter(|id| !taken.contains(id)).collect();
+        let linked: Vec<SectionId> =
+            rest.into_iter().filter(|id| evaluation.section(*id).map_or(false, is_linked)).collect();
+        if !linked.is_empty() {
+            let text = self.explicit(&linked, false, body);
+            self.edits.insert(close, 100, format!("{text} "));
+        }
+    }
+
+    fn section_statement(&mut self, statement: &'a SectionStatement, span: Span, body: &mut Body<'a>) {
+        match statement {
+            SectionStatement::Assign(assignment) if assignment.target.node == "." => {
+                self.dot_inside(assignment, span, body);
+            }
+            SectionStatement::Assign(assignment) => self.symbol_inside(assignment, span, body),
+            SectionStatement::Assert(assertion) => {
+                self.sync_inside(span, body, uses_dot(&assertion.condition));
+                self.dot = body.dot();
+                self.assertion(assertion, span);
+            }
+            SectionStatement::Input(node) => self.input_inside(node, span, body),
+            SectionStatement::Data(width, e) => self.data(*width, e, span, body),
+            SectionStatement::Text(text) => self.text_data(text, span, body),
+            SectionStatement::Fill(fill) => {
+                let what = self.quoted(fill.value.span);
+                self.edits.blank(self.text, span);
+                self.note(NoteKind::Rewritten, span.start, format!("FILL({what}): the bytes of the gaps are written"));
+            }
+            SectionStatement::CreateObjectSymbols => {
+                self.edits.blank(self.text, span);
+                self.note(NoteKind::Changed, span.start, "CREATE_OBJECT_SYMBOLS: no symbols of files are made");
+            }
+            SectionStatement::Constructors(_) => {
+                self.edits.blank(self.text, span);
+                self.note(NoteKind::Dropped, span.start, "CONSTRUCTORS: it has no effect on ELF");
+            }
+            SectionStatement::LinkerVersion => {
+                self.edits.blank(self.text, span);
+                self.note(NoteKind::Changed, span.start, "LINKER_VERSION: the version is not in the image");
+            }
+        }
+    }
+
+    // --- places ---
+
+    /// Lets `.` be what GNU ld has before a statement that uses it.
+    fn sync_inside(&mut self, span: Span, body: &mut Body<'a>, is_needed: bool) {
+        let wanted = match self.evaluated(span) {
+            Some(statement) if is_needed => statement.dot.wrapping_sub(body.start),
+            _ => return,
+        };
+        if wanted > body.at && wanted < 1 << 48 {
+            self.gap_to(body, wanted, None, span.start);
+        }
+    }
+
+    /// Moves on to a place before a statement: by `.`, or with the bytes of a fill that the section has not.
+    fn gap_to(&mut self, body: &mut Body<'a>, to: u64, gap: Option<&Gap>, at: u32) {
+        let text = self.gap_text(body, to, gap);
+        self.edits.insert(at, 20, format!("{text} "));
+    }
+
+    /// The text that moves on to a place.
+    fn gap_text(&mut self, body: &mut Body<'a>, to: u64, gap: Option<&Gap>) -> String {
+        let size = to.wrapping_sub(body.at);
+        let fill = gap.and_then(|gap| gap.fill.as_deref()).unwrap_or_default();
+        body.at = to;
+        self.result.has_moving_values = true;
+        match needs_bytes(fill, &body.fill, size) {
+            true if size <= GREATEST_GAP => {
+                body.has_bytes = true;
+                data_of(&filled(fill, size))
+            }
+            _ => format!(". = {};", written(to)),
+        }
+    }
+
+    // --- input sections ---
+
+    fn input_inside(&mut self, node: &'a InputStatement, span: Span, body: &mut Body<'a>) {
+        let (sections, gaps) = self.taken(span);
+        let is_fine = self.input(node, span, &sections);
+        let evaluation = match self.request.evaluation {
+            Some(evaluation) => evaluation,
+            None => return,
+        };
+        let places: Vec<_> = sections.iter().filter_map(|id| evaluation.section(*id)).collect();
+        let mut end = body.at;
+        let mut is_regular = true;
+        for (index, one) in places.iter().enumerate() {
+            let next = aligned(end, one.own_align);
+            let is_first = index == 0 && one.offset > end && one.offset == aligned(one.offset, one.own_align);
+            is_regular &= one.offset == next || is_first;
+            is_regular &= !gaps.iter().any(|gap| {
+                gap.offset >= end && gap.offset < one.offset
+                    && needs_bytes(gap.fill.as_deref().unwrap_or_default(), &body.fill, gap.size)
+            });
+            end = one.offset.wrapping_add(one.size);
+        }
+        if !is_fine || !is_regular {
+            let text = self.explicit_with(&sections, &gaps, node.is_kept, body);
+            return self.edits.replace(self.text, span, text);
+        }
+        if let Some(first) = places.first() {
+            if first.offset != aligned(body.at, first.own_align) && first.offset > body.at {
+                self.gap_to(body, first.offset, None, span.start);
+            }
+        }
+        body.at = end;
+        body.has_bytes |= places.iter().any(|one| one.size > 0 && has_bytes(one));
+    }
+
+    /// The input sections that a statement takes and `ldi` links, and what is between them.
+    fn taken(&self, span: Span) -> (Vec<SectionId>, &'a [Gap]) {
+        let (evaluation, statement) = match (self.request.evaluation, self.evaluated(span)) {
+            (Some(evaluation), Some(statement)) => (evaluation, statement),
+            _ => return (Vec::new(), &[]),
+        };
+        match &statement.kind {
+            StatementKind::Input { sections, gaps } => {
+                let linked = |id: &SectionId| evaluation.section(*id).map_or(false, is_linked);
+                (sections.iter().copied().filter(linked).collect(), gaps)
+            }
+            _ => (Vec::new(), &[]),
+        }
+    }
+
+    fn explicit(&mut self, sections: &[SectionId], is_kept: bool, body: &mut Body<'a>) -> String {
+        self.explicit_with(sections, &[], is_kept, body)
+    }
+
+    /// Statements that take these input sections one by one, each at its place.
+    fn explicit_with(&mut self, sections: &[SectionId], gaps: &[Gap], is_kept: bool, body: &mut Body<'a>) -> String {
+        let evaluation = match self.request.evaluation {
+            Some(evaluation) => evaluation,
+            None => return String::new(),
+        };
+        let mut text = Vec::new();
+        let mut before = None;
+        for one in sections.iter().filter_map(|id| evaluation.section(*id)) {
+            if one.offset != aligned(body.at, one.own_align) || gaps.iter().any(|gap| gap.offset == body.at) {
+                let gap = gaps.iter().find(|gap| gap.offset == body.at);
+                let is_plain = one.offset == aligned(body.at, one.own_align)
+                    && !needs_bytes(gap.and_then(|gap| gap.fill.as_deref()).unwrap_or_default(), &body.fill, 1);
+                if one.offset > body.at && !is_plain {
+                    text.push(self.gap_text(body, one.offset, gap));
+                }
+            }
+            let object = self.request.objects.get(one.object.index()).copied().unwrap_or_default();
+            let name = evaluation.section_name(one);
+            let key = (one.object, one.name);
+            if before != Some(key) {
+                match (super::profile::word_of_name(object), super::profile::word_of_name(name)) {
+                    (Some(object), Some(name)) => {
+                        let own = format!("{}({})", object.to_str_lossy(), name.to_str_lossy());
+                        text.push(if is_kept { format!("KEEP({own})") } else { own });
+                    }
+                    _ => self.note(NoteKind::Changed, body.open, format!("{name} of {object} cannot be named")),
+                }
+            }
+            before = Some(key);
+            body.at = one.offset.wrapping_add(one.size);
+            body.has_bytes |= one.size > 0 && has_bytes(one);
+        }
+        text.join(" ")
+    }
+
+    // --- symbols ---
+
+    fn symbol_inside(&mut self, assignment: &Assignment, span: Span, body: &mut Body<'a>) {
+        let e = whole_value(assignment);
+        self.sync_inside(span, body, uses_dot(&e));
+        let at = At { at: span.start, is_assert: false, dot: Some(body.dot()) };
+        let start = self.start_symbol(body);
+        self.symbol(assignment, &e, span, at, &mut |walk, own| walk.from_start(own, &start, &body.name));
+        self.write_start(body);
+    }
+
+    /// Other forms of an expression in an output section: numbers count from its start there.
+    fn from_start(&mut self, own: &Expr, start: &Expr, name: &Name) -> Vec<(Expr, String)> {
+        let why = format!("a number counts from the start of {name} in it");
+        let distance = format!("it works on the distance from the start of {name}");
+        let own_distance = difference(own.clone(), start.clone());
+        let mut forms = vec![
+            (binary(BinaryOperator::Add, own.clone(), start.clone()), why),
+            (own_distance, distance.clone()),
+        ];
+        let inner = on_distances(own, start);
+        forms.push((binary(BinaryOperator::Add, inner.clone(), start.clone()), distance.clone()));
+        forms.push((inner, distance));
+        forms
+    }
+
+    /// The symbol of a section's start; it is written where it is used.
+    fn start_symbol(&mut self, body: &mut Body<'a>) -> Expr {
+        let name = match &body.start_symbol {
+            Some((name, _)) => name.clone(),
+            None => {
+                let plain = body.name.to_str_lossy().trim_start_matches('.').to_owned();
+                let wish = format!("ldi.start.{plain}");
+                let wish = if super::profile::is_name(wish.as_bytes()) { wish } else { "ldi.start".into() };
+                let name = self.versions.fresh(&wish);
+                body.start_symbol = Some((name.clone(), false));
+                name
+            }
+        };
+        self.symbols.insert(name.clone(), body.start);
+        made(ExprKind::Symbol(name))
+    }
+
+    /// Writes the symbol of the start, once something that was written names it.
+    fn write_start(&mut self, body: &mut Body<'a>) {
+        if let Some((name, is_written)) = &mut body.start_symbol {
+            if !*is_written && self.edits.mentions(name) {
+                *is_written = true;
+                self.edits.insert(body.open, -1, format!(" {name} = .;"));
+            }
+        }
+    }
+
+    // --- the location counter ---
+
+    fn dot_inside(&mut self, assignment: &Assignment, span: Span, body: &mut Body<'a>) {
+        let e = whole_value(assignment);
+        let (after, gap) = match self.evaluated(span).map(|statement| &statement.kind) {
+            Some(StatementKind::Dot { after, gap }) => (Some(*after), gap.as_ref()),
+            _ => (None, None),
+        };
+        self.sync_inside(span, body, true);
+        let to = after.map(|after| after.wrapping_sub(body.start));
+        if let (Some(to), Some(gap)) = (to, gap) {
+            let fill = gap.fill.as_deref().unwrap_or_default();
+            if needs_bytes(fill, &body.fill, gap.size) && gap.size <= GREATEST_GAP {
+                let text = self.gap_text(body, to, Some(gap));
+                return self.edits.replace(self.text, span, text);
+            }
+        }
+        let at = At { at: span.start, is_assert: false, dot: Some(body.dot()) };
+        let start = self.start_symbol(body);
+        match self.dot_form(&e, at, body, to, &start) {
+            Some((text, mut settled)) => self.put_dot(assignment, span, &text, &mut settled),
+            None => self.edits.blank(self.text, span),
+        }
+        self.write_start(body);
+        if let Some(to) = to {
+            body.at = to.max(body.at);
+        }
+    }
+
+    /// The form of an assignment to `.` in an output section; `None` where it does not move.
+    fn dot_form(
+        &mut self,
+        e: &Expr,
+        at: At,
+        body: &Body<'a>,
+        to: Option<u64>,
+        start: &Expr,
+    ) -> Option<(String, Settled)> {
+        let mut reasons = Reasons::default();
+        let own = translate(e, &View { walk: self, at }, &mut reasons);
+        self.hoist_of(&mut reasons, at);
+        let lands = |walk: &Walk<'a>, value: Option<u64>| to.map_or(value.is_some() || walk.request.evaluation.is_none(), |to| value == Some(to));
+        if let Some(step) = added(&own) {
+            let value = self.value_of(&step, at).map(|step| body.at.wrapping_add(step));
+            if lands(self, value) {
+                let text = format!(". += {};", self.written(&step));
+                return Some((text, Settled { e: step, reasons }));
+            }
+        }
+        if let ExprKind::Call(Function::Align, arguments) = &own.kind {
+            if let [align] = arguments.as_slice() {
+                let value = self.value_of(&own, at).map(|value| value.wrapping_sub(body.start));
+                if !uses_dot(align) && lands(self, value) {
+                    return Some((format!(". = {};", self.written(&own)), Settled { e: own, reasons }));
+                }
+            }
+        }
+        if !has_dot_or_align(&own) {
+            let distance = difference(own.clone(), start.clone());
+            let why = format!("`. = e` counts from the start of {}", body.name);
+            for (form, why) in [(own, None), (distance, Some(why))] {
+                if lands(self, self.value_of(&form, at)) {
+                    reasons.said.extend(why);
+                    return Some((format!(". = {};", self.written(&form)), Settled { e: form, reasons }));
+                }
+            }
+        }
+        let to = to.filter(|to| *to != body.at)?;
+        let mut reasons = Reasons { is_numeric: true, ..Reasons::default() };
+        reasons.say("as the place that GNU ld finds, from the section's start");
+        Some((format!(". = {};", written(to)), Settled { e: number(to), reasons }))
+    }
+
+    fn hoist_of(&mut self, reasons: &mut Reasons, at: At) {
+        let mut settled = Settled { e: number(0), reasons: std::mem::take(reasons) };
+        self.hoist(&mut settled, Span { start: at.at, end: at.at }, at);
+        *reasons = settled.reasons;
+    }
+
+    /// Writes an assignment to `.`, where it is another.
+    fn put_dot(&mut self, assignment: &Assignment, span: Span, text: &str, settled: &mut Settled) {
+        let own = self.squeezed(span.start, span.end);
+        let new = super::walk::squeezed(text.as_bytes());
+        let says_so = own == new && super::expression::says(self.slice(assignment.value.span), &settled.e, self.text);
+        let step = new.strip_prefix(b".+=").map(|step| [b".=.+", step].concat());
+        let adds = assignment.operator == AssignOperator::Set && step.map_or(false, |step| own == step);
+        if !says_so && !adds {
+            if settled.reasons.said.is_empty() {
+                settled.reasons.say(format!("as {text}"));
+            }
+            self.edits.replace(self.text, span, text);
+        }
+        self.report(span, settled);
+    }
+
+    // --- data ---
+
+    fn data(&mut self, width: DataWidth, e: &Expr, span: Span, body: &mut Body<'a>) {
+        let (size, word) = match width {
+            DataWidth::Byte => (1, "BYTE"),
+            DataWidth::Short => (2, "SHORT"),
+            DataWidth::Long => (4, "LONG"),
+            DataWidth::Quad | DataWidth::SignedQuad => (8, "QUAD"),
+        };
+        let needed = match self.evaluated(span).map(|statement| &statement.kind) {
+            Some(StatementKind::Data { value, offset, .. }) => {
+                let (value, offset) = (*value, *offset);
+                if offset > body.at {
+                    self.gap_to(body, offset, None, span.start);
+                }
+                Some(value)
+            }
+            _ => None,
+        };
+        let at = At { at: span.start, is_assert: false, dot: Some(body.dot()) };
+        let start = self.start_symbol(body);
+        let mut settled = self.settle(e, at, needed, &mut |walk, own| walk.from_start(own, &start, &body.name));
+        if width == DataWidth::SignedQuad {
+            let new = format!("{word}({})", self.written(&settled.e));
+            self.edits.replace(self.text, span, new);
+            settled.reasons.say("SQUAD is QUAD");
+        } else {
+            self.write_over(e, &mut settled);
+        }
+        self.report(span, &settled);
+        self.write_start(body);
+        body.at += size;
+        body.has_bytes = true;
+    }
+
+    fn text_data(&mut self, text: &DataText, span: Span, body: &mut Body<'a>) {
+        let bytes: Vec<u8> = match text {
+            DataText::ZeroTerminated(text) => text.iter().copied().chain([0]).collect(),
+            DataText::Sized(size, text) => {
+                let at = At { at: span.start, is_assert: false, dot: None };
+                let size = self.gnu_value(size).or_else(|| self.value_of(size, at)).unwrap_or(0).min(GREATEST_GAP);
+                text.iter().copied().chain(std::iter::repeat(0)).take(size as usize).collect()
+            }
+        };
+        let words: Vec<String> = bytes.iter().map(|byte| format!("BYTE({byte})")).collect();
+        self.edits.replace(self.text, span, words.join(" "));
+        self.note(NoteKind::Rewritten, span.start, format!("a text as {} BYTEs", bytes.len()));
+        body.at += bytes.len() as u64;
+        body.has_bytes = true;
+    }
+}
+
+/// n, where an expression is `. + n`, `n + .` or `. + a + b`.
+fn added(e: &Expr) -> Option<Expr> {
+    let (operator, left, right) = match &e.kind {
+        ExprKind::Dot => return None,
+        ExprKind::Binary(operator, left, right) => (*operator, left, right),
+        _ => return None,
+    };
+    let is_dot = |e: &Expr| e.kind == ExprKind::Dot;
+    match operator {
+        BinaryOperator::Add if is_dot(left) && !uses_dot(right) => Some((**right).clone()),
+        BinaryOperator::Add if is_dot(right) && !uses_dot(left) => Some((**left).clone()),
+        BinaryOperator::Add | BinaryOperator::Subtract if !uses_dot(right) => {
+            Some(binary(operator, added(left)?, (**right).clone()))
+        }
+        _ => None,
+    }
+}
+
+/// An expression in which each symbol and `.` is its distance from a place.
+fn on_distances(e: &Expr, start: &Expr) -> Expr {
+    let again = |e: &Expr| Box::new(on_distances(e, start));
+    let kind = match &e.kind {
+        ExprKind::Dot | ExprKind::Symbol(_) | ExprKind::Query(..) => return difference(e.clone(), start.clone()),
+        ExprKind::Unary(operator, inner) => ExprKind::Unary(*operator, again(inner)),
+        ExprKind::Binary(operator, left, right) => ExprKind::Binary(*operator, again(left), again(right)),
+        ExprKind::Conditional(test, yes, no) => ExprKind::Conditional(again(test), again(yes), again(no)),
+        ExprKind::Call(Function::Align, arguments) => match arguments.as_slice() {
+            [align] => {
+                let dot = difference(made(ExprKind::Dot), start.clone());
+                ExprKind::Call(Function::Align, vec![dot, on_distances(align, start)])
+            }
+            arguments => ExprKind::Call(Function::Align, arguments.iter().map(|e| on_distances(e, start)).collect()),
+        },
+        _ => return e.clone(),
+    };
+    made(kind)
+}
+
+/// Whether a gap has other bytes than the profile gives it.
+fn needs_bytes(fill: &[u8], own: &[u8], size: u64) -> bool {
+    if size == 0 || fill.iter().all(|byte| *byte == 0) && own.iter().all(|byte| *byte == 0) {
+        return false;
+    }
+    !fill.is_empty() && fill != own
+}
+
+/// The bytes of a gap: the fill from its front, again and again.
+fn filled(fill: &[u8], size: u64) -> Vec<u8> {
+    fill.iter().copied().cycle().take(size as usize).collect()
+}
+
+/// Data commands for bytes.
+fn data_of(bytes: &[u8]) -> String {
+    let mut words = Vec::new();
+    let mut chunks = bytes.chunks_exact(8);
+    for chunk in &mut chunks {
+        let digits: String = chunk.iter().rev().map(|byte| format!("{byte:02x}")).collect();
+        words.push(format!("QUAD(0x{digits})"));
+    }
+    words.extend(chunks.remainder().iter().map(|byte| format!("BYTE({byte:#x})")));
+    words.join(" ")
+}

@@ -1,0 +1,553 @@
+//! Output sections: their heads and tails, their places and load addresses.
+
+use bstr::ByteSlice;
+use object::elf;
+
+use super::body::Body;
+use super::expression::{binary, children, difference, made, number, says, uses_dot};
+use super::note::{NoteKind, Topic};
+use super::profile::is_name;
+use super::rules::Reasons;
+use super::top::whole_value;
+use super::walk::{At, Done, Memory, Settled, Walk};
+use crate::layout::evaluation::{InputSection, Placed};
+use crate::layout::Flags;
+use crate::script::tree::{
+    BinaryOperator, Expr, ExprKind, Fill, Function, Name, OutputSection, Query, SectionStatement, SectionType, Span,
+};
+
+/// The page of which no load address is asked more: up to here an alignment of the head says it.
+const DEFAULT_REGION: &str = "*default*";
+
+/// The parts of a head and a tail as they are written.
+#[derive(Debug, Default)]
+struct Written {
+    address: Option<String>,
+    load: Option<String>,
+    align: Option<String>,
+    region: Option<Name>,
+    load_region: Option<Name>,
+    /// Where the section begins.
+    start: u64,
+    /// What it is aligned to, as the profile has it.
+    alignment: u64,
+    /// Its load address.
+    load_at: u64,
+}
+
+impl<'a> Walk<'a> {
+    /// An output section.
+    pub(super) fn output_section(&mut self, section: &'a OutputSection, span: Span) {
+        if section.name.node == "/DISCARD/" {
+            return self.discard(section, span);
+        }
+        let output = self.request.evaluation.and_then(|evaluation| evaluation.output_at(span));
+        let place = output.and_then(|output| output.place.as_ref());
+        if self.request.evaluation.is_some() && !self.stays(section, place) {
+            return self.left_out(section, place, span);
+        }
+        let emitted = self.name_section(section, span);
+        self.said_of_head(section, place, span);
+        if section.address.as_ref().map_or(section.region.is_none(), uses_dot) {
+            self.sync_dot_at(span);
+        }
+        let mut head = self.written_head(section, place, span);
+        let mut body = Body::new(section, place, head.start);
+        self.body(section, &mut body);
+        let size = place.map_or(body.at, |place| place.size.max(body.at));
+        self.put_head(section, &emitted, &head, span);
+        self.put_tail(section, &head, span);
+        head.load_at = self.loaded(&head, size, body.has_bytes);
+        let done = Done { name: emitted, address: head.start, load: head.load_at, size };
+        self.done.entry(section.name.node.clone()).or_insert(done);
+        self.dot = head.start.wrapping_add(size);
+    }
+
+    /// What a section does to the regions and distances; gives its load address.
+    fn loaded(&mut self, head: &Written, size: u64, has_bytes: bool) -> u64 {
+        let distance = head.start.wrapping_sub(head.load_at);
+        self.distances.insert(head.region.clone(), distance);
+        if let Some(region) = head.region.as_ref().and_then(|name| self.regions.get_mut(name)) {
+            region.next = head.start.wrapping_add(size);
+        }
+        if let Some(region) = head.load_region.as_ref().and_then(|name| self.regions.get_mut(name)) {
+            region.next = head.load_at.wrapping_add(if has_bytes { size } else { 0 });
+        }
+        head.load_at
+    }
+
+    /// Whether a section stays in the text: GNU ld makes it of what is loaded, or it does no harm.
+    fn stays(&self, section: &OutputSection, place: Option<&Placed>) -> bool {
+        match place {
+            Some(place) if !place.is_gone => place.is_allocated(),
+            _ if section.constraint.is_some() && place.is_none() => false,
+            _ => {
+                let moves = section.address.is_some() || section.align.is_some() || section.load_address.is_some();
+                let takes_more = section.body.node.iter().any(|statement| match &statement.node {
+                    SectionStatement::Input(_) => false,
+                    SectionStatement::Assign(assignment) => assignment.target.node == ".",
+                    _ => true,
+                });
+                let is_of_nothing = place.map_or(true, |place| place.inputs.is_empty());
+                !(is_of_nothing && (moves || takes_more)) && !takes_unloaded(section)
+            }
+        }
+    }
+
+    /// A section that is not made: its assignments stay.
+    fn left_out(&mut self, section: &'a OutputSection, place: Option<&Placed>, span: Span) {
+        let name = &section.name.node;
+        let loaded: Vec<&InputSection> = place.map_or_else(Vec::new, |place| self.loaded_inputs(place));
+        let is_discarded = !loaded.is_empty();
+        let first = Span { start: span.start, end: section.body.span.start + 1 };
+        if is_discarded {
+            self.edits.replace(self.text, first, "/DISCARD/ : {");
+            let size = place.map_or(0, |place| place.size);
+            let why = format!("its {size:#x} bytes are not in the image; GNU ld's has them, not loaded");
+            self.note_of(NoteKind::Changed, Topic::Beside, span.start, format!("{name}: {why}"));
+        } else {
+            self.edits.blank(self.text, first);
+            self.note(NoteKind::Dropped, span.start, format!("{name}: GNU ld makes no such section of what is linked"));
+        }
+        for statement in &section.body.node {
+            match &statement.node {
+                SectionStatement::Input(_) if is_discarded => {}
+                SectionStatement::Assign(assignment) if assignment.target.node != "." && !is_discarded => {
+                    let e = whole_value(assignment);
+                    if uses_dot(&e) && self.versions.of_statement(&assignment.target.node, statement.span.start).is_some()
+                    {
+                        self.sync_dot_at(statement.span);
+                    }
+                    let at = At { at: statement.span.start, is_assert: false, dot: Some(self.dot) };
+                    self.symbol(assignment, &e, statement.span, at, &mut |_, _| Vec::new());
+                }
+                _ => self.edits.blank(self.text, statement.span),
+            }
+        }
+        let last = Span { start: section.body.span.end.saturating_sub(1), end: span.end };
+        self.edits.replace(self.text, last, if is_discarded { "}" } else { "" });
+    }
+
+    /// The input sections of a place that are linked and not empty.
+    fn loaded_inputs(&self, place: &Placed) -> Vec<&'a InputSection> {
+        let evaluation = match self.request.evaluation {
+            Some(evaluation) => evaluation,
+            None => return Vec::new(),
+        };
+        let all = place.inputs.iter().filter_map(|id| evaluation.section(*id));
+        all.filter(|one| is_linked(one) && one.size > 0).collect()
+    }
+
+    /// Gives a section a name of the profile that no other has.
+    fn name_section(&mut self, section: &OutputSection, span: Span) -> Name {
+        let name = section.name.node.clone();
+        let is_fine = is_name(&name);
+        if is_fine && self.section_names.insert(name.clone()) {
+            if section.is_quoted {
+                self.note(NoteKind::Rewritten, span.start, format!("{name}: without quotes"));
+            }
+            return name;
+        }
+        let plain = |byte: &u8| match byte {
+            byte if byte.is_ascii_alphanumeric() || b"_.$-".contains(byte) => *byte as char,
+            _ => '_',
+        };
+        let wish = if is_fine { format!("{name}.2") } else { name.iter().map(plain).collect() };
+        let wish = if is_name(wish.as_bytes()) { wish } else { format!("_{wish}") };
+        let own = self.versions.fresh(&wish);
+        self.section_names.insert(own.clone());
+        self.result.names.push((own.clone(), name.clone()));
+        let what = if is_fine { "a second output section" } else { "the output section" };
+        self.note_of(NoteKind::Changed, Topic::Form, span.start, format!("{what} {name}: it is named {own}"));
+        own
+    }
+
+    /// What is said of words of a head that the profile has not.
+    fn said_of_head(&mut self, section: &OutputSection, place: Option<&Placed>, span: Span) {
+        let name = section.name.node.clone();
+        if let Some(kind) = &section.kind {
+            let word = self.quoted(kind.span);
+            let is_loaded = place.map_or(false, |place| self.loaded_inputs(place).iter().any(|one| has_bytes(one)));
+            let is_noload = matches!(kind.node, SectionType::NoLoad | SectionType::NotAllocated(_));
+            if is_noload && is_loaded {
+                let why = "its bytes are in the image and are loaded; in GNU ld's they are not";
+                self.note_of(NoteKind::Changed, Topic::Beside, span.start, format!("{word} of {name}: {why}"));
+            } else {
+                self.note(NoteKind::Dropped, span.start, format!("{word} of {name}: it makes no difference"));
+            }
+        }
+        let parts = [
+            (section.subalign.is_some(), "SUBALIGN", "places of its input sections are written where they differ"),
+            (section.is_aligned_with_input, "ALIGN_WITH_INPUT", "its load address is written where it differs"),
+            (section.constraint.is_some(), "its condition", "it holds for what is linked"),
+        ];
+        for (is_there, what, why) in parts {
+            if is_there {
+                self.note(NoteKind::Rewritten, span.start, format!("{what} of {name}: {why}"));
+            }
+        }
+    }
+
+    // --- the head ---
+
+    /// Decides on the parts of a head, so that the section begins where GNU ld has it, and is loaded there.
+    fn written_head(&mut self, section: &'a OutputSection, place: Option<&Placed>, span: Span) -> Written {
+        let at = At { at: span.start, is_assert: false, dot: Some(self.dot) };
+        let row = place.map_or(1, |place| self.row_alignment(place));
+        let mut head = Written { region: self.region_of(section, span), ..Written::default() };
+        head.load_region = self.load_region_of(section, span);
+        let own_align = section.align.as_ref().map(|e| self.settle_by_itself(e, at));
+        let head_align = own_align.as_ref().and_then(|settled| self.value_of(&settled.e, at)).unwrap_or(1);
+        head.alignment = head_align.max(row).max(1);
+        if let (Some(e), Some(settled)) = (&section.align, &own_align) {
+            head.align = Some(self.text_of(e, settled));
+            self.report(e.span, settled);
+        }
+        let start = match &section.address {
+            Some(e) => self.written_address(e, &mut head, place, at),
+            None => self.unwritten_address(&mut head, place),
+        };
+        head.start = start;
+        head.load_at = self.written_load(section, &mut head, place, at);
+        head
+    }
+
+    /// An expression by the rules alone, with the value that GNU ld has for it.
+    fn settle_by_itself(&mut self, e: &Expr, at: At) -> Settled {
+        let needed = self.gnu_value(e);
+        self.settle(e, at, needed, &mut |_, _| Vec::new())
+    }
+
+    fn text_of(&self, old: &Expr, settled: &Settled) -> String {
+        match says(self.slice(old.span), &settled.e, self.text) {
+            true => self.slice(old.span).to_str_lossy().into_owned(),
+            false => self.written(&settled.e),
+        }
+    }
+
+    /// The greatest alignment of what a section takes.
+    fn row_alignment(&self, place: &Placed) -> u64 {
+        let evaluation = self.request.evaluation;
+        let sections = place.inputs.iter().filter_map(|id| evaluation?.section(*id));
+        sections.filter(|one| is_linked(one)).map(|one| one.own_align).max().unwrap_or(1)
+    }
+
+    /// The region that a section is in: the one that it names, or by attributes.
+    fn region_of(&self, section: &OutputSection, span: Span) -> Option<Name> {
+        if let Some(region) = &section.region {
+            return Some(self.region_name(&region.node));
+        }
+        let evaluation = self.request.evaluation?;
+        let output = evaluation.output_at(span)?;
+        output.in_image()?;
+        let region = evaluation.regions.get(output.region.index())?;
+        (region.name != DEFAULT_REGION && self.regions.contains_key(&region.name)).then(|| region.name.clone())
+    }
+
+    fn load_region_of(&self, section: &OutputSection, span: Span) -> Option<Name> {
+        if let Some(region) = &section.load_region {
+            return Some(self.region_name(&region.node));
+        }
+        let evaluation = self.request.evaluation?;
+        let region = evaluation.output_at(span)?.load_region?;
+        evaluation.regions.get(region.index()).map(|region| region.name.clone())
+    }
+
+    /// The address in front of the colon.
+    fn written_address(&mut self, e: &Expr, head: &mut Written, place: Option<&Placed>, at: At) -> u64 {
+        let needed = place.map(|place| place.address);
+        let align = place.map_or(1, |place| place.align);
+        let mut settled = self.settle(e, at, needed, &mut |_, own| {
+            let aligned = made(ExprKind::Call(Function::Align, vec![own.clone(), number(align)]));
+            vec![(aligned, "aligned as GNU ld aligns it".into())]
+        });
+        self.report(e.span, &settled);
+        settled.reasons = Reasons::default();
+        head.address = Some(self.text_of(e, &settled));
+        needed.or_else(|| self.value_of(&settled.e, at)).unwrap_or(self.dot)
+    }
+
+    /// Where a section begins that has no address: at `.`, or where its region is free, aligned. Writes an alignment or
+    /// an address where that is not where GNU ld has it.
+    fn unwritten_address(&mut self, head: &mut Written, place: Option<&Placed>) -> u64 {
+        let free = head.region.as_ref().and_then(|name| self.regions.get(name)).map(|region: &Memory| region.next);
+        let base = free.unwrap_or(self.dot);
+        let start = aligned(base, head.alignment);
+        let wanted = match place {
+            Some(place) if place.address != start => place,
+            _ => return start,
+        };
+        if aligned(base, wanted.align.max(head.alignment)) == wanted.address {
+            head.align = Some(wanted.align.to_string());
+            head.alignment = wanted.align.max(head.alignment);
+        } else {
+            head.address = Some(format!("{:#x}", wanted.address));
+            self.result.has_moving_values = true;
+        }
+        wanted.address
+    }
+
+    // --- the load address ---
+
+    /// Decides on the load address; gives it.
+    fn written_load(&mut self, section: &OutputSection, head: &mut Written, place: Option<&Placed>, at: At) -> u64 {
+        let own_load = section.load_address.as_ref();
+        let needed = place.map(|place| place.load);
+        let is_free = place.map_or(false, |place| place.size == 0);
+        if let Some(e) = own_load {
+            return self.own_load(section, e, head, needed, at);
+        }
+        let predicted = self.predicted_load(head);
+        let needed = match needed {
+            Some(needed) if needed != predicted && !is_free => needed,
+            _ => return predicted,
+        };
+        head.load_region = None;
+        if self.predicted_load(head) == needed {
+            let name = section.name.node.clone();
+            self.note(NoteKind::Rewritten, at.at, format!("AT> of {name}: it keeps the distance of the section before"));
+            return needed;
+        }
+        let distance = head.start.wrapping_sub(needed);
+        let e = difference(self.start_expression(section, head), number(distance));
+        let e = if self.value_of(&e, at) == Some(needed) { e } else { number(needed) };
+        head.load = Some(self.written(&e));
+        self.result.has_moving_values = true;
+        needed
+    }
+
+    /// The load address by what the profile says of a head without AT(e).
+    fn predicted_load(&self, head: &Written) -> u64 {
+        if let Some(region) = head.load_region.as_ref().and_then(|name| self.regions.get(name)) {
+            return aligned(region.next, head.alignment);
+        }
+        if head.address.is_some() {
+            return head.start;
+        }
+        head.start.wrapping_sub(self.distances.get(&head.region).copied().unwrap_or(0))
+    }
+
+    /// AT(e): as it is; without it, where the distance is that of the section before; with the start in place of
+    /// ADDR of the section itself; or as a number.
+    fn own_load(
+        &mut self,
+        section: &OutputSection,
+        e: &Expr,
+        head: &mut Written,
+        needed: Option<u64>,
+        at: At,
+    ) -> u64 {
+        head.load_region = None;
+        let name = section.name.node.clone();
+        let names_itself = names_section(e, &name);
+        if names_itself && needed.map_or(false, |needed| self.predicted_load(head) == needed) {
+            let what = self.quoted(e.span);
+            let why = "it keeps the distance of the section before";
+            self.note(NoteKind::Rewritten, e.span.start, format!("AT({what}) of {name}: {why}"));
+            return self.predicted_load(head);
+        }
+        let start = self.start_expression(section, head);
+        let own = with_section(e, &name, &start);
+        let mut settled = self.settle(&own, at, needed, &mut |_, _| Vec::new());
+        if settled.reasons.is_numeric && needed.is_some() {
+            let distance = head.start.wrapping_sub(needed.unwrap_or(0));
+            let near = binary(BinaryOperator::Subtract, start, number(distance));
+            if names_itself && self.value_of(&near, at) == needed {
+                settled.e = near;
+            }
+        }
+        self.report(e.span, &settled);
+        head.load = Some(self.text_of(e, &settled));
+        needed.or_else(|| self.value_of(&settled.e, at)).unwrap_or(head.start)
+    }
+
+    /// An expression that is the start of a section, before it: its address, or `.`, aligned where that is needed.
+    fn start_expression(&self, section: &OutputSection, head: &Written) -> Expr {
+        let at = At { at: u32::MAX, is_assert: false, dot: Some(self.dot) };
+        if let (Some(e), Some(_)) = (&section.address, &head.address) {
+            if self.value_of(e, at) == Some(head.start) {
+                return e.clone();
+            }
+        }
+        if head.address.is_some() || head.region.is_some() {
+            return number(head.start);
+        }
+        if self.dot == head.start {
+            return made(ExprKind::Dot);
+        }
+        made(ExprKind::Call(Function::Align, vec![number(head.alignment)]))
+    }
+
+    // --- the text ---
+
+    /// Writes a head, where it is another.
+    fn put_head(&mut self, section: &OutputSection, emitted: &Name, head: &Written, span: Span) {
+        let mut new = emitted.to_str_lossy().into_owned();
+        if let Some(address) = &head.address {
+            new.push(' ');
+            new.push_str(address);
+        }
+        new.push_str(" :");
+        if let Some(load) = &head.load {
+            new.push_str(&format!(" AT({load})"));
+        }
+        if let Some(align) = &head.align {
+            new.push_str(&format!(" ALIGN({align})"));
+        }
+        new.push_str(" {");
+        let end = section.body.span.start + 1;
+        if self.squeezed(span.start, end) != super::walk::squeezed(new.as_bytes()) {
+            self.edits.replace(self.text, Span { start: span.start, end }, new);
+        }
+    }
+
+    /// Writes a tail, where it is another.
+    fn put_tail(&mut self, section: &OutputSection, head: &Written, span: Span) {
+        let mut new = String::new();
+        if let Some(region) = &head.region {
+            new.push_str(&format!(" >{region}"));
+        }
+        if let Some(region) = head.load_region.as_ref().filter(|_| head.load.is_none()) {
+            new.push_str(&format!(" AT>{region}"));
+        }
+        if let Some(fill) = section.fill.as_ref().and_then(|fill| self.fill(fill, span)) {
+            new.push_str(&format!(" ={fill}"));
+        }
+        let tail = Span { start: section.body.span.end, end: span.end };
+        let own = self.squeezed(tail.start, tail.end);
+        if own != super::walk::squeezed(new.as_bytes()) {
+            if own.contains(&b':') {
+                let names: Vec<String> = section.segments.iter().map(|segment| format!(":{}", segment.node)).collect();
+                let why = "segments follow addresses, sizes and flags";
+                let what = format!("{} of {}", names.join(" "), section.name.node);
+                self.note_of(NoteKind::Changed, Topic::Segments, span.start, format!("{what}: {why}"));
+            }
+            self.edits.replace(self.text, tail, new);
+        }
+    }
+
+    /// A fill in the profile's form.
+    pub(super) fn fill(&mut self, fill: &Fill, span: Span) -> Option<String> {
+        let bytes = self.fill_bytes(fill);
+        let own = self.slice(fill.value.span);
+        let digits: String = bytes.iter().map(|byte| format!("{byte:02x}")).collect();
+        let is_own = own.to_str().map_or(false, |own| own.strip_prefix("0x").map_or(false, |own| own.eq_ignore_ascii_case(&digits)));
+        if is_own && (1..=8).contains(&bytes.len()) {
+            return Some(own.to_str_lossy().into_owned());
+        }
+        if bytes.is_empty() || bytes.len() > 8 {
+            self.note(NoteKind::Rewritten, span.start, "a fill of more than 8 bytes as its bytes");
+            return None;
+        }
+        let what = self.quoted(fill.value.span);
+        self.note(NoteKind::Rewritten, span.start, format!("={what} as =0x{digits}"));
+        Some(format!("0x{digits}"))
+    }
+
+    /// The bytes of a fill.
+    pub(super) fn fill_bytes(&self, fill: &Fill) -> Vec<u8> {
+        match &fill.literal {
+            Some(bytes) => bytes.clone(),
+            None => {
+                let at = At { at: u32::MAX, is_assert: false, dot: None };
+                let value = self.gnu_value(&fill.value).or_else(|| self.value_of(&fill.value, at)).unwrap_or(0);
+                (value as u32).to_be_bytes().to_vec()
+            }
+        }
+    }
+
+    // --- /DISCARD/ ---
+
+    fn discard(&mut self, section: &'a OutputSection, span: Span) {
+        let end = section.body.span.start + 1;
+        if self.squeezed(span.start, end) != b"/DISCARD/:{" {
+            self.edits.replace(self.text, Span { start: span.start, end }, "/DISCARD/ : {");
+        }
+        for statement in &section.body.node {
+            match &statement.node {
+                SectionStatement::Input(node) => self.discarded(node, statement.span),
+                SectionStatement::Assign(assignment) if assignment.target.node != "." => {
+                    let at = At { at: statement.span.start, is_assert: false, dot: Some(self.dot) };
+                    let e = whole_value(assignment);
+                    let settled = self.settle_by_itself(&e, at);
+                    let text = format!("{} = {}; ", assignment.target.node, self.written(&settled.e));
+                    self.edits.insert(span.start, 10, text);
+                    self.edits.blank(self.text, statement.span);
+                    self.note(NoteKind::Rewritten, statement.span.start, "stands before /DISCARD/");
+                }
+                SectionStatement::Assert(_) => {
+                    let text = format!("{} ", self.slice(statement.span));
+                    self.edits.insert(span.start, 10, text);
+                    self.edits.blank(self.text, statement.span);
+                    self.note(NoteKind::Rewritten, statement.span.start, "stands before /DISCARD/");
+                }
+                _ => {
+                    let what = self.quoted(statement.span);
+                    self.note(NoteKind::Dropped, statement.span.start, format!("{what}: /DISCARD/ has no bytes"));
+                    self.edits.blank(self.text, statement.span);
+                }
+            }
+        }
+        let tail = Span { start: section.body.span.end, end: span.end };
+        if !self.squeezed(tail.start, tail.end).is_empty() {
+            self.edits.blank(self.text, tail);
+        }
+    }
+}
+
+/// The lowest multiple of a power of two at or above a place.
+pub(super) fn aligned(at: u64, align: u64) -> u64 {
+    at.wrapping_add(at.wrapping_neg() & (align.max(1) - 1))
+}
+
+/// Whether `ldi` links an input section: it has ALLOC, and is no section of GNU ld's own.
+pub(super) fn is_linked(section: &InputSection) -> bool {
+    let is_loaded = section.bits & u64::from(elf::SHF_ALLOC) != 0 || section.is_common();
+    is_loaded && !section.flags.has(Flags::CREATED | Flags::EXCLUDE)
+}
+
+/// Whether the file has bytes for an input section.
+pub(super) fn has_bytes(section: &InputSection) -> bool {
+    section.kind != elf::SHT_NOBITS && !section.is_common()
+}
+
+/// Whether an expression has ADDR of a section in it.
+fn names_section(e: &Expr, name: &Name) -> bool {
+    matches!(&e.kind, ExprKind::Query(Query::Addr, own) if own == name)
+        || children(e).into_iter().any(|inner| names_section(inner, name))
+}
+
+/// An expression with another one in place of ADDR of a section.
+fn with_section(e: &Expr, name: &Name, start: &Expr) -> Expr {
+    let again = |e: &Expr| Box::new(with_section(e, name, start));
+    let kind = match &e.kind {
+        ExprKind::Query(Query::Addr, own) if own == name => return start.clone(),
+        _ if !names_section(e, name) => return e.clone(),
+        ExprKind::Unary(operator, inner) => ExprKind::Unary(*operator, again(inner)),
+        ExprKind::Binary(operator, left, right) => ExprKind::Binary(*operator, again(left), again(right)),
+        ExprKind::Conditional(test, yes, no) => ExprKind::Conditional(again(test), again(yes), again(no)),
+        ExprKind::Call(function, arguments) => {
+            ExprKind::Call(*function, arguments.iter().map(|e| with_section(e, name, start)).collect())
+        }
+        _ => return e.clone(),
+    };
+    made(kind)
+}
+
+/// Whether all patterns of a section are of what is never loaded, as debug information.
+fn takes_unloaded(section: &OutputSection) -> bool {
+    let mut patterns = section.body.node.iter().filter_map(|statement| match &statement.node {
+        SectionStatement::Input(node) => Some(node.sections.iter().flatten()),
+        _ => None,
+    });
+    let is_input = |statement: &SectionStatement| matches!(statement, SectionStatement::Input(_));
+    !section.body.node.is_empty()
+        && section.body.node.iter().all(|statement| is_input(&statement.node))
+        && patterns.all(|mut patterns| patterns.all(|pattern| is_unloaded(&pattern.node.glob)))
+}
+
+fn is_unloaded(glob: &[u8]) -> bool {
+    [".debug", ".zdebug", ".stab", ".comment", ".gnu.linkonce.wi", ".gnu.attributes", ".note.GNU-stack", ".line"]
+        .iter()
+        .any(|front| glob.starts_with(front.as_bytes()))
+}

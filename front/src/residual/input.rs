@@ -1,0 +1,413 @@
+//! Input statements: patterns in the profile's spelling, one sort to a statement.
+
+use bstr::ByteSlice;
+
+use super::head::is_linked;
+use super::note::NoteKind;
+use super::profile::{is_word, matches, word_of};
+use super::walk::Walk;
+use crate::layout::evaluation::StatementKind;
+use crate::layout::ids::SectionId;
+use crate::script::tree::{InputStatement, Name, Pattern, Sort, Span, Spanned};
+
+/// The sorts of the profile.
+#[derive(Clone, Copy, PartialEq, Eq, Debug)]
+enum ProfileSort {
+    ByName,
+    ByAlignment,
+}
+
+/// Patterns of one statement of the profile: what one sort has, or what has none.
+#[derive(Clone, Debug)]
+struct Group {
+    sort: Option<ProfileSort>,
+    /// Each with the files that it leaves out.
+    patterns: Vec<(Vec<u8>, Vec<Vec<u8>>)>,
+}
+
+/// A statement of GNU ld's as statements of the profile.
+#[derive(Clone, Debug, Default)]
+struct Form {
+    files: Vec<Vec<u8>>,
+    groups: Vec<Group>,
+    /// What is said of the change.
+    said: Vec<String>,
+    /// Whether it may take something else, or in another order, than the statement of GNU ld's.
+    is_in_doubt: bool,
+}
+
+impl Form {
+    fn say(&mut self, text: impl Into<String>) {
+        let text = text.into();
+        if !self.said.contains(&text) {
+            self.said.push(text);
+        }
+    }
+
+    fn doubt(&mut self, text: impl Into<String>) {
+        self.is_in_doubt = true;
+        self.say(text);
+    }
+
+    /// The text of the statements.
+    fn text(&self, is_kept: bool) -> String {
+        let mut statements = Vec::new();
+        for group in &self.groups {
+            for file in &self.files {
+                let own = format!("{}({})", file.to_str_lossy(), group.text());
+                statements.push(if is_kept { format!("KEEP({own})") } else { own });
+            }
+        }
+        statements.join(" ")
+    }
+
+    /// The places of the sections that the statements take, in their order, of a list of object and section names.
+    fn takes(&self, sections: &[(&[u8], &[u8], u64)]) -> Vec<usize> {
+        let mut taken = Vec::new();
+        let mut is_taken = vec![false; sections.len()];
+        for group in &self.groups {
+            for file in &self.files {
+                let mut found = Vec::new();
+                for (index, (object, name, _)) in sections.iter().enumerate() {
+                    let is_free = !is_taken.get(index).copied().unwrap_or(true);
+                    if is_free && matches(file, object) && group.matches(object, name) {
+                        found.push(index);
+                    }
+                }
+                let key = |index: &usize| sections.get(*index).copied().unwrap_or_default();
+                match group.sort {
+                    Some(ProfileSort::ByName) => found.sort_by_key(|index| key(index).1),
+                    Some(ProfileSort::ByAlignment) => found.sort_by_key(|index| std::cmp::Reverse(key(index).2)),
+                    None => {}
+                }
+                for index in &found {
+                    if let Some(flag) = is_taken.get_mut(*index) {
+                        *flag = true;
+                    }
+                }
+                taken.extend(found);
+            }
+        }
+        taken
+    }
+}
+
+impl Group {
+    fn text(&self) -> String {
+        let one = |(word, excluded): &(Vec<u8>, Vec<Vec<u8>>)| {
+            let word = word.to_str_lossy();
+            if excluded.is_empty() {
+                return word.into_owned();
+            }
+            let files: Vec<_> = excluded.iter().map(|file| file.to_str_lossy()).collect();
+            format!("EXCLUDE_FILE({}) {word}", files.join(" "))
+        };
+        let words: Vec<String> = self.patterns.iter().map(one).collect();
+        match self.sort {
+            None => words.join(" "),
+            Some(ProfileSort::ByName) => format!("SORT_BY_NAME({})", words.join(" ")),
+            Some(ProfileSort::ByAlignment) => format!("SORT_BY_ALIGNMENT({})", words.join(" ")),
+        }
+    }
+
+    fn matches(&self, object: &[u8], name: &[u8]) -> bool {
+        self.patterns
+            .iter()
+            .any(|(word, excluded)| matches(word, name) && !excluded.iter().any(|file| matches(file, object)))
+    }
+}
+
+impl<'a> Walk<'a> {
+    /// Writes an input statement of an output section; gives whether what is written takes what GNU ld's takes, in its
+    /// order, as far as that is known.
+    pub(super) fn input(&mut self, node: &'a InputStatement, span: Span, sections: &[SectionId]) -> bool {
+        let is_plain = is_plain(node);
+        if is_plain && !self.has_doubtful_file(node) {
+            return true;
+        }
+        let form = form_of(node, false);
+        let is_in_doubt = form.is_in_doubt || self.has_doubtful_file(node);
+        if is_in_doubt && self.request.evaluation.is_some() {
+            if !self.takes_the_same(&form, span, sections) {
+                let what = self.quoted(span);
+                self.note(NoteKind::Rewritten, span.start, format!("{what}: what it takes, one by one"));
+                return false;
+            }
+        } else if is_in_doubt {
+            let what = self.quoted(span);
+            let why = form.said.join("; ");
+            self.note(NoteKind::Changed, span.start, format!("{what}: {why}"));
+        }
+        if is_plain {
+            return true;
+        }
+        let text = form.text(node.is_kept);
+        let what = self.quoted(span);
+        self.edits.replace(self.text, span, text.clone());
+        let why = if form.said.is_empty() { format!("as {text}") } else { form.said.join("; ") };
+        self.note(NoteKind::Rewritten, span.start, format!("{what}: {why}"));
+        true
+    }
+
+    /// Writes an input statement of `/DISCARD/`.
+    pub(super) fn discarded(&mut self, node: &InputStatement, span: Span) {
+        if is_plain(node) && !node.is_kept {
+            return;
+        }
+        let form = form_of(node, true);
+        let text = form.text(false);
+        let what = self.quoted(span);
+        self.edits.replace(self.text, span, text.clone());
+        let why = if form.said.is_empty() { format!("as {text}") } else { form.said.join("; ") };
+        self.note(NoteKind::Rewritten, span.start, format!("{what}: {why}"));
+    }
+
+    /// Whether a pattern of files may mean members of archives, whose names in the session are `lib.a(member.o)`.
+    fn has_doubtful_file(&self, node: &InputStatement) -> bool {
+        let names_files = node.file.as_ref().map_or(false, |file| file.node.glob != "*")
+            || all_patterns(node).any(|pattern| !pattern.excluded_files.is_empty());
+        names_files && self.request.objects.iter().any(|name| name.contains(&b'('))
+    }
+
+    /// Whether the statements of a form take these sections, in this order, of those that no earlier statement takes.
+    fn takes_the_same(&mut self, form: &Form, span: Span, sections: &[SectionId]) -> bool {
+        let evaluation = match self.request.evaluation {
+            Some(evaluation) => evaluation,
+            None => return true,
+        };
+        let own = match evaluation.by_span.get(&span) {
+            Some(id) => id.index() as u32,
+            None => return sections.is_empty(),
+        };
+        let takers = self.takers.get_or_insert_with(|| takers(evaluation));
+        let mut ids = Vec::new();
+        let mut known = Vec::new();
+        for (index, one) in evaluation.sections.iter().enumerate() {
+            if is_linked(one) && takers.get(index).map_or(false, |taker| *taker >= own) {
+                let object = self.request.objects.get(one.object.index()).map_or(&b""[..], |name| name.as_bytes());
+                known.push((object, evaluation.section_name(one).as_bytes(), one.own_align));
+                ids.push(SectionId::at(index));
+            }
+        }
+        let taken = form.takes(&known);
+        taken.len() == sections.len() && taken.iter().zip(sections).all(|(index, id)| ids.get(*index) == Some(id))
+    }
+}
+
+/// For each input section the index of the statement that takes it; those that none takes have the highest.
+fn takers(evaluation: &crate::layout::Evaluation) -> Vec<u32> {
+    let mut takers = vec![u32::MAX; evaluation.sections.len()];
+    for (index, statement) in evaluation.statements.iter().enumerate() {
+        if let StatementKind::Input { sections, .. } = &statement.kind {
+            for id in sections {
+                if let Some(taker) = takers.get_mut(id.index()) {
+                    *taker = index as u32;
+                }
+            }
+        }
+    }
+    takers
+}
+
+fn all_patterns(node: &InputStatement) -> impl Iterator<Item = &Pattern> {
+    let sections = node.sections.iter().flatten().map(|pattern| &pattern.node);
+    node.file.iter().map(|file| &file.node).chain(sections)
+}
+
+/// Whether a statement is one of the profile as it stands.
+fn is_plain(node: &InputStatement) -> bool {
+    let (file, sections) = match (&node.file, &node.sections) {
+        (Some(file), Some(sections)) if node.section_flags.is_empty() => (&file.node, sections),
+        _ => return false,
+    };
+    let is_fine = |pattern: &Pattern| {
+        is_word(&pattern.glob) && !pattern.is_quoted && pattern.excluded_files.iter().all(|file| is_word(file))
+    };
+    let has_one_sort = |patterns: &[Spanned<Pattern>]| match patterns {
+        [one] => matches!(one.node.sorts.as_slice(), [Sort::ByName | Sort::ByAlignment]) && one.node.excluded_files.is_empty(),
+        _ => false,
+    };
+    is_fine(file)
+        && file.sorts.is_empty()
+        && file.excluded_files.is_empty()
+        && !file.glob.contains(&b':')
+        && sections.iter().all(|pattern| is_fine(&pattern.node))
+        && (sections.iter().all(|pattern| pattern.node.sorts.is_empty()) || has_one_sort(sections))
+}
+
+/// The statements of the profile for one of GNU ld's.
+fn form_of(node: &InputStatement, is_discarded: bool) -> Form {
+    let mut form = Form::default();
+    let file = node.file.as_ref().map(|file| &file.node);
+    match file {
+        Some(file) => file_patterns(file, &mut form),
+        None => form.files.push(b"*".to_vec()),
+    }
+    if !node.section_flags.is_empty() {
+        form.doubt("INPUT_SECTION_FLAGS by the names of the sections that have them");
+    }
+    let everything = [Spanned::new(everything(), Span::default())];
+    let patterns: &[Spanned<Pattern>] = match &node.sections {
+        Some(patterns) => patterns,
+        None => {
+            form.say("all sections of the file");
+            &everything
+        }
+    };
+    let left_out: &[Name] = file.map_or(&[], |file| &file.excluded_files);
+    if !left_out.is_empty() {
+        form.say("EXCLUDE_FILE before each pattern");
+    }
+    for pattern in patterns {
+        group(&pattern.node, left_out, is_discarded, &mut form);
+    }
+    if form.groups.len() > 1 {
+        form.doubt("a statement for each sort");
+    }
+    form
+}
+
+fn everything() -> Pattern {
+    Pattern { glob: "*".into(), is_quoted: false, sorts: Vec::new(), excluded_files: Vec::new() }
+}
+
+/// The patterns of files of a statement.
+fn file_patterns(file: &Pattern, form: &mut Form) {
+    if file.sorts.iter().any(|sort| *sort != Sort::None) {
+        form.doubt("files are in the order of the link, not sorted by name");
+    }
+    let glob = &file.glob;
+    let own = match glob.iter().rposition(|byte| *byte == b':') {
+        None => glob.as_slice(),
+        Some(0) => {
+            form.doubt(format!("`{glob}` is a file that is in no archive"));
+            glob.get(1..).unwrap_or_default()
+        }
+        Some(at) => {
+            let archive = glob.get(..at).unwrap_or_default();
+            let member = glob.get(at + 1..).filter(|member| !member.is_empty()).unwrap_or(b"*");
+            form.doubt(format!("`{glob}` by the names of the objects"));
+            let (archive, member) = (word_of(archive).0, word_of(member).0);
+            return form.files.push([&archive, &b"\\("[..], &member, &b"\\)"[..]].concat());
+        }
+    };
+    let word = word(own, form);
+    form.files.push(word);
+}
+
+/// A pattern in the profile's spelling.
+fn word(glob: &[u8], form: &mut Form) -> Vec<u8> {
+    let (word, is_exact) = word_of(glob);
+    if glob.contains(&b',') {
+        form.say(format!("`{}`: to GNU ld the comma is a byte of the name; spaces part names", glob.to_str_lossy()));
+    }
+    if !is_exact {
+        form.doubt(format!("`{}` is `{}` here, which may match other names", glob.to_str_lossy(), word.to_str_lossy()));
+    }
+    word.into_owned()
+}
+
+/// Puts a pattern into a group of its sort.
+fn group(pattern: &Pattern, left_out: &[Name], is_discarded: bool, form: &mut Form) {
+    let mut sort = sort_of(pattern, form);
+    if is_discarded && sort.is_some() {
+        form.say("what is left out needs no sort");
+        sort = None;
+    }
+    let files = left_out.iter().chain(&pattern.excluded_files);
+    let excluded: Vec<Vec<u8>> = files.map(|file| excluded_file(file, form)).collect();
+    if sort.is_some() && !excluded.is_empty() {
+        form.doubt("EXCLUDE_FILE does not stand in a sort");
+        sort = None;
+    }
+    let entry = (word(&pattern.glob, form), excluded);
+    match form.groups.last_mut() {
+        Some(last) if last.sort == sort => {
+            last.patterns.push(entry);
+            if sort.is_some() {
+                form.doubt("one sort of all patterns");
+            }
+        }
+        _ => form.groups.push(Group { sort, patterns: vec![entry] }),
+    }
+}
+
+fn excluded_file(file: &Name, form: &mut Form) -> Vec<u8> {
+    let own = match file.iter().rposition(|byte| *byte == b':') {
+        Some(at) => file.get(at + 1..).unwrap_or_default(),
+        None => file.as_slice(),
+    };
+    word(own, form)
+}
+
+/// The sort of the profile that is nearest to those of a pattern.
+fn sort_of(pattern: &Pattern, form: &mut Form) -> Option<ProfileSort> {
+    let mut found = Vec::new();
+    for sort in &pattern.sorts {
+        match sort {
+            Sort::ByName => found.push(ProfileSort::ByName),
+            Sort::ByAlignment => found.push(ProfileSort::ByAlignment),
+            Sort::ByInitPriority => {
+                let is_fine = pattern.glob.starts_with(b".init_array.") || pattern.glob.starts_with(b".fini_array.");
+                form.say("by name, as priorities have five digits");
+                form.is_in_doubt |= !is_fine;
+                found.push(ProfileSort::ByName);
+            }
+            Sort::None => form.say("SORT_NONE is no sort"),
+            Sort::Reverse => form.doubt("REVERSE: not in reverse"),
+        }
+    }
+    if found.len() > 1 {
+        form.doubt("the first sort alone: equals stay in the order of the link");
+    }
+    found.first().copied()
+}
+
+#[cfg(test)]
+mod tests {
+    use super::*;
+
+    fn pattern(glob: &str, sorts: &[Sort]) -> Spanned<Pattern> {
+        let pattern =
+            Pattern { glob: glob.into(), is_quoted: false, sorts: sorts.to_vec(), excluded_files: Vec::new() };
+        Spanned::new(pattern, Span::default())
+    }
+
+    fn statement(file: &str, sections: Vec<Spanned<Pattern>>) -> InputStatement {
+        InputStatement {
+            is_kept: false,
+            section_flags: Vec::new(),
+            file: Some(pattern(file, &[])),
+            sections: Some(sections),
+        }
+    }
+
+    #[test]
+    fn a_statement_of_the_profile_stays() {
+        assert!(is_plain(&statement("*", vec![pattern(".text", &[]), pattern(".text.*", &[])])));
+        assert!(is_plain(&statement("*x.o", vec![pattern(".text.*", &[Sort::ByName])])));
+        assert!(!is_plain(&statement("*", vec![pattern(".a", &[Sort::ByName]), pattern(".b", &[])])));
+        assert!(!is_plain(&statement("*", vec![pattern(".a", &[Sort::ByName, Sort::ByAlignment])])));
+        assert!(!is_plain(&statement("lib.a:x.o", vec![pattern(".a", &[])])));
+    }
+
+    #[test]
+    fn sorts_and_files_have_their_forms() {
+        let both = form_of(&statement("*", vec![pattern(".a", &[Sort::ByName]), pattern(".b", &[])]), false);
+        assert_eq!(both.text(false), "*(SORT_BY_NAME(.a)) *(.b)");
+        assert!(both.is_in_doubt);
+        let none = form_of(&statement("lib.a:x.o", vec![pattern(".a", &[Sort::None])]), false);
+        assert_eq!(none.text(true), "KEEP(lib.a\\(x.o\\)(.a))");
+        let priority = form_of(&statement("*", vec![pattern(".init_array.*", &[Sort::ByInitPriority])]), false);
+        assert!(!priority.is_in_doubt);
+        assert_eq!(priority.text(false), "*(SORT_BY_NAME(.init_array.*))");
+    }
+
+    #[test]
+    fn a_form_takes_in_the_order_of_its_statements() {
+        let form = form_of(&statement("*", vec![pattern(".b*", &[Sort::ByName]), pattern("*", &[])]), false);
+        let sections: [(&[u8], &[u8], u64); 4] =
+            [(b"x", b".c", 1), (b"x", b".b2", 1), (b"y", b".b1", 1), (b"y", b".a", 1)];
+        assert_eq!(form.takes(&sections), [2, 1, 0, 3]);
+    }
+}

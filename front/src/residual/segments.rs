@@ -1,0 +1,155 @@
+//! What PHDRS asks for, and the `:NAME`s of output sections: the program headers that `finish` writes.
+
+use bstr::ByteSlice;
+use object::elf;
+
+use super::items::sections;
+use super::walk::{At, Walk};
+use crate::finish::WantedSegment;
+use crate::script::tree::{Expr, ExprKind, Name, ProgramHeader, Spanned, Statement};
+
+/// The name of no segment.
+const NONE: &[u8] = b"NONE";
+
+/// Notes the program headers of PHDRS.
+pub(super) fn write(walk: &mut Walk<'_>) {
+    let script = walk.script;
+    let headers: Vec<&Spanned<ProgramHeader>> = script
+        .statements
+        .iter()
+        .filter_map(|statement| match &statement.node {
+            Statement::Phdrs(headers) => Some(headers),
+            _ => None,
+        })
+        .flatten()
+        .collect();
+    if headers.is_empty() {
+        return;
+    }
+    match wanted(walk, &headers) {
+        Ok(segments) => walk.result.segments = Some(segments),
+        Err(problem) => {
+            walk.result.segments = Some(Vec::new());
+            walk.result.segments_problem = Some(problem);
+        }
+    }
+}
+
+/// An output section: its name in the image, where it is in it, and its `:NAME`s.
+type Member<'a> = (Option<Name>, Vec<&'a Name>);
+
+fn wanted(walk: &Walk<'_>, headers: &[&Spanned<ProgramHeader>]) -> Result<Vec<WantedSegment>, String> {
+    let members = members(walk);
+    check_names(headers, &members)?;
+    headers
+        .iter()
+        .map(|header| {
+            let mut segment = header_of(walk, header)?;
+            segment.sections = inside(&segment, &members);
+            Ok(segment)
+        })
+        .collect()
+}
+
+fn members<'a>(walk: &Walk<'a>) -> Vec<Member<'a>> {
+    let mut found = Vec::new();
+    for (section, span) in sections(walk.script) {
+        let place = walk.request.evaluation.and_then(|evaluation| evaluation.output_at(span)?.place.as_ref());
+        if place.is_none() && section.constraint.is_some() {
+            continue;
+        }
+        let name = walk.done.get(&section.name.node).map(|done| done.name.clone());
+        let renamed = walk.result.names.iter().find(|(_, own)| *own == section.name.node);
+        let name = match (name, renamed) {
+            (Some(name), None) => Some(name),
+            (Some(name), Some((other, _))) if place.map(|place| place.address) != walk.address_of(&name) => {
+                Some(other.clone())
+            }
+            (name, _) => name,
+        };
+        found.push((name, section.segments.iter().map(|segment| &segment.node).collect()));
+    }
+    found
+}
+
+/// What GNU ld refuses of names.
+fn check_names(headers: &[&Spanned<ProgramHeader>], members: &[Member<'_>]) -> Result<(), String> {
+    for (section, names) in members {
+        for name in names {
+            let is_known = name.as_bytes() == NONE || headers.iter().any(|header| header.node.name.node == **name);
+            if let (Some(section), false) = (section, is_known) {
+                return Err(format!("{section} is assigned to {name}, which PHDRS does not have"));
+            }
+        }
+    }
+    match members.iter().any(|(_, names)| !names.is_empty()) {
+        true => Ok(()),
+        false => Err("no section names a segment of PHDRS".into()),
+    }
+}
+
+/// The sections of a program header. A section without `:NAME` is in the segments of the one before it. For those before
+/// the first `:NAME` GNU ld takes that one.
+fn inside(segment: &WantedSegment, members: &[Member<'_>]) -> Vec<Name> {
+    let first: Vec<&Name> =
+        members.iter().find(|(_, names)| !names.is_empty()).map_or_else(Vec::new, |(_, names)| names.clone());
+    let mut last = first;
+    let mut found = Vec::new();
+    for (name, own) in members {
+        if own.is_empty() && segment.kind == elf::PT_INTERP {
+            continue;
+        }
+        if !own.is_empty() {
+            last = own.clone();
+        }
+        if let (Some(name), true) = (name, last.contains(&&segment.name)) {
+            found.push(name.clone());
+        }
+    }
+    found
+}
+
+fn header_of(walk: &Walk<'_>, header: &Spanned<ProgramHeader>) -> Result<WantedSegment, String> {
+    let node = &header.node;
+    let name = &node.name.node;
+    let value = |e: &Expr, what: &str| {
+        let at = At { at: header.span.start, is_assert: true, dot: None };
+        let value = walk.gnu_value(e).or_else(|| walk.value_of(e, at));
+        value.ok_or_else(|| format!("{what} of {name} is no number: {}", walk.quoted(e.span)))
+    };
+    let kind = match &node.kind.kind {
+        ExprKind::Symbol(word) => match kind_of(word) {
+            Some(kind) => kind,
+            None => value(&node.kind, "the type")? as u32,
+        },
+        _ => value(&node.kind, "the type")? as u32,
+    };
+    Ok(WantedSegment {
+        name: name.clone(),
+        kind,
+        flags: node.flags.as_ref().map(|e| value(e, "FLAGS")).transpose()?.map(|flags| flags as u32),
+        load: node.load_address.as_ref().map(|e| value(e, "AT")).transpose()?,
+        has_file_header: node.has_file_header,
+        has_program_headers: node.has_program_headers,
+        sections: Vec::new(),
+    })
+}
+
+/// A word for a type of program headers.
+fn kind_of(word: &Name) -> Option<u32> {
+    Some(match word.to_str().ok()? {
+        "PT_NULL" => elf::PT_NULL,
+        "PT_LOAD" => elf::PT_LOAD,
+        "PT_DYNAMIC" => elf::PT_DYNAMIC,
+        "PT_INTERP" => elf::PT_INTERP,
+        "PT_NOTE" => elf::PT_NOTE,
+        "PT_SHLIB" => elf::PT_SHLIB,
+        "PT_PHDR" => elf::PT_PHDR,
+        "PT_TLS" => elf::PT_TLS,
+        "PT_GNU_EH_FRAME" => elf::PT_GNU_EH_FRAME,
+        "PT_GNU_STACK" => elf::PT_GNU_STACK,
+        "PT_GNU_RELRO" => elf::PT_GNU_RELRO,
+        "PT_GNU_PROPERTY" => elf::PT_GNU_PROPERTY,
+        _ => return None,
+    })
+}

@@ -1,0 +1,141 @@
+//! The values that a symbol has one after the other: the profile has one assignment of a name.
+
+use std::collections::{HashMap, HashSet};
+
+use bstr::{BString, ByteSlice};
+
+use super::expression::children;
+use super::items::{for_each_assignment, for_each_expression};
+use super::profile::{begins_name, is_in_name};
+use crate::script::tree::{Assignment, AssignOperator, Expr, ExprKind, Name, Provision, Script, Span};
+
+/// One assignment of a symbol.
+#[derive(Clone, Debug)]
+pub(super) struct Version {
+    /// Where its statement begins.
+    pub(super) at: u32,
+    /// The name that it has in the result.
+    pub(super) emitted: Name,
+    /// Whether it gives the symbol a value.
+    pub(super) counts: bool,
+    /// Whether an expression names it.
+    pub(super) is_used: bool,
+}
+
+/// All assignments of symbols.
+#[derive(Debug, Default)]
+pub(super) struct Versions {
+    by_name: HashMap<Name, Vec<Version>>,
+    /// The words of the text: a new name is none of them.
+    words: HashSet<BString>,
+}
+
+impl Versions {
+    /// Those of a script; `counts` says which give their symbol a value.
+    pub(super) fn of(script: &Script, text: &[u8], counts: &dyn Fn(&Assignment, Span) -> bool) -> Versions {
+        let mut versions = Versions { by_name: HashMap::new(), words: words(text) };
+        for_each_assignment(script, &mut |assignment, span| {
+            if assignment.target.node == "." {
+                return;
+            }
+            let found = versions.by_name.entry(assignment.target.node.clone()).or_default();
+            // A second PROVIDE of a name, or one of a name that is assigned, has no effect.
+            let is_provided = matches!(assignment.provision, Provision::Provide | Provision::ProvideHidden);
+            let counts = counts(assignment, span) && !(is_provided && found.iter().any(|one| one.counts));
+            found.push(Version { at: span.start, emitted: assignment.target.node.clone(), counts, is_used: false });
+        });
+        versions.mark_used(script);
+        versions.name();
+        versions
+    }
+
+    /// Marks the versions that expressions name.
+    fn mark_used(&mut self, script: &Script) {
+        for_each_expression(script, &mut |e, at| self.mark(e, at));
+        for_each_assignment(script, &mut |assignment, span| {
+            if let AssignOperator::Update(_) = assignment.operator {
+                self.mark_name(&assignment.target.node, span.start);
+            }
+        });
+    }
+
+    fn mark(&mut self, e: &Expr, at: u32) {
+        if let ExprKind::Symbol(name) = &e.kind {
+            self.mark_name(name, at);
+        }
+        for inner in children(e) {
+            self.mark(inner, at);
+        }
+    }
+
+    fn mark_name(&mut self, name: &Name, at: u32) {
+        if let Some(index) = self.meant(name, at) {
+            if let Some(version) = self.by_name.get_mut(name).and_then(|all| all.get_mut(index)) {
+                version.is_used = true;
+            }
+        }
+    }
+
+    /// The last version that counts keeps the name; others that are used get new ones.
+    fn name(&mut self) {
+        let names: Vec<Name> = self.by_name.keys().cloned().collect();
+        for name in names {
+            let mut versions = self.by_name.remove(&name).unwrap_or_default();
+            let last = versions.iter().rposition(|one| one.counts);
+            for (index, version) in versions.iter_mut().enumerate() {
+                if version.counts && version.is_used && Some(index) != last {
+                    version.emitted = self.fresh(&format!("ldi.{}", name.to_str_lossy()));
+                }
+            }
+            self.by_name.insert(name, versions);
+        }
+    }
+
+    /// The index of the version that an expression at a place means: the last one before it, else the last one.
+    fn meant(&self, name: &Name, at: u32) -> Option<usize> {
+        let all = self.by_name.get(name)?;
+        let before = all.iter().rposition(|one| one.counts && one.at < at);
+        before.or_else(|| all.iter().rposition(|one| one.counts))
+    }
+
+    /// The version that an expression at a place means.
+    pub(super) fn version(&self, name: &Name, at: u32) -> Option<&Version> {
+        self.by_name.get(name)?.get(self.meant(name, at)?)
+    }
+
+    /// The version of a statement, and whether it is the last one.
+    pub(super) fn of_statement(&self, name: &Name, at: u32) -> Option<(&Version, bool)> {
+        let all = self.by_name.get(name)?;
+        let index = all.iter().position(|one| one.at == at)?;
+        Some((all.get(index)?, all.iter().rposition(|one| one.counts) == Some(index)))
+    }
+
+    /// Whether the script assigns a name with effect.
+    pub(super) fn assigns(&self, name: &[u8]) -> bool {
+        self.by_name.get(name.as_bstr()).map_or(false, |all| all.iter().any(|one| one.counts))
+    }
+
+    /// A name that the text does not have.
+    pub(super) fn fresh(&mut self, wish: &str) -> Name {
+        let mut name = BString::from(wish);
+        let mut count = 1;
+        while !self.words.insert(name.clone()) {
+            count += 1;
+            name = format!("{wish}.{count}").into();
+        }
+        name
+    }
+}
+
+/// The words of a text that may be names.
+fn words(text: &[u8]) -> HashSet<BString> {
+    let mut found = HashSet::new();
+    let mut rest = text;
+    while let Some(at) = rest.iter().position(|byte| begins_name(*byte)) {
+        rest = rest.get(at..).unwrap_or_default();
+        let length = rest.iter().take_while(|byte| is_in_name(**byte)).count().max(1);
+        found.insert(rest.get(..length).unwrap_or_default().into());
+        rest = rest.get(length..).unwrap_or_default();
+    }
+    found
+}

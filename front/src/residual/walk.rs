@@ -1,0 +1,297 @@
+//! The way over the statements: what is written, and what `ldi` will make of it so far.
+
+use std::collections::{BTreeMap, HashMap, HashSet};
+
+use bstr::{BStr, BString, ByteSlice};
+
+use super::edits::Edits;
+use super::expression::{number, says, value, write};
+use super::note::{Note, NoteKind, Topic};
+use super::rules::{translate, Reasons};
+use super::versions::Versions;
+use super::view::{Facts, View};
+use super::{segments, Request, Residual};
+use crate::layout::evaluation::{Statement, StatementKind};
+use crate::script::tree::{Expr, Name, Provision, Script, Span};
+
+/// An output section that is complete, as the profile has it.
+#[derive(Clone, Debug)]
+pub(super) struct Done {
+    /// The name that it has in the result.
+    pub(super) name: Name,
+    pub(super) address: u64,
+    pub(super) load: u64,
+    pub(super) size: u64,
+}
+
+/// A region of MEMORY as the profile goes on with it.
+#[derive(Clone, Copy, Debug)]
+pub(super) struct Memory {
+    pub(super) origin: u64,
+    pub(super) length: u64,
+    /// The next free address.
+    pub(super) next: u64,
+}
+
+/// Where an expression stands.
+#[derive(Clone, Copy, Debug)]
+pub(super) struct At {
+    /// Where its statement begins.
+    pub(super) at: u32,
+    /// Whether it is the condition of an ASSERT, which is evaluated after the layout.
+    pub(super) is_assert: bool,
+    /// The location counter; `None` where it may not be used.
+    pub(super) dot: Option<u64>,
+}
+
+/// An expression that was decided on.
+#[derive(Debug)]
+pub(super) struct Settled {
+    pub(super) e: Expr,
+    pub(super) reasons: Reasons,
+}
+
+/// Writes a script in the profile.
+pub(super) struct Walk<'a> {
+    pub(super) request: Request<'a>,
+    pub(super) script: &'a Script,
+    pub(super) text: &'a [u8],
+    pub(super) edits: Edits,
+    pub(super) notes: Vec<(u32, Note)>,
+    pub(super) versions: Versions,
+    /// What REGION_ALIAS names: by the alias the region.
+    pub(super) aliases: HashMap<Name, Name>,
+    /// The values of the symbols that are complete, by the names that they have in the result.
+    pub(super) symbols: HashMap<Name, u64>,
+    /// The output sections that are complete, by their names in the script.
+    pub(super) done: HashMap<Name, Done>,
+    /// The regions that are complete.
+    pub(super) regions: HashMap<Name, Memory>,
+    /// The distance from address to load address of the last section in each region, and in none.
+    pub(super) distances: HashMap<Option<Name>, u64>,
+    /// The location counter.
+    pub(super) dot: u64,
+    /// The names of output sections that are taken.
+    pub(super) section_names: HashSet<Name>,
+    pub(super) foreign: BTreeMap<Name, u64>,
+    /// The statements with the input sections that they take, by their order; made when it is asked for.
+    pub(super) takers: Option<Vec<u32>>,
+    pub(super) result: Residual,
+}
+
+impl<'a> Walk<'a> {
+    pub(super) fn new(request: Request<'a>) -> Walk<'a> {
+        let text = request.source.text();
+        let evaluation = request.evaluation;
+        let counts = |assignment: &crate::script::tree::Assignment, span: Span| match evaluation {
+            Some(evaluation) => match evaluation.statement_at(span).map(|statement| &statement.kind) {
+                Some(StatementKind::Assign { value, .. }) => value.is_some(),
+                _ => false,
+            },
+            None => {
+                let is_provided = matches!(assignment.provision, Provision::Provide | Provision::ProvideHidden);
+                !is_provided || !(request.defines)(assignment.target.node.as_bstr())
+            }
+        };
+        Walk {
+            request,
+            script: request.script,
+            text,
+            edits: Edits::default(),
+            notes: Vec::new(),
+            versions: Versions::of(request.script, text, &counts),
+            aliases: HashMap::new(),
+            symbols: HashMap::new(),
+            done: HashMap::new(),
+            regions: HashMap::new(),
+            distances: HashMap::new(),
+            dot: 0,
+            section_names: HashSet::new(),
+            foreign: BTreeMap::new(),
+            takers: None,
+            result: Residual::default(),
+        }
+    }
+
+    /// All of it.
+    pub(super) fn run(mut self) -> Residual {
+        self.commands();
+        let insertion = self.memory();
+        self.statements();
+        self.entry(insertion);
+        segments::write(&mut self);
+        self.finish()
+    }
+
+    /// The text, and what is to be said of it.
+    fn finish(mut self) -> Residual {
+        let end = u32::try_from(self.text.len()).unwrap_or(u32::MAX);
+        let asserts: Vec<String> = self
+            .foreign
+            .iter()
+            .filter(|(name, _)| super::profile::is_name(name))
+            .map(|(name, value)| format!("ASSERT({name} == {value:#x}, \"{name} moved\")\n"))
+            .collect();
+        if !asserts.is_empty() {
+            let front = if self.text.last() == Some(&b'\n') { "" } else { "\n" };
+            self.edits.insert(end, i32::MAX, format!("{front}{}", asserts.concat()));
+        }
+        self.result.foreign = self.foreign.iter().map(|(name, value)| (name.clone(), *value)).collect();
+        let rendered = self.edits.render(self.text);
+        self.result.lines = rendered.origins.iter().map(|at| self.request.source.place(*at)).collect();
+        self.result.text = rendered.text;
+        self.notes.sort_by_key(|(at, _)| *at);
+        let mut said = HashSet::new();
+        let notes = self.notes.into_iter().map(|(_, note)| note);
+        self.result.notes = notes.filter(|note| said.insert(note.clone())).collect();
+        self.result
+    }
+
+    // --- what is said ---
+
+    pub(super) fn note(&mut self, kind: NoteKind, at: u32, sentence: impl Into<String>) {
+        self.note_of(kind, Topic::Statement, at, sentence);
+    }
+
+    pub(super) fn note_of(&mut self, kind: NoteKind, topic: Topic, at: u32, sentence: impl Into<String>) {
+        let place = self.request.source.place(at);
+        self.notes.push((at, Note { kind, topic, place, sentence: sentence.into() }));
+    }
+
+    /// The text of a span on one line, for people.
+    pub(super) fn quoted(&self, span: Span) -> String {
+        let own = self.slice(span).trim_with(|c| c == ';' || c == ',' || c.is_whitespace());
+        let words: Vec<String> = own.fields().map(|word| word.to_str_lossy().into_owned()).collect();
+        let line = words.join(" ");
+        match line.char_indices().nth(57) {
+            Some((at, _)) if line.chars().count() > 60 => format!("{}...", line.get(..at).unwrap_or_default()),
+            _ => line,
+        }
+    }
+
+    /// The text of a span.
+    pub(super) fn slice(&self, span: Span) -> &'a BStr {
+        self.text.get(span.start as usize..span.end as usize).unwrap_or_default().as_bstr()
+    }
+
+    /// The text between two offsets without white space and comments.
+    pub(super) fn squeezed(&self, from: u32, to: u32) -> Vec<u8> {
+        squeezed(self.slice(Span { start: from, end: to }))
+    }
+
+    // --- what GNU ld makes ---
+
+    /// The statement that stands at a place.
+    pub(super) fn evaluated(&self, span: Span) -> Option<&'a Statement> {
+        self.request.evaluation?.statement_at(span)
+    }
+
+    /// The value that GNU ld has for an expression.
+    pub(super) fn gnu_value(&self, e: &Expr) -> Option<u64> {
+        Some(self.request.evaluation?.value_at(e.span)?.address)
+    }
+
+    // --- expressions ---
+
+    /// The form of the profile that has the value that GNU ld has: the first of those that a rule gives and others made
+    /// of it; else the number. Without a value of GNU ld's the first.
+    pub(super) fn settle(
+        &mut self,
+        e: &Expr,
+        at: At,
+        needed: Option<u64>,
+        others: &mut dyn FnMut(&mut Walk<'a>, &Expr) -> Vec<(Expr, String)>,
+    ) -> Settled {
+        let mut reasons = Reasons::default();
+        let own = translate(e, &View { walk: self, at }, &mut reasons);
+        let needed = match needed {
+            None => return Settled { e: own, reasons },
+            Some(needed) => needed,
+        };
+        if reasons.missing.is_empty() && self.value_of(&own, at) == Some(needed) {
+            return Settled { e: own, reasons };
+        }
+        for (other, why) in others(self, &own) {
+            if self.value_of(&other, at) == Some(needed) {
+                reasons.say(why);
+                return Settled { e: other, reasons };
+            }
+        }
+        let mut reasons = Reasons { assertions: reasons.assertions, ..Reasons::default() };
+        reasons.say("as the value that GNU ld finds");
+        reasons.is_numeric = true;
+        Settled { e: number(needed), reasons }
+    }
+
+    /// The value that the profile gives an expression at a place.
+    pub(super) fn value_of(&self, e: &Expr, at: At) -> Option<u64> {
+        value(e, &Facts { walk: self, at })
+    }
+
+    /// Takes over what was found with an expression that is written.
+    pub(super) fn take(&mut self, reasons: &Reasons) {
+        for (name, value) in &reasons.foreign {
+            self.foreign.insert(name.clone(), *value);
+        }
+        self.result.has_moving_values |= reasons.is_numeric;
+    }
+
+    /// Writes an expression in place of that of the text, where it is another one.
+    pub(super) fn write_over(&mut self, old: &Expr, settled: &mut Settled) {
+        if says(self.slice(old.span), &settled.e, self.text) {
+            return;
+        }
+        let new = self.written(&settled.e);
+        if settled.reasons.said.is_empty() {
+            settled.reasons.say(format!("as {new}"));
+        }
+        self.edits.replace(self.text, old.span, new);
+    }
+
+    /// The text of an expression; one with too many signs is its value.
+    pub(super) fn written(&self, e: &Expr) -> String {
+        write(e, self.text)
+    }
+
+    /// Says why a statement was changed.
+    pub(super) fn report(&mut self, span: Span, settled: &Settled) {
+        self.take(&settled.reasons);
+        let what = self.quoted(span);
+        for name in &settled.reasons.missing {
+            let why = self.why_missing(name);
+            self.note(NoteKind::Left, span.start, format!("{what}; {why}"));
+        }
+        if !settled.reasons.said.is_empty() {
+            let why = settled.reasons.said.join("; ");
+            self.note(NoteKind::Rewritten, span.start, format!("{what} {why}"));
+        }
+    }
+
+    fn why_missing(&self, name: &BString) -> String {
+        match (self.request.defines)(name.as_bstr()) {
+            true => format!(
+                "an object's symbol has no address while the layout goes on: write `here = .;` before the statement that \
+                 takes its section, use `here` for {name}, and add `ASSERT(here == {name}, \"..\")`"
+            ),
+            false => format!("{name} has no value here"),
+        }
+    }
+}
+
+/// A text without white space and comments.
+pub(super) fn squeezed(text: &[u8]) -> Vec<u8> {
+    let mut rest = text;
+    let mut result = Vec::with_capacity(text.len());
+    while let Some((byte, after)) = rest.split_first() {
+        if rest.starts_with(b"/*") {
+            let end = memchr::memmem::find(after, b"*/").map_or(rest.len(), |end| end + 3);
+            rest = rest.get(end..).unwrap_or_default();
+            continue;
+        }
+        if !byte.is_ascii_whitespace() {
+            result.push(*byte);
+        }
+        rest = after;
+    }
+    result
+}
