@@ -47,6 +47,7 @@ impl<'a> Walk<'a> {
             return self.left_out(section, place, span);
         }
         let emitted = self.name_section(section, span);
+        self.emitted.insert(span.start, emitted.clone());
         self.said_of_head(section, place, span);
         if section.address.as_ref().map_or(section.region.is_none(), uses_dot) {
             self.sync_dot_at(span);

@@ -186,7 +186,7 @@ impl<'a> Walk<'a> {
             if is_linked(one) && takers.get(index).map_or(false, |taker| *taker >= own) {
                 let object = self.request.objects.get(one.object.index()).map_or(&b""[..], |name| name.as_bytes());
                 known.push((object, evaluation.section_name(one).as_bytes(), one.own_align));
-                ids.push(SectionId::at(index));
+                ids.push(SectionId::new(index));
             }
         }
         let taken = form.takes(&known);

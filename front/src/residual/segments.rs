@@ -58,15 +58,7 @@ fn members<'a>(walk: &Walk<'a>) -> Vec<Member<'a>> {
         if place.is_none() && section.constraint.is_some() {
             continue;
         }
-        let name = walk.done.get(&section.name.node).map(|done| done.name.clone());
-        let renamed = walk.result.names.iter().find(|(_, own)| *own == section.name.node);
-        let name = match (name, renamed) {
-            (Some(name), None) => Some(name),
-            (Some(name), Some((other, _))) if place.map(|place| place.address) != walk.address_of(&name) => {
-                Some(other.clone())
-            }
-            (name, _) => name,
-        };
+        let name = walk.emitted.get(&span.start).cloned();
         found.push((name, section.segments.iter().map(|segment| &segment.node).collect()));
     }
     found
@@ -149,7 +141,7 @@ fn kind_of(word: &Name) -> Option<u32> {
         "PT_GNU_EH_FRAME" => elf::PT_GNU_EH_FRAME,
         "PT_GNU_STACK" => elf::PT_GNU_STACK,
         "PT_GNU_RELRO" => elf::PT_GNU_RELRO,
-        "PT_GNU_PROPERTY" => elf::PT_GNU_PROPERTY,
+        "PT_GNU_PROPERTY" => 0x6474_E553,
         _ => return None,
     })
 }

@@ -235,7 +235,7 @@ impl<'a> Walk<'a> {
         let settled = self.settle(e, at, needed, &mut |_, _| Vec::new());
         self.report(span, &settled);
         let text = match says(self.slice(e.span), &settled.e, self.text) {
-            true => self.slice(e.span).trim().to_str_lossy().into_owned(),
+            true => self.slice(e.span).to_str_lossy().trim().to_owned(),
             false => self.written(&settled.e),
         };
         (text, needed.or_else(|| self.value_of(&settled.e, at)))

@@ -65,6 +65,8 @@ pub(super) struct Walk<'a> {
     pub(super) symbols: HashMap<Name, u64>,
     /// The output sections that are complete, by their names in the script.
     pub(super) done: HashMap<Name, Done>,
+    /// The names that output sections have in the result, by the place where each begins.
+    pub(super) emitted: HashMap<u32, Name>,
     /// The regions that are complete.
     pub(super) regions: HashMap<Name, Memory>,
     /// The distance from address to load address of the last section in each region, and in none.
@@ -103,6 +105,7 @@ impl<'a> Walk<'a> {
             aliases: HashMap::new(),
             symbols: HashMap::new(),
             done: HashMap::new(),
+            emitted: HashMap::new(),
             regions: HashMap::new(),
             distances: HashMap::new(),
             dot: 0,
@@ -275,6 +278,13 @@ impl<'a> Walk<'a> {
             ),
             false => format!("{name} has no value here"),
         }
+    }
+}
+
+impl Walk<'_> {
+    /// The name that an output section which comes later will have.
+    pub(super) fn later_section(&self, name: &Name) -> Option<Name> {
+        super::items::sections(self.script).find(|(section, _)| section.name.node == *name).map(|_| name.clone())
     }
 }
 
