@@ -1,0 +1,56 @@
+//! What the words ask for beside a link: version, help, formats, and with `--verbose` the script.
+
+use std::io::Write;
+use std::process::{Command as Process, Stdio};
+
+use bstr::ByteSlice;
+
+use crate::command::{help, Ask, Command};
+use crate::plan::{find_program, Environment, Scripts};
+
+/// The release of GNU ld whose command line this is; the last word of the version, which builds ask for.
+const FOLLOWS: &str = "2.40";
+
+/// Prints it.
+pub(super) fn print(command: &Command, scripts: Option<&Scripts>, environment: &Environment) {
+    let mut out = std::io::stdout();
+    // A reader that has gone away is no fault of the link.
+    let _ = write(&mut out, command, scripts, environment).and_then(|()| out.flush());
+}
+
+fn write(
+    out: &mut dyn Write,
+    command: &Command,
+    scripts: Option<&Scripts>,
+    environment: &Environment,
+) -> std::io::Result<()> {
+    for ask in &command.asks {
+        match ask {
+            Ask::Version => writeln!(out, "{}", version(environment))?,
+            Ask::VersionAndEmulations => {
+                writeln!(out, "{}\n  Supported emulations:\n   elf_x86_64", version(environment))?;
+            }
+            Ask::Help => write!(out, "{}", help())?,
+            Ask::OutputFormat => writeln!(out, "elf64-x86-64")?,
+            Ask::Sysroot => writeln!(out, "{}", command.sysroot.display())?,
+        }
+    }
+    if let (true, Some(scripts)) = (command.is_verbose, scripts) {
+        let kind = if scripts.is_own { "external" } else { "internal" };
+        let line = "=".repeat(50);
+        writeln!(out, "{}\nusing {kind} linker script:\n{line}", version(environment))?;
+        out.write_all(scripts.text.trim_end_with(char::is_whitespace))?;
+        writeln!(out, "\n\n{line}")?;
+    }
+    Ok(())
+}
+
+/// `GNU ld (ldi VERSION) RELEASE`.
+pub(super) fn version(environment: &Environment) -> String {
+    let done = Process::new(find_program("ldi", environment)).arg("--version").stdin(Stdio::null()).output();
+    let own = done.ok().filter(|done| done.status.success()).and_then(|done| {
+        let last = done.stdout.fields().last()?;
+        Some(last.to_str_lossy().into_owned())
+    });
+    format!("GNU ld (ldi {}) {FOLLOWS}", own.as_deref().unwrap_or("unknown"))
+}

@@ -1,0 +1,177 @@
+//! What this linker cannot do, given to another one: `ld.bfd` or `ld` on PATH, or what LDI_FALLBACK names.
+
+use std::ffi::{OsStr, OsString};
+use std::os::unix::ffi::{OsStrExt, OsStringExt};
+use std::os::unix::process::CommandExt;
+use std::path::{Path, PathBuf};
+use std::process::Command as Process;
+
+use super::builds::is_first;
+use super::{say, Status};
+use crate::plan::{is_own, others, Environment};
+
+/// The variable that names another linker.
+const VARIABLE: &str = "LDI_FALLBACK";
+/// What it is where no other linker is to link.
+const NONE: &str = "none";
+/// The names of the linkers on PATH that are taken where it is not set.
+const OTHERS: [&str; 2] = ["ld.bfd", "ld"];
+
+/// Why another linker is needed.
+pub(super) struct Reasons<'a> {
+    lines: Vec<String>,
+    /// What is the same for links that need it for the same reason, of whatever objects; else the lines are.
+    kind: Option<String>,
+    /// Says more than the lines, before them: where nothing links, or with `--verbose`.
+    say_more: Option<&'a dyn Fn()>,
+}
+
+impl<'a> Reasons<'a> {
+    /// These lines.
+    pub(super) fn of(lines: Vec<String>) -> Reasons<'a> {
+        Reasons { lines, kind: None, say_more: None }
+    }
+
+    /// A line of a kind that many links have, and what more there is to say.
+    pub(super) fn of_kind(line: String, kind: &str, say_more: &'a dyn Fn()) -> Reasons<'a> {
+        Reasons { lines: vec![line], kind: Some(kind.into()), say_more: Some(say_more) }
+    }
+
+    fn say_more(&self) {
+        if let Some(say_more) = self.say_more {
+            say_more();
+        }
+    }
+}
+
+/// Why LDI_FALLBACK names no linker.
+#[derive(Debug, PartialEq, Eq, thiserror::Error)]
+enum BadFallback {
+    #[error("{0}: no closing quotation")]
+    Quotation(String),
+    #[error("{0} is ld.ldi itself")]
+    Itself(String),
+    #[error("{0}: no such linker on PATH, other than ld.ldi itself")]
+    Missing(String),
+}
+
+/// The path of a program with its words.
+type Linker = (PathBuf, Vec<OsString>);
+
+/// The linker that is to link; `None` where there is none.
+fn fallback_of(environment: &Environment) -> Result<Option<Linker>, BadFallback> {
+    let text = environment.get(OsStr::new(VARIABLE)).cloned().unwrap_or_default();
+    let shown = text.to_string_lossy().into_owned();
+    let words = words_of(text.as_bytes()).ok_or_else(|| BadFallback::Quotation(shown))?;
+    let first = match words.first() {
+        Some(first) if words.len() == 1 && first == NONE => return Ok(None),
+        Some(first) => first.clone(),
+        None => {
+            let found = OTHERS.iter().find_map(|name| Some((others(name.as_ref(), environment).into_iter().next()?, name)));
+            return Ok(found.map(|(path, name)| (path, vec![OsString::from(*name)])));
+        }
+    };
+    let name = first.to_string_lossy().into_owned();
+    if first.as_bytes().contains(&b'/') {
+        return match is_own(Path::new(&first)) {
+            true => Err(BadFallback::Itself(name)),
+            false => Ok(Some((PathBuf::from(first), words))),
+        };
+    }
+    match others(&first, environment).into_iter().next() {
+        Some(path) => Ok(Some((path, words))),
+        None => Err(BadFallback::Missing(name)),
+    }
+}
+
+/// The words of a text as a shell parts them; `None` where a quotation has no end.
+fn words_of(text: &[u8]) -> Option<Vec<OsString>> {
+    let (mut words, mut word, mut quote) = (Vec::new(), None::<Vec<u8>>, None);
+    let mut bytes = text.iter().copied();
+    while let Some(byte) = bytes.next() {
+        match (quote, byte) {
+            (Some(end), byte) if byte == end => quote = None,
+            (None, b'\'' | b'"') => {
+                quote = Some(byte);
+                word.get_or_insert_with(Vec::new);
+            }
+            (None | Some(b'"'), b'\\') => word.get_or_insert_with(Vec::new).push(bytes.next()?),
+            (None, byte) if byte.is_ascii_whitespace() => words.extend(word.take()),
+            (_, byte) => word.get_or_insert_with(Vec::new).push(byte),
+        }
+    }
+    words.extend(word);
+    quote.is_none().then(|| words.into_iter().map(OsString::from_vec).collect())
+}
+
+/// Runs the other linker in place of this process, with the same words; gives a status where there is none.
+///
+/// That it does is said once a build for reasons of one kind, and always if `is_verbose`.
+pub(super) fn hand_over(
+    reasons: &Reasons<'_>,
+    words: &[OsString],
+    environment: &Environment,
+    is_verbose: bool,
+) -> Status {
+    let (path, program) = match fallback_of(environment) {
+        Err(fault) => return refused(reasons, &format!("{VARIABLE}: {fault}"), Status::Device),
+        Ok(None) => {
+            let is_off = environment.contains_key(OsStr::new(VARIABLE));
+            let why = if is_off { "LDI_FALLBACK names no linker for it" } else { "PATH has no other linker" };
+            return refused(reasons, why, Status::Refused);
+        }
+        Ok(Some(found)) => found,
+    };
+    if is_verbose {
+        reasons.say_more();
+    }
+    let name = program.first().cloned().unwrap_or_default();
+    let text = reasons.lines.join("; ");
+    if is_first(reasons.kind.as_deref().unwrap_or(&text), environment) || is_verbose {
+        say(format!("{text}: linked by {}", name.to_string_lossy()));
+    }
+    // What leads back here ends here.
+    let mut process = Process::new(&path);
+    process.arg0(&name).args(program.get(1..).unwrap_or_default()).args(words).env(VARIABLE, NONE);
+    let fault = process.exec();
+    let why = fault.to_string();
+    let why = why.split(" (os error").next().unwrap_or_default();
+    say(format!("{VARIABLE}: {}: {why}", name.to_string_lossy()));
+    Status::Device
+}
+
+/// Says that nothing links; gives the status.
+fn refused(reasons: &Reasons<'_>, why: &str, status: Status) -> Status {
+    reasons.say_more();
+    for line in &reasons.lines {
+        say(format!("{line}: not made by ldi; {why}"));
+    }
+    status
+}
+
+#[cfg(test)]
+mod tests {
+    use super::*;
+
+    #[test]
+    fn words_are_parted_as_by_a_shell() {
+        let words = |text: &str| words_of(text.as_bytes());
+        assert_eq!(words("a 'b c' \"d\\\"e\" f\\ g").unwrap(), ["a", "b c", "d\"e", "f g"]);
+        assert_eq!(words("").unwrap(), Vec::<OsString>::new());
+        assert_eq!(words("''").unwrap(), [""]);
+        assert_eq!(words("'a"), None);
+    }
+
+    #[test]
+    fn a_variable_names_the_linker() {
+        let with = |text: &str| {
+            let environment = [(VARIABLE, text), ("PATH", "/usr/bin")];
+            fallback_of(&environment.iter().map(|(name, value)| (name.into(), value.into())).collect())
+        };
+        assert_eq!(with("none"), Ok(None));
+        assert_eq!(with("/bin/true -v"), Ok(Some(("/bin/true".into(), vec!["/bin/true".into(), "-v".into()]))));
+        assert_eq!(with("true").unwrap().unwrap().0, PathBuf::from("/usr/bin/true"));
+        assert_eq!(with("no-such-linker"), Err(BadFallback::Missing("no-such-linker".into())));
+        assert_eq!(with("'a"), Err(BadFallback::Quotation("'a".into())));
+    }
+}

@@ -1,0 +1,388 @@
+//! One link, from the command to the files.
+
+use std::ffi::{OsStr, OsString};
+use std::io::Write;
+use std::os::unix::ffi::OsStrExt;
+use std::os::unix::fs::MetadataExt;
+use std::path::{Path, PathBuf};
+
+use bstr::{BStr, ByteSlice};
+
+use super::fallback::{hand_over, Reasons};
+use super::{say, tables};
+use crate::command::Command;
+use crate::finish::{finish, FileImage, FinishError};
+use crate::inputs::InputFault;
+use crate::mirror::{Brought, Mirror, Refusal, SessionError, Wanted};
+use crate::place::{write_file, NotWritten, Reader, PROGRAM, TEXT};
+use crate::plan::{find_program, options_of, Environment, Inputs, LinkPlan, PlanFault, Scripts, ScriptsFault};
+use crate::residual::{Note, NoteKind, Topic};
+use crate::snapshot::{FileId, Snapshot};
+
+/// The refused objects that are named.
+const GREATEST_LIST: usize = 20;
+
+/// The statuses of `ldi link`.
+#[derive(Clone, Copy, PartialEq, Eq, Debug)]
+#[repr(u8)]
+pub enum Status {
+    /// The image is written.
+    Good = 0,
+    /// The link has faults.
+    Faults = 1,
+    /// Words, script or an object are refused.
+    Refused = 2,
+    /// A file cannot be read or written, or the session ended.
+    Device = 3,
+    /// Memory ran out.
+    Memory = 4,
+}
+
+/// Why a link ends without a status of its own.
+#[derive(Debug, thiserror::Error)]
+pub enum LinkFault {
+    /// There is no plan.
+    #[error(transparent)]
+    Plan(PlanFault),
+    /// The session gave no answer.
+    #[error("the session of {program} ended: {fault}")]
+    Session {
+        /// The program.
+        program: String,
+        /// Why.
+        fault: SessionError,
+    },
+    /// The image has no such form.
+    #[error(transparent)]
+    Form(FinishError),
+    /// A file cannot be written.
+    #[error(transparent)]
+    NotWritten(NotWritten),
+    /// A file that was read would be written.
+    #[error("input file '{0}' is the same as output file")]
+    SameFile(String),
+}
+
+impl LinkFault {
+    /// The status of a program that ends by it.
+    pub fn status(&self) -> Status {
+        match self {
+            LinkFault::Plan(PlanFault::Script(ScriptsFault::Missing(_)) | PlanFault::Input(InputFault::Missing(_))) => {
+                Status::Device
+            }
+            LinkFault::Plan(_) | LinkFault::SameFile(_) => Status::Refused,
+            LinkFault::Form(_) => Status::Faults,
+            LinkFault::Session { .. } | LinkFault::NotWritten(_) => Status::Device,
+        }
+    }
+}
+
+impl From<PlanFault> for LinkFault {
+    fn from(fault: PlanFault) -> LinkFault {
+        LinkFault::Plan(fault)
+    }
+}
+
+/// Links, and gives the exit status.
+pub(super) fn link(
+    mut command: Command,
+    scripts: Scripts,
+    mut snapshot: Snapshot,
+    words: &[OsString],
+    environment: &Environment,
+) -> Result<Status, LinkFault> {
+    let inputs = Inputs::load(&command, scripts, &mut snapshot)?;
+    if let (Some(output), false) = (inputs.scripts.output(), command.has_output) {
+        command.output = PathBuf::from(OsStr::from_bytes(output));
+    }
+    if command.traces {
+        inputs.held.iter().for_each(|held| println!("{}", held.name));
+    }
+    check_outputs(&command, &snapshot)?;
+    let mut mirror = Mirror::new(find_program("ldi", environment), None);
+    let program = find_program("ldi", environment);
+    let session = |fault| LinkFault::Session { program: program.to_string_lossy().into_owned(), fault };
+    let plan = opened(&command, inputs, &mut mirror).map_err(session)?;
+    let link = Link { command: &command, plan: &plan, words, environment };
+    if plan.residual.is_left() {
+        return link.left(&mut mirror).map_err(session);
+    }
+    let wanted = Wanted { options: &plan.options, objects: plan.held(), script: &plan.residual.text };
+    let brought = mirror.bring(wanted).map_err(session)?;
+    match link.not_good(&brought, &mut mirror).map_err(session)? {
+        Some(status) => Ok(status),
+        None => link.good(&mut mirror, &session),
+    }
+}
+
+/// The plan, made while the session takes the objects.
+fn opened(command: &Command, inputs: Inputs, mirror: &mut Mirror) -> Result<LinkPlan, SessionError> {
+    let held = inputs.held.clone();
+    let options = options_of(command, None);
+    std::thread::scope(|scope| {
+        let sending = scope.spawn(|| mirror.prepare(&options, &held));
+        let plan = LinkPlan::new(command, inputs);
+        match sending.join() {
+            Ok(sent) => sent.map(|()| plan),
+            Err(_) => Err(SessionError::Ended),
+        }
+    })
+}
+
+/// A link whose plan is made.
+struct Link<'a> {
+    command: &'a Command,
+    plan: &'a LinkPlan,
+    words: &'a [OsString],
+    environment: &'a Environment,
+}
+
+impl Link<'_> {
+    fn path(&self) -> String {
+        self.plan.inputs.scripts.path.display().to_string()
+    }
+
+    /// A script of which something is left: objects that are refused go before.
+    fn left(&self, mirror: &mut Mirror) -> Result<Status, SessionError> {
+        let wanted = Wanted { options: &self.plan.options, objects: self.plan.held(), script: b"" };
+        let brought = mirror.bring(wanted)?;
+        if !brought.refused.is_empty() {
+            return Ok(self.refused(&brought));
+        }
+        let left: Vec<&Note> = self.plan.residual.notes.iter().filter(|note| note.kind == NoteKind::Left).collect();
+        for note in &left {
+            eprintln!("{note}");
+        }
+        self.plan.residual.changed().filter(|note| is_said(note)).for_each(|note| eprintln!("{note}"));
+        say(format!("{}: {} places cannot be linked by ldi; they are named above", self.path(), left.len()));
+        Ok(Status::Refused)
+    }
+
+    /// What ends a link without an image.
+    fn not_good(&self, brought: &Brought, mirror: &mut Mirror) -> Result<Option<Status>, SessionError> {
+        if !brought.refused.is_empty() {
+            return Ok(Some(self.refused(brought)));
+        }
+        if let Some(refusal) = brought.script_refused {
+            self.report();
+            self.say_refusal(&self.path(), refusal);
+            return Ok(Some(if refusal.is_memory() { Status::Memory } else { Status::Refused }));
+        }
+        if !brought.is_good {
+            self.report();
+            self.notes();
+            let faults = mirror.faults()?;
+            self.say_faults(&faults);
+            return Ok(Some(Status::Faults));
+        }
+        Ok(None)
+    }
+
+    /// Objects that are refused go to the other linker, but not for memory.
+    fn refused(&self, brought: &Brought) -> Status {
+        let name = |index: usize| self.plan.held().get(index).map_or_else(String::new, |held| held.name.to_string());
+        let say_more = || {
+            for (index, refusal) in brought.refused.iter().take(GREATEST_LIST) {
+                self.say_refusal(&name(*index), *refusal);
+            }
+        };
+        if brought.refused.iter().any(|(_, refusal)| refusal.is_memory()) {
+            say_more();
+            return Status::Memory;
+        }
+        let first = brought.refused.first().map_or_else(String::new, |(index, _)| name(*index));
+        let more = match brought.refused.len() {
+            0 | 1 => String::new(),
+            count => format!(" and {} others", count - 1),
+        };
+        let line = format!("{first}{more}: outside the profile of ldi");
+        let reasons = Reasons::of_kind(line, "outside the profile of ldi", &say_more);
+        hand_over(&reasons, self.words, self.environment, self.command.is_verbose)
+    }
+
+    fn say_refusal(&self, name: &str, refusal: Refusal) {
+        eprintln!("{name}: refused {} {}", refusal.number, refusal.inner);
+    }
+
+    fn say_faults(&self, faults: &[u8]) {
+        eprint!("{}", faults.to_str_lossy());
+    }
+
+    /// What was done to the script: with `--verbose` all of it.
+    fn report(&self) {
+        for note in &self.plan.residual.notes {
+            let is_wanted = self.command.is_verbose && note.kind != NoteKind::Changed;
+            if is_wanted && note.topic != Topic::Segments {
+                eprintln!("{note}");
+            }
+        }
+        self.plan.residual.changed().filter(|note| self.is_of_image(note)).for_each(|note| eprintln!("{note}"));
+        if let Err(stop) = &self.plan.evaluation {
+            let source = &self.plan.inputs.scripts.reading.source;
+            let place = stop.span().map(|span| source.place(span.start).to_string());
+            let place = place.unwrap_or_else(|| format!("{}:1", self.path()));
+            match stop {
+                crate::layout::Stop::Refused(_) => {
+                    eprintln!("{place}: changed: GNU ld makes no image here: {stop}");
+                }
+                crate::layout::Stop::NotEvaluated(_) => {
+                    eprintln!("{place}: changed: the image was not compared with what GNU ld makes: {stop}");
+                }
+            }
+        }
+    }
+
+    /// Whether a line of what is changed is said of an image: what its comparison says is not.
+    fn is_of_image(&self, note: &Note) -> bool {
+        match self.plan.evaluation {
+            Ok(_) => note.topic == Topic::Beside,
+            Err(_) => is_said(note),
+        }
+    }
+
+    /// Options and inputs of which something is said.
+    fn notes(&self) {
+        self.command.notes.iter().for_each(say);
+    }
+
+    /// Writes the files of a good link.
+    fn good(
+        &self,
+        mirror: &mut Mirror,
+        session: &dyn Fn(SessionError) -> LinkFault,
+    ) -> Result<Status, LinkFault> {
+        let command = self.command;
+        let image = mirror.image().map_err(session)?;
+        let tables = command.prints_memory_usage || command.collects_sections && command.prints_collected;
+        let wants_map = command.map_file.is_some() || command.prints_map || tables;
+        let map = if wants_map { mirror.map().map_err(session)? } else { Vec::new() };
+        mirror.end();
+        self.report();
+        self.notes();
+        let finished = finish(image, &self.plan.form).map_err(LinkFault::Form)?;
+        for note in &finished.notes {
+            say(format!("{}: {note}", self.path()));
+        }
+        self.write_map(&map)?;
+        write(&command.output, &finished.file, PROGRAM)?;
+        self.write_dependencies()?;
+        self.print_tables(&map);
+        Ok(Status::Good)
+    }
+
+    fn write_map(&self, map: &[u8]) -> Result<(), LinkFault> {
+        let path = map_path(self.command);
+        let is_printed = path.as_deref() == Some(Path::new("-"));
+        if self.command.prints_map || is_printed {
+            let mut out = std::io::stdout();
+            // A reader that has gone away is no fault of the link.
+            let _ = out.write_all(map).and_then(|()| out.flush());
+        }
+        match path.filter(|_| !is_printed) {
+            Some(path) => write_file(&path, &[map], TEXT, Reader::IsWaitedFor).map_err(LinkFault::NotWritten),
+            None => Ok(()),
+        }
+    }
+
+    /// The files that were read, as a rule of make.
+    fn write_dependencies(&self) -> Result<(), LinkFault> {
+        let path = match &self.command.dependency_file {
+            Some(path) => path,
+            None => return Ok(()),
+        };
+        let inputs = &self.plan.inputs;
+        let mut names: Vec<&[u8]> = Vec::new();
+        for file in inputs.scripts.files.iter().chain(&inputs.loaded.files) {
+            let name = file.as_os_str().as_bytes();
+            if !names.contains(&name) {
+                names.push(name);
+            }
+        }
+        let mut text = [self.command.output.as_os_str().as_bytes(), b": \\\n"].concat();
+        let listed: Vec<Vec<u8>> = names.iter().map(|name| [b"  ", *name].concat()).collect();
+        text.extend(listed.join(&b" \\\n"[..]));
+        text.push(b'\n');
+        for name in names {
+            text.extend([b"\n", name, b":\n"].concat());
+        }
+        write_file(path, &[&text], TEXT, Reader::IsWaitedFor).map_err(LinkFault::NotWritten)
+    }
+
+    fn print_tables(&self, map: &[u8]) {
+        if self.command.collects_sections && self.command.prints_collected {
+            tables::removed_sections(self.plan.inputs.objects(), map).iter().for_each(say);
+        }
+        if self.command.prints_memory_usage {
+            if let Ok(evaluation) = &self.plan.evaluation {
+                let mut out = std::io::stdout();
+                let _ = out.write_all(tables::memory_usage(evaluation).as_bytes()).and_then(|()| out.flush());
+            }
+        }
+    }
+}
+
+/// Whether a line of what is changed is said at all: program headers and the form are written after the link.
+fn is_said(note: &Note) -> bool {
+    !matches!(note.topic, Topic::Segments | Topic::Form)
+}
+
+fn write(path: &Path, file: &FileImage, mode: rustix::fs::Mode) -> Result<(), LinkFault> {
+    let mut pieces: Vec<&[u8]> = Vec::new();
+    let zeros = vec![0; gap_most(file)];
+    let mut end = 0;
+    for (at, bytes) in file.pieces() {
+        pieces.push(zeros.get(..(at - end) as usize).unwrap_or_default());
+        pieces.push(bytes);
+        end = at + bytes.len() as u64;
+    }
+    write_file(path, &pieces, mode, Reader::IsWaitedFor).map_err(LinkFault::NotWritten)
+}
+
+/// The greatest gap between two pieces.
+fn gap_most(file: &FileImage) -> usize {
+    let mut end = 0;
+    let mut most = 0;
+    for (at, bytes) in file.pieces() {
+        most = most.max(at - end);
+        end = at + bytes.len() as u64;
+    }
+    usize::try_from(most).unwrap_or(0)
+}
+
+/// The file of the map: in a folder the image's name with `.map`; `%` stands for the image's path.
+fn map_path(command: &Command) -> Option<PathBuf> {
+    let path = command.map_file.as_ref()?;
+    let output = command.output.as_os_str().as_bytes();
+    if path.is_dir() {
+        let mut name = command.output.file_name().unwrap_or_default().to_owned();
+        name.push(".map");
+        return Some(path.join(name));
+    }
+    let bytes = path.as_os_str().as_bytes();
+    match bytes.find_byte(b'%') {
+        None => Some(path.clone()),
+        Some(at) => {
+            let (front, rest) = bytes.split_at(at);
+            let rest = rest.get(1..).unwrap_or_default();
+            let end: &[u8] = if rest.is_empty() { b".map" } else { b"" };
+            Some(PathBuf::from(OsStr::from_bytes(&[front, output, rest, end].concat())))
+        }
+    }
+}
+
+/// No file that was read is written.
+fn check_outputs(command: &Command, snapshot: &Snapshot) -> Result<(), LinkFault> {
+    let map = map_path(command);
+    let written = [Some(command.output.as_path()), map.as_deref(), command.dependency_file.as_deref()];
+    for path in written.into_iter().flatten() {
+        let id = match std::fs::metadata(path) {
+            Ok(found) if found.is_file() => FileId { device: found.dev(), inode: found.ino() },
+            _ => continue,
+        };
+        if let Some(name) = snapshot.name_of(id) {
+            let name: &BStr = name.as_os_str().as_bytes().as_bstr();
+            return Err(LinkFault::SameFile(name.to_string()));
+        }
+    }
+    Ok(())
+}
