@@ -10,7 +10,8 @@ from collections.abc import Mapping
 from pathlib import Path
 
 ROOT = Path(__file__).resolve().parents[2]
-LD_LDI = ROOT / "client" / "bin" / "ld.ldi"
+LD_LDI = Path(os.environ.get("LD_LDI") or ROOT / "client" / "bin" / "ld.ldi")
+"""The program that the tests of `ld.ldi` drive: $LD_LDI where it names another one."""
 LDI_GDB = ROOT / "client" / "bin" / "ldi-gdb"
 EXAMPLE = ROOT / "examples" / "linux"
 FLAGS = ("-O2", "-ffreestanding", "-fno-pic", "-fno-stack-protector", "-ffunction-sections", "-fdata-sections")

@@ -3,9 +3,9 @@
 //! [`Inputs::load`] reads scripts and objects; [`LinkPlan::new`] lays the script out over the objects and writes it in the
 //! profile. [`LinkPlan::replan`] is the same plan with other bytes of some objects.
 
-mod link_objects;
 mod programs;
 mod scripts;
+mod settings;
 
 use std::path::PathBuf;
 
@@ -14,15 +14,14 @@ use bstr::{BStr, BString, ByteSlice};
 use crate::command::{Command, Orphans, OutputFormat};
 use crate::finish::{Form, PAGE};
 use crate::inputs::{self, InputFault, Loaded, ScriptInputs};
-use crate::layout::ids::ObjectId;
 use crate::layout::{Evaluation, Layout, Settings, Stop};
 use crate::mirror::{self, Held};
-use crate::objects::Object;
+use crate::objects::{Object, ObjectIndex};
 use crate::residual::{residual, Request, Residual};
 use crate::snapshot::Snapshot;
-pub use link_objects::{link_objects, settings_of};
 pub use programs::{find_program, is_own, others, Environment, WITHIN};
 pub use scripts::{Scripts, ScriptsFault};
+pub use settings::settings_of;
 
 /// Why there is no plan.
 #[derive(Debug, thiserror::Error)]
@@ -141,17 +140,16 @@ impl LinkPlan {
         self.inputs.held = held_of(&loaded.objects);
         self.inputs.loaded = loaded;
         let settings = settings_of(command, &self.inputs.scripts);
-        let objects = link_objects(self.inputs.objects(), settings.gc.is_some());
-        let changed: Vec<ObjectId> = others.into_iter().map(ObjectId::new).collect();
-        let kept = self.layout.take().and_then(|mut layout| layout.renew(&objects, &changed).then_some(layout));
+        let objects = self.inputs.objects();
+        let changed: Vec<ObjectIndex> = others.into_iter().map(|at| ObjectIndex(at as u32)).collect();
+        let kept = self.layout.take().and_then(|mut layout| layout.renew(objects, &changed).then_some(layout));
         let (layout, evaluation) = match kept {
             Some(layout) => {
-                let evaluation = layout.evaluate(&objects);
+                let evaluation = layout.evaluate(objects);
                 (Some(layout), evaluation)
             }
             None => laid_out(&self.inputs, &settings),
         };
-        drop(objects);
         Some(LinkPlan::with_layout(command, self.inputs, layout, evaluation))
     }
 
@@ -162,10 +160,9 @@ impl LinkPlan {
 }
 
 fn laid_out(inputs: &Inputs, settings: &Settings) -> (Option<Layout>, Result<Evaluation, Stop>) {
-    let objects = link_objects(inputs.objects(), settings.gc.is_some());
-    match Layout::new(&inputs.scripts.reading.script, &objects, settings) {
+    match Layout::new(&inputs.scripts.reading.script, inputs.objects(), settings) {
         Ok(layout) => {
-            let evaluation = layout.evaluate(&objects);
+            let evaluation = layout.evaluate(inputs.objects());
             (Some(layout), evaluation)
         }
         Err(stop) => (None, Err(stop)),

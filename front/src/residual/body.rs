@@ -242,7 +242,7 @@ impl<'a> Walk<'a> {
                     text.push(self.gap_text(body, one.offset, gap));
                 }
             }
-            let object = self.request.objects.get(one.object.index()).copied().unwrap_or_default();
+            let object = self.request.objects.get(one.object.0 as usize).copied().unwrap_or_default();
             let name = evaluation.section_name(one);
             let key = (one.object, one.name);
             if before != Some(key) {

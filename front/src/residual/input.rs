@@ -184,7 +184,7 @@ impl<'a> Walk<'a> {
         let mut known = Vec::new();
         for (index, one) in evaluation.sections.iter().enumerate() {
             if is_linked(one) && takers.get(index).map_or(false, |taker| *taker >= own) {
-                let object = self.request.objects.get(one.object.index()).map_or(&b""[..], |name| name.as_bytes());
+                let object = self.request.objects.get(one.object.0 as usize).map_or(&b""[..], |name| name.as_bytes());
                 known.push((object, evaluation.section_name(one).as_bytes(), one.own_align));
                 ids.push(SectionId::new(index));
             }

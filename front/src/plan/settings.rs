@@ -1,0 +1,52 @@
+//! What a command says of a layout.
+
+use bstr::{BString, ByteSlice};
+
+use super::Scripts;
+use crate::command::{Command, Input, Orphans};
+use crate::layout::settings::{GcSettings, OrphanHandling};
+use crate::layout::Settings;
+
+/// What a command and its scripts say of a layout.
+pub fn settings_of(command: &Command, scripts: &Scripts) -> Settings {
+    let mut settings = Settings {
+        paged: !command.is_omagic,
+        text_read_only: !command.is_omagic,
+        undefined: undefined_of(command, scripts),
+        entry: command.entry.clone(),
+        section_starts: command.section_starts.iter().map(|(name, address)| (name.clone(), *address)).collect(),
+        script_first: scripts.is_own && script_is_first(command),
+        ..Settings::default()
+    };
+    settings.set_pages(command.page_size, command.common_page_size);
+    for word in &command.keywords {
+        match word.as_bytes() {
+            b"relro" => settings.relro = true,
+            b"norelro" => settings.relro = false,
+            b"separate-code" => settings.separate_code = true,
+            b"noseparate-code" => settings.separate_code = false,
+            _ => {}
+        }
+    }
+    if command.orphans == Some(Orphans::Discard) {
+        settings.orphans = OrphanHandling::Discard;
+    }
+    settings.gc = command.collects_sections.then(|| GcSettings {
+        init: command.init.clone(),
+        fini: command.fini.clone(),
+        keeps_exported: command.keeps_exported,
+        start_stop_gc: command.collects_start_stop,
+    });
+    settings
+}
+
+fn undefined_of(command: &Command, scripts: &Scripts) -> Vec<BString> {
+    let of_scripts = scripts.parts.iter().flat_map(|part| &part.undefined);
+    command.undefined.iter().chain(&command.required).chain(of_scripts).cloned().collect()
+}
+
+/// Whether a script stands before the first object.
+fn script_is_first(command: &Command) -> bool {
+    let mut named = command.inputs.iter().filter(|input| !matches!(input, Input::StartGroup | Input::EndGroup));
+    matches!(named.next(), Some(Input::Script(..)))
+}
