@@ -16,6 +16,8 @@ pub enum Base {
     Absolute,
     /// The undefined section, of what is assigned in a section that is never made.
     Nowhere,
+    /// The start of an input section, before it has a place.
+    Section(SectionId),
     /// The start of an output section.
     Output(OutputId),
 }

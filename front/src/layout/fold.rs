@@ -222,12 +222,12 @@ impl Link<'_> {
             return not_evaluated(NotEvaluatedReason::SymbolSection(symbol.name.clone()), self.span(e));
         }
         let (mut base, mut value) = (symbol.base, symbol.value);
-        if let Some(section) = symbol.section.and_then(|section| self.section(section)) {
+        if let Some((id, section)) = symbol.section.and_then(|id| Some((id, self.section(id)?))) {
             match section.fate {
                 Fate::Open if self.phase > Phase::Mark => {
                     return refused(RefusedReason::UnresolvableSymbol(symbol.name.clone()), self.span(e));
                 }
-                Fate::Open => return Ok(Folded::of(value, Base::Nowhere)),
+                Fate::Open => return Ok(Folded::of(value, Base::Section(id))),
                 Fate::Discarded => base = Base::Absolute,
                 Fate::Output(output) => base = Base::Output(output),
             }

@@ -119,7 +119,7 @@ impl<'a> Link<'a> {
     pub fn base_address(&self, base: Base) -> u64 {
         match base {
             Base::Output(id) => self.place(id).map_or(0, |place| place.address),
-            Base::Number | Base::Absolute | Base::Nowhere => 0,
+            Base::Number | Base::Absolute | Base::Nowhere | Base::Section(_) => 0,
         }
     }
 

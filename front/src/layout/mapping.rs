@@ -45,7 +45,6 @@ impl Link<'_> {
                 (None, name) => (name, &b""[..]),
             })
             .collect();
-        self.keep(rows);
         for id in self.program.top.clone() {
             match self.step(id).map(|step| step.kind.clone()) {
                 Some(StepKind::Output(output)) => self.map_output(output, rows, &files)?,
@@ -58,7 +57,7 @@ impl Link<'_> {
     }
 
     /// What a statement under KEEP matches is kept.
-    fn keep(&mut self, rows: &Rows) {
+    pub fn keep(&mut self, rows: &Rows) {
         for (taking, matches) in self.program.takings.iter().zip(&rows.matches) {
             if taking.node.is_kept {
                 for one in matches {

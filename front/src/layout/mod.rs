@@ -34,6 +34,7 @@ mod sorting;
 mod special;
 pub mod stop;
 mod symbols;
+mod unwinding;
 mod values;
 
 pub use evaluation::Evaluation;

@@ -42,7 +42,8 @@ pub(crate) fn run(program: Program, rows: &Rows, objects: &[Object], settings: &
     link.phase = Phase::First;
     link.place_commons(objects, rows);
     link.pass += 1;
-    link.collect(objects, rows)?;
+    link.keep(rows);
+    link.collect(objects, rows);
     link.set_addresses()?;
     link.map(rows, objects)?;
     link.insert_statements()?;

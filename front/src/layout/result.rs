@@ -8,7 +8,8 @@ use super::expression::value_of;
 use super::flags::Flags;
 use super::ids::{OutputId, StatementId, SymbolId};
 use super::link::Link;
-use super::program::{Output, Place, Step, StepKind};
+use super::names::QuickMap;
+use super::program::{Output, OutputKind, Place, Step, StepKind};
 use super::symbols::SymbolState;
 use super::values::width_of;
 use crate::script::tree::Name;
@@ -23,7 +24,7 @@ impl Link<'_> {
         let entry = self.entry();
         let mut found = Evaluation {
             statements: self.program.steps.iter().map(|step| self.statement(step)).collect(),
-            outputs: self.program.outputs.iter().map(|output| self.output_result(output)).collect(),
+            outputs: self.outputs(),
             symbols: self.program.symbols.iter().map(|symbol| self.symbol_result(symbol)).collect(),
             regions: self.program.regions.iter().map(region_result).collect(),
             order: self.program.order.clone(),
@@ -163,21 +164,54 @@ impl Link<'_> {
         })
     }
 
-    fn output_result(&self, output: &Output) -> OutputSection {
+    fn outputs(&self) -> Vec<OutputSection> {
+        let mut segments = self.segments();
+        let with_segments = |(number, output): (usize, &Output)| {
+            let own = segments.remove(&OutputId::new(number)).unwrap_or_default();
+            self.output_result(output, own)
+        };
+        self.program.outputs.iter().enumerate().map(with_segments).collect()
+    }
+
+    /// The segments of the output sections: those that a section names, else those of the last one before it that names
+    /// some, else of the first one (ldlang.c, `lang_record_phdrs`).
+    fn segments(&self) -> QuickMap<OutputId, Vec<Name>> {
+        let of = |id: &OutputId| self.output(*id).filter(|output| output.counts()).map(|output| &output.segments);
+        let mut last = self.program.order.iter().filter_map(of).find(|segments| !segments.is_empty());
+        let mut found = QuickMap::default();
+        for id in &self.program.order {
+            let output = match self.output(*id) {
+                Some(output) if output.counts() => output,
+                _ => continue,
+            };
+            if !output.segments.is_empty() {
+                last = Some(&output.segments);
+            } else if output.kind == OutputKind::NoLoad
+                || !output.place.as_ref().map_or(false, |place| place.flags.has(Flags::ALLOC))
+            {
+                continue;
+            }
+            found.insert(*id, last.cloned().unwrap_or_default());
+        }
+        found
+    }
+
+    fn output_result(&self, output: &Output, segments: Vec<Name>) -> OutputSection {
+        let is_in_segment = self.program.phdrs.is_none() || segments.iter().any(|segment| segment != "NONE");
         OutputSection {
             name: self.program.names.get(output.name).into(),
             span: self.step(output.statement).and_then(|step| step.span),
             is_orphan: output.is_orphan,
             body: output.body.clone(),
-            place: output.place.as_ref().map(|place| self.placed(place)),
+            place: output.place.as_ref().map(|place| self.placed(place, is_in_segment)),
             region: output.region,
             load_region: output.load_region,
-            segments: output.segments.clone(),
+            segments,
             has_own_address: output.address.is_some(),
         }
     }
 
-    fn placed(&self, place: &Place) -> Placed {
+    fn placed(&self, place: &Place, is_in_segment: bool) -> Placed {
         let merging = |section: &InputSection| section.flags.has(Flags::MERGE);
         let merges =
             place.flags.has(Flags::MERGE) && place.inputs.iter().filter_map(|id| self.section(*id)).any(merging);
@@ -187,7 +221,7 @@ impl Link<'_> {
             size: place.size,
             align: place.align,
             flags: place.flags,
-            kind: kind_of(place),
+            kind: kind_of(place, is_in_segment),
             bits: place.bits | bits_of(place.flags),
             entry_size: if merges { place.entry_size } else { 0 },
             is_gone: place.is_gone,
@@ -197,12 +231,15 @@ impl Link<'_> {
 }
 
 /// The type in the section header (elf.c, `elf_fake_sections`).
-fn kind_of(place: &Place) -> u32 {
+fn kind_of(place: &Place, is_in_segment: bool) -> u32 {
     // elf.c, `assign_file_positions_for_load_sections`: what has no bytes in a PT_LOAD is SHT_NOBITS.
-    if place.flags.has(Flags::ALLOC) && !place.flags.has(Flags::LOAD | Flags::CONTENTS) {
+    if is_in_segment && place.flags.has(Flags::ALLOC) && !place.flags.has(Flags::LOAD | Flags::CONTENTS) {
         return elf::SHT_NOBITS;
     }
     let by_flags = match place.own_kind {
+        elf::SHT_NULL if place.flags.has(Flags::ALLOC) && !place.flags.has(Flags::LOAD | Flags::CONTENTS) => {
+            elf::SHT_NOBITS
+        }
         elf::SHT_NULL => elf::SHT_PROGBITS,
         own => own,
     };
