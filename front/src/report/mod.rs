@@ -22,3 +22,6 @@ pub use json::{json_string, JsonObject};
 pub use plain::plain;
 pub use refusals::{first_of, refusals_of_object, refusals_of_script, RefusedInput};
 pub use render::{has_colours, Style};
+
+#[cfg(test)]
+mod tests;

@@ -163,12 +163,18 @@ fn of_line(reason: &str) -> Option<(u32, String)> {
 
 /// The sections, symbols or relocations that an object is refused for, as far as they are known.
 fn places_of(object: &Object, inner: u32) -> Vec<Diagnostic> {
-    match inner {
-        7 => object.sections().filter_map(|section| of_section(object, &section)).take(MOST_PLACES).collect(),
+    let is_tls = |need: Need| need == Need::Tls;
+    let mut found: Vec<Diagnostic> = match inner {
+        7 => object.sections().filter_map(|section| of_section(object, &section)).collect(),
         9 => of_symbols(object),
-        11 => of_relocations(object),
+        11 => of_relocations(object, &|_| true),
         _ => Vec::new(),
+    };
+    if !found.is_empty() && inner != 11 {
+        found.extend(of_relocations(object, &is_tls));
     }
+    found.truncate(MOST_PLACES);
+    found
 }
 
 /// A loaded section with thread-local storage, with its first symbol.
@@ -209,19 +215,21 @@ fn of_symbols(object: &Object) -> Vec<Diagnostic> {
     found
 }
 
-/// The relocations whose types are not linked: of each type and symbol the first one, with its place in the source.
-fn of_relocations(object: &Object) -> Vec<Diagnostic> {
+/// The relocations whose types are not linked and need what is meant: of each type and symbol the first one, with its place
+/// in the source.
+fn of_relocations(object: &Object, is_meant: &dyn Fn(Need) -> bool) -> Vec<Diagnostic> {
     let mut names = Names::new(std::slice::from_ref(object));
     let mut seen = HashSet::new();
     let mut found = Vec::new();
     for section in object.sections().filter(Section::is_loaded) {
         for relocation in object.relocations(section.index) {
             let is_known = RELOCATIONS.iter().any(|row| row.number == relocation.kind);
+            let is_known = is_known || !is_meant(need_of(relocation.kind));
             if is_known || found.len() == MOST_PLACES || !seen.insert((relocation.kind, relocation.symbol)) {
                 continue;
             }
-            let is_meant = |_: &Object, other: Relocation| other == relocation;
-            let site = names.site(object.name(), section.name, relocation.offset, &is_meant);
+            let is_it = |_: &Object, other: Relocation| other == relocation;
+            let site = names.site(object.name(), section.name, relocation.offset, &is_it);
             let target = object.symbol(relocation.symbol).map(|symbol| symbol_name(object, &symbol));
             let target = target.filter(|name| !name.is_empty()).map(|name| format!(" against `{name}'"));
             let what = format!("{}{}", relocation_name(relocation.kind), target.unwrap_or_default());

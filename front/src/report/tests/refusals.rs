@@ -1,0 +1,139 @@
+//! A sentence for each refusal of an edit, of an object and of a script.
+
+use std::ffi::OsStr;
+use std::path::{Path, PathBuf};
+
+use super::super::rules::{OBJECTS, SCRIPTS};
+use super::super::{first_of, refusals_of_object, refusals_of_script, Diagnostic, RefusedInput};
+use super::{assembled, compiled, object};
+use crate::mirror::{Refusal, GREATEST_PAYLOAD};
+use crate::script::Place;
+
+fn input<'a>(name: &'a str, number: u32, inner: u32, data: Option<&'a [u8]>) -> RefusedInput<'a> {
+    RefusedInput { name: name.into(), refusal: Refusal { number, inner }, data, ldi: OsStr::new("/none/ldi") }
+}
+
+fn texts(found: &[Diagnostic]) -> Vec<String> {
+    found.iter().map(ToString::to_string).collect()
+}
+
+#[test]
+fn refusals_that_are_not_of_the_bytes() {
+    let long = vec![0; GREATEST_PAYLOAD + 1];
+    for (name, number, data, wanted) in [
+        ("a.o", 1, &b""[..], "a.o: an object of this name is there already [a.o: refused 1 0]"),
+        ("a.o", 2, b"", "a.o: there is no object of this name [a.o: refused 2 0]"),
+        ("a.o", 3, b"", "a.o: the position is past the end of the objects [a.o: refused 3 0]"),
+        ("a.o", 7, b"", "a.o: out of memory [a.o: refused 7 0]"),
+        ("a.o", 9, b"", "a.o: refused 9 0 [a.o: refused 9 0]"),
+        ("a.o", 6, &long, "a.o: it has more than 67108864 bytes [a.o: refused 6 0]"),
+        (
+            "b.o",
+            6,
+            b"",
+            "b.o: there are 4,096 objects already, which is the most that a link may have [b.o: refused 6 0]",
+        ),
+        (
+            "\u{e4}.o",
+            6,
+            b"",
+            "\u{e4}.o: its name has the byte 0xc3: an object's name has 1 to 255 bytes, each from `!' to `~' [\u{e4}.o: \
+             refused 6 0]",
+        ),
+    ] {
+        assert_eq!(texts(&refusals_of_object(&input(name, number, 0, Some(data)), None)), [wanted]);
+    }
+}
+
+#[test]
+fn without_programs_the_tables_speak() {
+    for (inner, sentence) in OBJECTS {
+        let found = refusals_of_object(&input("a", 4, *inner, Some(b"\x7fELF")), None);
+        assert_eq!(texts(&found), [format!("a: {sentence} [a: refused 4 {inner}]")]);
+    }
+    for (inner, sentence) in SCRIPTS {
+        let found = refusals_of_script(&input("a", 5, *inner, Some(b"x")), &|_| None);
+        assert_eq!(texts(&found), [format!("a: {sentence} [a: refused 5 {inner}]")]);
+    }
+}
+
+#[test]
+fn files_that_are_no_elf_files() {
+    let found = refusals_of_object(&input("a", 4, 2, Some(b"BC\xc0\xde....")), None);
+    assert!(texts(&found)[0].contains("; it is LLVM's bitcode, which has no code: compile without -flto ["));
+}
+
+#[test]
+fn a_relocation_is_named_with_its_type_symbol_and_place() {
+    let source = "extern int g;\n\n\nint *p(void) { return &g; }";
+    let data = match compiled(source, &["-fPIC", "-g"]) {
+        Some(data) => data,
+        None => return,
+    };
+    let found = refusals_of_object(&input("a.o", 4, 11, None), Some(&object("a.o", data)));
+    let wanted = "/project/text.c:4: (a.o .text+0x3): R_X86_64_REX_GOTPCRELX against `g' needs a global offset table, and \
+        there is none; compile with -fno-pic -mcmodel=small, or -mcmodel=kernel for the upper 2 GB, and without -fno-plt \
+        [a.o: refused 4 11]";
+    assert_eq!(texts(&found), [wanted]);
+}
+
+#[test]
+fn of_each_type_and_symbol_the_first_relocation_is_named() {
+    let data = match assembled("mov g@GOTPCREL(%rip), %rax\nmov g@GOTPCREL(%rip), %rax\n.quad h@size") {
+        Some(data) => data,
+        None => return,
+    };
+    let found = texts(&refusals_of_object(&input("a.o", 4, 11, None), Some(&object("a.o", data))));
+    assert_eq!(found.len(), 2);
+    assert!(found[0].starts_with("a.o: (.text+0x3): R_X86_64_REX_GOTPCRELX against `g' needs"), "{}", found[0]);
+    assert!(found[1].starts_with("a.o: (.text+0xe): R_X86_64_SIZE64 against `h' is a relocation"), "{}", found[1]);
+}
+
+#[test]
+fn tls_is_called_tls() {
+    let tls = "there is no TLS: no __thread, thread_local or #[thread_local]";
+    let own = ".section .tdata,\"awT\",@progbits\n.globl v\nv: .long 1\n.size v, 4\n.type v, @object";
+    let (own, other) = match (assembled(own), assembled("mov e@tpoff, %eax")) {
+        (Some(own), Some(other)) => (own, other),
+        _ => return,
+    };
+    let found = texts(&refusals_of_object(&input("a.o", 4, 7, None), Some(&object("a.o", own))));
+    let section = "a.o: (.tdata): this section with `v' is thread-local storage (TLS), which is not linked";
+    assert_eq!(found, [format!("{section}; {tls} [a.o: refused 4 7]")]);
+    let found = texts(&refusals_of_object(&input("a.o", 4, 9, None), Some(&object("a.o", other))));
+    let symbol = "a.o: `e' is thread-local storage (TLS), which is not linked";
+    let relocation =
+        "a.o: (.text+0x3): R_X86_64_TPOFF32 against `e' is of thread-local storage (TLS), which is not linked";
+    assert_eq!(found, [symbol, relocation].map(|what| format!("{what}; {tls} [a.o: refused 4 9]")));
+}
+
+/// A program in place of `readscript`, which says several places, and lines that go on with the one above.
+#[test]
+fn a_message_for_each_place_that_a_program_says() {
+    use std::os::unix::fs::PermissionsExt;
+    let folder = std::env::temp_dir().join(format!("ldi-front-places-{}", std::process::id()));
+    let program = folder.join("readscript");
+    let said = "f: refused 5 2\n  line 2: first\n    and so\n  line 1: second\n  all of it\n";
+    let write = || -> std::io::Result<()> {
+        std::fs::create_dir_all(&folder)?;
+        std::fs::write(&program, format!("#!/bin/sh\ncat << 'E'\n{said}E\n"))?;
+        std::fs::set_permissions(&program, std::fs::Permissions::from_mode(0o755))
+    };
+    write().unwrap_or_else(|error| panic!("{error}"));
+    let ldi = folder.join("ldi").into_os_string();
+    let refused = RefusedInput { ldi: &ldi, ..input("image.ld", 5, 2, Some(b"a\nb")) };
+    let origin = |line: u32| (line == 1).then(|| Place { path: PathBuf::from(Path::new("b.ld")), line: 9, column: 1 });
+    let found = refusals_of_script(&refused, &origin);
+    let other = refusals_of_script(&RefusedInput { refusal: Refusal { number: 5, inner: 3 }, ..refused }, &origin);
+    let _ = std::fs::remove_dir_all(&folder);
+    let rule = "[image.ld: refused 5 2]";
+    let wanted = [
+        format!("image.ld:2: first; and so: b {rule}"),
+        format!("b.ld:9: second: a {rule}"),
+        format!("image.ld: all of it {rule}"),
+    ];
+    assert_eq!(texts(&found), wanted);
+    let first = first_of(&found).map(|first| first.to_string());
+    assert_eq!(first, Some(format!("image.ld:2: first; and so; and 2 more places: b {rule}")));
+    assert!(texts(&other)[0].contains("something is given twice"), "another number is not believed");
+}
