@@ -118,7 +118,7 @@ impl<'a> Marked<'a> {
             .iter()
             .flat_map(|object| object.globals())
             .filter(|symbol| symbol.visibility.is_hidden())
-            .map(|symbol| <&[u8]>::from(symbol.name))
+            .map(|symbol| -> &[u8] { symbol.name })
             .collect();
         let all: Vec<SectionId> = self
             .names
@@ -189,7 +189,7 @@ impl<'a> Marked<'a> {
             }
             return;
         }
-        match self.names.get(<&[u8]>::from(symbol.name)).copied() {
+        match self.names.get(&**symbol.name).copied() {
             Some(Target::Section(section)) => self.mark(section),
             Some(Target::All(name)) => {
                 self.names.insert(bytes_of(self.objects, index, symbol.index), Target::Nothing);
@@ -302,7 +302,7 @@ fn names_of<'a>(
                 Some(rank) => rank,
             };
             let size = if rank == Rank::Common { symbol.size } else { 0 };
-            let name = <&[u8]>::from(symbol.name);
+            let name: &[u8] = symbol.name;
             if found.get(name).map_or(false, |(old, old_size, _)| (*old, *old_size) >= (rank, size)) {
                 continue;
             }
