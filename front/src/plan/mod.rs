@@ -201,5 +201,5 @@ fn form_of(command: &Command, scripts: &Scripts, residual: &Residual) -> Form {
 }
 
 fn is_binary(part: &ScriptInputs) -> bool {
-    part.output_format == Some(OutputFormat::Binary)
+    part.image_format() == Some(OutputFormat::Binary)
 }
