@@ -6,7 +6,7 @@ import re
 import shutil
 import unittest
 
-from client.tests.outside.programs import LD_LDI, LDI, LDI_ADAPT, LDI_GDB, LDI_WATCH, OutsideTest, needs
+from client.tests.outside.programs import LD_LDI, LDI, LDI_ADAPT, LDI_GDB, LDI_WATCH, ROOT, OutsideTest, needs
 
 START = ".globl _start\n_start: nop\n"
 PLAIN = """ENTRY(_start)
@@ -75,6 +75,29 @@ class WordsTest(OutsideTest):
             done = self.run_program(LDI_WATCH, "--once", "-T", "plain.ld", "-o", "out", name)
             if done.returncode:  # a watch may also take the name, as `ld.ldi` does
                 self.assertIn(byte, done.stdout + done.stderr)
+
+
+class ExampleTest(OutsideTest):
+    """What the manual shows."""
+
+    @needs("make", "gcc", "addr2line")
+    def test_addresses_of_a_log(self) -> None:
+        """The objects of the example have the source lines that the manual's output of `ldi-gdb --lines` has."""
+        for file in (ROOT / "examples" / "linux").iterdir():
+            if file.is_file():
+                shutil.copy(file, self.folder)
+        names = ("system.o", "text.o", "main.o")
+        self.must("make", *names)
+        self.must(LDI, "link", "--gc-sections", "-T", "linux.ld", "-o", "hello", "--Map", "hello.map", *names)
+        for line in self.must(LDI_GDB, "--lines", "hello.map", "401013").splitlines():
+            self.assertRegex(line, r"system\.c:[0-9]+")
+
+    @unittest.expectedFailure  # the tip of the words of `ldi` is of an option `-M`
+    def test_tip(self) -> None:
+        """`ldi link -Map` is told `--Map`."""
+        done = self.run_program(LDI, "link", "-T", "t.ld", "-o", "out", "-Map", "map", "a.o")
+        self.assertEqual(done.returncode, 2)
+        self.assertIn("--Map", done.stderr.split("Usage:")[0])
 
 
 @needs("ld.bfd")
