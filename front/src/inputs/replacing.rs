@@ -4,33 +4,44 @@ use super::names::NameState;
 use super::{Archive, Loaded};
 use crate::command::Command;
 use crate::objects::Object;
-use crate::snapshot::Snapshot;
+use crate::snapshot::{Bytes, Snapshot};
 use bstr::{BStr, BString};
 use std::collections::{HashMap, HashSet};
-use std::path::PathBuf;
+use std::path::{Path, PathBuf};
 
 impl Loaded {
-    /// The same link where some files have other bytes now. `None` where it must be loaded anew: a file is not an object
-    /// of its own, is none any more, or has another part in the choice of members of archives.
-    pub fn with_changed(&self, command: &Command, snapshot: &mut Snapshot, changed: &[PathBuf]) -> Option<Loaded> {
-        let mut next = self.clone();
-        for path in changed {
-            let data = snapshot.read(path).ok().filter(|data| !Archive::is_one(data))?;
-            for &place in self.plain.get(path)? {
-                let old = self.objects.get(place)?;
-                let new = Object::new(old.name().to_owned(), old.origin().clone(), data.clone());
-                if new.fault() != old.fault() || new.retained() != old.retained() {
-                    return None;
-                }
-                if differing(old, &new).into_iter().any(|name| self.is_choosing(command, name)) {
-                    return None;
-                }
-                next.known.put(data.clone(), new.clone());
-                next.names.replace(place, &new);
-                *next.objects.get_mut(place)? = new;
-            }
+    /// Takes other bytes of some files, which are read; says whether that is the same link but for them. Else nothing is
+    /// taken, and it must be loaded anew: a file is not an object of its own, is none any more, or has another part in the
+    /// choice of members of archives.
+    pub fn take_changed(&mut self, command: &Command, snapshot: &mut Snapshot, changed: &[PathBuf]) -> bool {
+        let found: Option<Vec<_>> = changed.iter().map(|path| self.objects_of(command, snapshot, path)).collect();
+        let is_same = found.is_some();
+        for (place, data, new) in found.into_iter().flatten().flatten() {
+            self.known.put(data, new.clone());
+            self.names.replace(place, &new);
+            self.objects.get_mut(place).into_iter().for_each(|old| *old = new.clone());
         }
-        Some(next)
+        is_same
+    }
+
+    /// The objects that a file is now, with their places and its bytes; `None` where the link would be another.
+    fn objects_of(
+        &self,
+        command: &Command,
+        snapshot: &mut Snapshot,
+        path: &Path,
+    ) -> Option<Vec<(usize, Bytes, Object)>> {
+        let places = self.plain.get(path)?;
+        let data = snapshot.read(path).ok().filter(|data| !Archive::is_one(data))?;
+        let objects = places.iter().map(|&place| {
+            let old = self.objects.get(place)?;
+            let new = Object::new(old.name().to_owned(), old.origin().clone(), data.clone());
+            let is_alike = new.fault() == old.fault() && new.retained() == old.retained();
+            let chooses = |name: &&BStr| self.is_choosing(command, name);
+            let is_same = is_alike && !differing(old, &new).iter().any(chooses);
+            is_same.then(|| (place, data.clone(), new))
+        });
+        objects.collect()
     }
 
     /// Whether what objects have of a name decides about members of archives, or about a refusal.

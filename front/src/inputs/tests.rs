@@ -597,20 +597,22 @@ fn other_bytes_of_an_object_are_the_same_link_where_no_name_chooses() {
     project.archive("x.a", &["f.o", "g.o"]);
     let command = read_command(&project.words(&["a.o", "x.a"])).unwrap();
     let mut snapshot = Snapshot::new();
-    let loaded = load(&request(&command, &[]), &mut snapshot, None).unwrap();
+    let mut loaded = load(&request(&command, &[]), &mut snapshot, None).unwrap();
     let path = [project.0.join("a.o")];
-    let mut changed = |symbols: &[WrittenSymbol]| {
+    let name = loaded.objects[0].name().to_owned();
+    let mut changes = |symbols: &[WrittenSymbol]| {
         project.write("a.o", &code(symbols));
-        loaded.with_changed(&command, &mut snapshot, &path)
+        let is_same = loaded.take_changed(&command, &mut snapshot, &path);
+        assert_eq!(loaded.objects[0].name(), name);
+        is_same.then(|| loaded.objects[0].globals().next().unwrap().name.to_string())
     };
-    let next = changed(&[("new", GLOBAL, TEXT, 0, 0), ("f", GLOBAL, 0, 0, 0)]).unwrap();
-    assert_eq!(next.objects[0].globals().next().unwrap().name, "new");
-    assert_eq!(next.objects[0].name(), loaded.objects[0].name());
-    assert!(changed(&[("g", GLOBAL, 0, 0, 0), ("f", GLOBAL, 0, 0, 0)]).is_none(), "it wants another member");
-    assert!(changed(&[("new", GLOBAL, TEXT, 0, 0)]).is_none(), "it wants a member no more");
-    assert!(changed(&[("f", GLOBAL, TEXT, 0, 0)]).is_none(), "it defines what the member does");
+    let changed = changes(&[("new", GLOBAL, TEXT, 0, 0), ("f", GLOBAL, 0, 0, 0)]);
+    assert_eq!(changed.as_deref(), Some("new"));
+    assert_eq!(changes(&[("g", GLOBAL, 0, 0, 0), ("f", GLOBAL, 0, 0, 0)]), None, "it wants another member");
+    assert_eq!(changes(&[("new", GLOBAL, TEXT, 0, 0)]), None, "it wants a member no more");
+    assert_eq!(changes(&[("f", GLOBAL, TEXT, 0, 0)]), None, "it defines what the member does");
     project.archive("x.a", &["f.o"]);
-    assert!(loaded.with_changed(&command, &mut snapshot, &[project.0.join("x.a")]).is_none());
+    assert!(!loaded.take_changed(&command, &mut snapshot, &[project.0.join("x.a")]));
 }
 
 /// Numbers that are the same in each run.

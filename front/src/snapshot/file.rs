@@ -182,19 +182,14 @@ pub fn read_regular(path: &Path) -> Result<Seen, ReadFault> {
 ///
 /// # Errors
 /// It cannot be read.
-pub fn read_open(mut file: &File, stamp: Stamp, begun: i128) -> Result<Seen, ReadFault> {
-    let mut data = vec![0; usize::try_from(stamp.size).unwrap_or(usize::MAX).min(1 << 40)];
-    let mut length = 0;
-    while length < data.len() {
-        match file.read(data.get_mut(length..).unwrap_or_default()) {
-            Ok(0) => break,
-            Ok(count) => length += count,
-            Err(fault) if fault.kind() == io::ErrorKind::Interrupted => {}
-            Err(fault) => return Err(fault.into()),
-        }
+pub fn read_open(file: &File, stamp: Stamp, begun: i128) -> Result<Seen, ReadFault> {
+    let mut data = Vec::new();
+    let is_there = usize::try_from(stamp.size).map_or(false, |size| data.try_reserve_exact(size).is_ok());
+    if !is_there {
+        return Err(ReadFault::System(io::Error::from_raw_os_error(libc::ENOMEM)));
     }
-    let is_whole = length == data.len();
-    data.truncate(length);
+    file.take(stamp.size).read_to_end(&mut data)?;
+    let is_whole = data.len() as u64 == stamp.size;
     let after = Stamp::of(&rustix::fs::fstat(file).map_err(ReadFault::of)?);
     let stamp = Some(stamp).filter(|stamp| is_whole && after == *stamp);
     let is_settled = stamp.map_or(false, |stamp| stamp.is_settled(begun));

@@ -5,12 +5,15 @@
 
 mod bytes;
 mod file;
+mod lasting;
 mod looks;
 #[cfg(test)]
 mod tests;
 
 pub use bytes::Bytes;
 pub use file::{look, open_regular, read_any, read_open, read_regular, FileId, ReadFault, Seen, Stamp};
+
+pub use lasting::are_lasting;
 
 use crate::script::ScriptFiles;
 use indexmap::IndexMap;
@@ -142,10 +145,11 @@ impl Snapshot {
         self.questions.iter().map(|((question, path), answer)| (*question, path.as_path(), *answer))
     }
 
-    /// Whether a later look can tell of each file whether it is the same: all are regular, and none changed while it was
-    /// read.
+    /// Whether a later look, also of another process, can tell of each file whether it is the same: all are regular, none
+    /// changed while it was read, and none is in `/dev` or `/proc`.
     pub fn is_provable(&self) -> bool {
-        self.files.values().flatten().all(|seen| seen.stamp.is_some())
+        let seen = || self.files.iter().filter_map(|(path, seen)| Some((path.as_path(), seen.as_ref()?)));
+        seen().all(|(_, seen)| seen.stamp.is_some()) && are_lasting(seen().map(|(path, _)| path))
     }
 
     /// What has changed since. It is quicker the second time. A file with the bytes that it had is none that changed.
@@ -158,8 +162,9 @@ impl Snapshot {
         Changes { files, has_other_inputs }
     }
 
-    /// The name of a file that was read, by what the system says of it: none that is read may be written.
-    pub fn name_of(&self, id: FileId) -> Option<&Path> {
+    /// The name under which the file at a path was read, if it was: no file that is read may be written.
+    pub fn read_as(&self, path: &Path) -> Option<&Path> {
+        let id = Stamp::of(&look(path).ok()?).id;
         let stamps = self.files.iter().filter_map(|(path, seen)| Some((path, seen.as_ref()?.stamp?)));
         stamps.into_iter().find(|(_, stamp)| stamp.id == id).map(|(path, _)| path.as_path())
     }

@@ -201,8 +201,38 @@ fn a_file_is_known_under_another_name() {
     snapshot.read(&path).unwrap();
     let other = folder.0.join("other");
     fs::hard_link(&path, &other).unwrap();
-    let id = Stamp::of(&look(&other).unwrap()).id;
-    assert_eq!(snapshot.name_of(id), Some(path.as_path()));
-    let third = folder.write("third", "1");
-    assert_eq!(snapshot.name_of(Stamp::of(&look(&third).unwrap()).id), None);
+    assert_eq!(snapshot.read_as(&other), Some(path.as_path()));
+    assert_eq!(snapshot.read_as(&folder.write("third", "1")), None);
+    assert_eq!(snapshot.read_as(&folder.0.join("none")), None);
+}
+
+#[test]
+fn a_file_of_this_process_alone_is_none_that_lasts() {
+    let folder = Folder::new("lasting");
+    let path = folder.write("one", "1");
+    let file = fs::File::open(&path).unwrap();
+    let number = std::os::unix::io::AsRawFd::as_raw_fd(&file);
+    let (link, deep) = (folder.0.join("link"), folder.0.join("deep"));
+    std::os::unix::fs::symlink(format!("/dev/fd/{number}"), &link).unwrap();
+    std::os::unix::fs::symlink("/proc/self/fd", &deep).unwrap();
+    assert!(are_lasting([path.as_path()]));
+    let by_deep = deep.join(number.to_string());
+    for other in [&link, &by_deep, &PathBuf::from(format!("/proc/self/fd/{number}")), &"/dev/null".into(), &folder.0] {
+        assert!(!are_lasting([path.as_path(), other]), "{other:?}");
+    }
+    let plain = folder.0.join("plain");
+    std::os::unix::fs::symlink("one", &plain).unwrap();
+    assert!(are_lasting([plain.as_path()]));
+    let mut snapshot = Snapshot::new();
+    assert_eq!(&*snapshot.read(&link).unwrap(), b"1");
+    assert!(!snapshot.is_provable());
+}
+
+#[test]
+fn a_file_that_is_longer_than_memory_is_an_error() {
+    let folder = Folder::new("sparse");
+    let path = folder.write("sparse", "");
+    if fs::OpenOptions::new().write(true).open(&path).unwrap().set_len(1 << 43).is_ok() {
+        assert!(matches!(Snapshot::new().read(&path), Err(ReadFault::System(_))));
+    }
 }

@@ -1,0 +1,40 @@
+//! Whether a path leads to the same file in another process.
+
+use std::collections::HashMap;
+use std::fs;
+use std::path::{Path, PathBuf};
+
+/// The symbolic links that are followed, as the system does.
+const MOST_LINKS: usize = 40;
+
+/// Whether each of some paths leads to a regular file, outside of `/dev` and `/proc`, where `/dev/stdin` or
+/// `/proc/self/fd/3` is another file in another process.
+pub fn are_lasting<'a>(paths: impl IntoIterator<Item = &'a Path>) -> bool {
+    let mut folders = HashMap::new();
+    paths.into_iter().all(|path| is_lasting(path, &mut folders) == Some(true))
+}
+
+/// The same of one path; `folders` has for folders what they are without links.
+fn is_lasting(path: &Path, folders: &mut HashMap<PathBuf, Option<PathBuf>>) -> Option<bool> {
+    let mut path = path.to_owned();
+    for _ in 0..MOST_LINKS {
+        let folder = path.parent().filter(|folder| !folder.as_os_str().is_empty()).unwrap_or_else(|| Path::new("."));
+        let whole = match folders.get(folder) {
+            Some(whole) => whole.clone(),
+            None => {
+                let whole = fs::canonicalize(folder).ok();
+                folders.insert(folder.to_owned(), whole.clone());
+                whole
+            }
+        };
+        let whole = whole?.join(path.file_name()?);
+        if whole.starts_with("/dev") || whole.starts_with("/proc") {
+            return Some(false);
+        }
+        match fs::read_link(&whole) {
+            Ok(link) => path = whole.parent()?.join(link),
+            Err(_) => return Some(fs::symlink_metadata(&whole).ok()?.is_file()),
+        }
+    }
+    None
+}
