@@ -1,9 +1,13 @@
 //! The processor time that it takes to look at files, to read them, and to go over all that is in objects: the least of
 //! ten rounds. `read_objects FILE..`
 
+use bstr::BString;
+use ldi_front::command::read_command;
+use ldi_front::inputs::{load, Request};
 use ldi_front::objects::{Object, Origin};
 use ldi_front::snapshot::{look, Snapshot};
 use rustix::time::{clock_gettime, ClockId};
+use std::os::unix::ffi::OsStrExt;
 use std::path::PathBuf;
 
 /// Milliseconds of processor time of this process.
@@ -14,7 +18,8 @@ fn processor_time() -> f64 {
 
 fn main() {
     let paths: Vec<PathBuf> = std::env::args_os().skip(1).map(PathBuf::from).collect();
-    let mut best = [f64::MAX; 7];
+    let words: Vec<BString> = paths.iter().map(|path| path.as_os_str().as_bytes().into()).collect();
+    let mut best = [f64::MAX; 11];
     let mut counts = [0; 4];
     for _ in 0..10 {
         let mut times = Vec::new();
@@ -50,10 +55,32 @@ fn main() {
         let mut next = snapshot.next();
         assert!(paths.iter().all(|path| next.read(path).is_ok()));
         lap();
+        let command = read_command(&words).unwrap_or_default();
+        let request = Request { command: &command, scripts: &[], has_own_script: true, wanted: &[] };
+        lap();
+        let mut loaded = load(&request, &mut next, None).expect("they are objects");
+        lap();
+        let mut third = next.next();
+        let again = load(&request, &mut third, Some(&loaded)).map(|loaded| loaded.objects.len());
+        lap();
+        assert!(again == Ok(paths.len()) && loaded.take_changed(&command, &mut third, &paths[..1]));
+        lap();
         best.iter_mut().zip(times).for_each(|(best, time)| *best = best.min(time));
     }
     let [bytes, sections, symbols, relocations] = counts;
     println!("{} files, {bytes} bytes, {sections} sections, {symbols} symbols, {relocations} relocations", paths.len());
-    let names = ["stat of each", "read", "tables", "go over all", "first look", "later looks", "next snapshot"];
+    let names = [
+        "stat of each",
+        "read",
+        "tables",
+        "go over all",
+        "first look",
+        "later looks",
+        "next snapshot",
+        "command",
+        "load",
+        "load again",
+        "one changed",
+    ];
     names.iter().zip(best).for_each(|(name, time)| println!("{name:>14} {time:8.2} ms"));
 }

@@ -14,7 +14,8 @@ use crate::plan::Environment;
 
 /// The names of programs that run builds.
 const BUILDERS: &[&str] = &[
-    "make", "gmake", "ninja", "samu", "meson", "cmake", "cargo", "scons", "bazel", "bmake", "kati", "ckati", "tup", "waf",
+    "make", "gmake", "ninja", "samu", "meson", "cmake", "cargo", "scons", "bazel", "bmake", "kati", "ckati", "tup",
+    "waf",
 ];
 const PREFIX: &str = "told.";
 /// How many processes above this one are looked at.
@@ -53,7 +54,8 @@ fn build_of(mut number: u32) -> Option<String> {
 /// Whether this text was not said in the build yet, which then counts as said; always outside of a build.
 pub(super) fn is_first(text: &str, environment: &Environment) -> bool {
     let parent = std::os::unix::process::parent_id();
-    let folder = runtime_folder(environment.get(std::ffi::OsStr::new("XDG_RUNTIME_DIR")).map(|folder| folder.as_os_str()));
+    let folder =
+        runtime_folder(environment.get(std::ffi::OsStr::new("XDG_RUNTIME_DIR")).map(|folder| folder.as_os_str()));
     let (build, folder) = match (build_of(parent), folder) {
         (Some(build), Some(folder)) => (build, folder),
         _ => return true,

@@ -67,7 +67,8 @@ fn fallback_of(environment: &Environment) -> Result<Option<Linker>, BadFallback>
         Some(first) if words.len() == 1 && first == NONE => return Ok(None),
         Some(first) => first.clone(),
         None => {
-            let found = OTHERS.iter().find_map(|name| Some((others(name.as_ref(), environment).into_iter().next()?, name)));
+            let found =
+                OTHERS.iter().find_map(|name| Some((others(name.as_ref(), environment).into_iter().next()?, name)));
             return Ok(found.map(|(path, name)| (path, vec![OsString::from(*name)])));
         }
     };

@@ -246,11 +246,7 @@ impl Link<'_> {
     }
 
     /// Writes the files of a good link.
-    fn good(
-        &self,
-        mirror: &mut Mirror,
-        session: &dyn Fn(SessionError) -> LinkFault,
-    ) -> Result<Status, LinkFault> {
+    fn good(&self, mirror: &mut Mirror, session: &dyn Fn(SessionError) -> LinkFault) -> Result<Status, LinkFault> {
         let command = self.command;
         let image = mirror.image().map_err(session)?;
         let tables = command.prints_memory_usage || command.collects_sections && command.prints_collected;

@@ -63,9 +63,8 @@ fn run(words: &[OsString], environment: &Environment) -> Result<Status, LinkFaul
         ask::print(&command, None, environment);
         return Ok(Status::Good);
     }
-    let handed_over = |lines: Vec<String>| {
-        Ok(fallback::hand_over(&Reasons::of(lines), words, environment, command.is_verbose))
-    };
+    let handed_over =
+        |lines: Vec<String>| Ok(fallback::hand_over(&Reasons::of(lines), words, environment, command.is_verbose));
     if !command.impossible.is_empty() {
         return handed_over(command.impossible.clone());
     }

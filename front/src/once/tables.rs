@@ -29,7 +29,12 @@ pub(super) fn memory_usage(evaluation: &Evaluation) -> String {
             0 => String::new(),
             length => format!("    {:6.2}%", used as f64 * 100.0 / length as f64),
         };
-        text.push_str(&format!("{:>16}: {}{}{share}\n", region.name.to_str_lossy(), amount(used), amount(region.length)));
+        text.push_str(&format!(
+            "{:>16}: {}{}{share}\n",
+            region.name.to_str_lossy(),
+            amount(used),
+            amount(region.length)
+        ));
     }
     text
 }

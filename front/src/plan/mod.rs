@@ -55,13 +55,10 @@ impl Inputs {
     /// Where one cannot be read or is none, and where a required name is not defined.
     pub fn load(command: &Command, mut scripts: Scripts, snapshot: &mut Snapshot) -> Result<Inputs, PlanFault> {
         let entry = command.entry.clone().or_else(|| scripts.entry().cloned());
-        let wanted: Vec<BString> = entry.filter(|name| !name.first().map_or(true, u8::is_ascii_digit)).into_iter().collect();
-        let request = inputs::Request {
-            command,
-            scripts: &scripts.parts,
-            has_own_script: scripts.is_own,
-            wanted: &wanted,
-        };
+        let wanted: Vec<BString> =
+            entry.filter(|name| !name.first().map_or(true, u8::is_ascii_digit)).into_iter().collect();
+        let request =
+            inputs::Request { command, scripts: &scripts.parts, has_own_script: scripts.is_own, wanted: &wanted };
         let mut loaded = inputs::load(&request, snapshot, None)?;
         if let Some(name) = loaded.missing_required(command) {
             return Err(PlanFault::Required(name.to_owned()));
@@ -172,7 +169,8 @@ fn laid_out(inputs: &Inputs, settings: &Settings) -> (Option<Layout>, Result<Eva
 /// The script in the profile.
 fn written(command: &Command, inputs: &Inputs, evaluation: Option<&Evaluation>) -> Residual {
     let objects: Vec<&BStr> = inputs.held.iter().map(|held| held.name.as_bstr()).collect();
-    let defines = |name: &BStr| inputs.objects().iter().any(|object| object.globals_named(name).any(|one| one.rank().is_some()));
+    let defines =
+        |name: &BStr| inputs.objects().iter().any(|object| object.globals_named(name).any(|one| one.rank().is_some()));
     residual(Request {
         script: &inputs.scripts.reading.script,
         source: &inputs.scripts.reading.source,

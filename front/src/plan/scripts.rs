@@ -84,7 +84,8 @@ impl Scripts {
         let files = files_of(&reading);
         let text = files.iter().zip(reading.source.files().iter().filter(|file| is_file(&file.path)));
         let text = text.flat_map(|(_, file)| file.text.iter().copied()).collect();
-        let path = files.first().cloned().unwrap_or_else(|| names.first().map_or_else(PathBuf::new, |name| name.into()));
+        let path =
+            files.first().cloned().unwrap_or_else(|| names.first().map_or_else(PathBuf::new, |name| name.into()));
         Ok(Scripts { path, text, is_own: true, reading, parts, files })
     }
 
@@ -203,7 +204,9 @@ fn asked(program: &Path, command: &Command, environment: &Environment) -> Option
 fn own_default(command: &Command) -> Vec<u8> {
     let is_border = |line: &&str| line.starts_with("  . = ALIGN(4096)");
     match command.is_omagic {
-        true => DEFAULT.lines().filter(|line| !is_border(line)).flat_map(|line| [line, "\n"]).collect::<String>().into(),
+        true => {
+            DEFAULT.lines().filter(|line| !is_border(line)).flat_map(|line| [line, "\n"]).collect::<String>().into()
+        }
         false => DEFAULT.into(),
     }
 }

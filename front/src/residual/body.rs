@@ -12,7 +12,7 @@ use super::walk::{At, Settled, Walk};
 use crate::layout::evaluation::{Gap, Placed, StatementKind};
 use crate::layout::ids::SectionId;
 use crate::script::tree::{
-    Assignment, AssignOperator, BinaryOperator, DataText, DataWidth, Expr, ExprKind, Function, InputStatement, Name,
+    AssignOperator, Assignment, BinaryOperator, DataText, DataWidth, Expr, ExprKind, Function, InputStatement, Name,
     OutputSection, SectionStatement, Span,
 };
 
@@ -88,7 +88,10 @@ impl<'a> Walk<'a> {
         let mut taken = std::collections::HashSet::new();
         for id in evaluation.by_span.values().filter_map(|id| evaluation.statement(*id)) {
             if let StatementKind::Input { sections, .. } = &id.kind {
-                if id.output.and_then(|output| evaluation.output(output)).map_or(false, |output| output.name == body.name)
+                if id
+                    .output
+                    .and_then(|output| evaluation.output(output))
+                    .map_or(false, |output| output.name == body.name)
                 {
                     taken.extend(sections.iter().copied());
                 }
@@ -188,7 +191,8 @@ impl<'a> Walk<'a> {
             let is_first = index == 0 && one.offset > end && one.offset == aligned(one.offset, one.own_align);
             is_regular &= one.offset == next || is_first;
             is_regular &= !gaps.iter().any(|gap| {
-                gap.offset >= end && gap.offset < one.offset
+                gap.offset >= end
+                    && gap.offset < one.offset
                     && needs_bytes(gap.fill.as_deref().unwrap_or_default(), &body.fill, gap.size)
             });
             end = one.offset.wrapping_add(one.size);
@@ -277,10 +281,8 @@ impl<'a> Walk<'a> {
         let why = format!("a number counts from the start of {name} in it");
         let distance = format!("it works on the distance from the start of {name}");
         let own_distance = difference(own.clone(), start.clone());
-        let mut forms = vec![
-            (binary(BinaryOperator::Add, own.clone(), start.clone()), why),
-            (own_distance, distance.clone()),
-        ];
+        let mut forms =
+            vec![(binary(BinaryOperator::Add, own.clone(), start.clone()), why), (own_distance, distance.clone())];
         let inner = on_distances(own, start);
         forms.push((binary(BinaryOperator::Add, inner.clone(), start.clone()), distance.clone()));
         forms.push((inner, distance));
@@ -355,7 +357,9 @@ impl<'a> Walk<'a> {
         let mut reasons = Reasons::default();
         let own = translate(e, &View { walk: self, at }, &mut reasons);
         self.hoist_of(&mut reasons, at);
-        let lands = |walk: &Walk<'a>, value: Option<u64>| to.map_or(value.is_some() || walk.request.evaluation.is_none(), |to| value == Some(to));
+        let lands = |walk: &Walk<'a>, value: Option<u64>| {
+            to.map_or(value.is_some() || walk.request.evaluation.is_none(), |to| value == Some(to))
+        };
         if let Some(step) = added(&own) {
             let value = self.value_of(&step, at).map(|step| body.at.wrapping_add(step));
             if lands(self, value) {

@@ -74,7 +74,8 @@ impl Edits {
         for inserts in self.inserted.values_mut() {
             inserts.sort_by_key(|insert| insert.order);
         }
-        let mut rendering = Rendering { edits: &self, old: text, text: Vec::with_capacity(text.len()), origins: vec![0] };
+        let mut rendering =
+            Rendering { edits: &self, old: text, text: Vec::with_capacity(text.len()), origins: vec![0] };
         rendering.stretch(Span { start: 0, end: u32::try_from(text.len()).unwrap_or(u32::MAX) }, None);
         Rendered { text: rendering.text, origins: rendering.origins }
     }
@@ -87,7 +88,8 @@ fn kept(text: &[u8]) -> Vec<u8> {
     while let Some(byte) = text.get(at) {
         let here = text.get(at..).unwrap_or_default();
         if here.starts_with(b"/*") {
-            let length = memchr::memmem::find(here.get(2..).unwrap_or_default(), b"*/").map_or(here.len(), |end| end + 4);
+            let length =
+                memchr::memmem::find(here.get(2..).unwrap_or_default(), b"*/").map_or(here.len(), |end| end + 4);
             rest.extend_from_slice(here.get(..length).unwrap_or_default());
             at += length;
             continue;

@@ -82,11 +82,9 @@ pub(super) fn children(e: &Expr) -> Vec<&Expr> {
         ExprKind::Binary(_, left, right) => vec![left, right],
         ExprKind::Conditional(test, yes, no) => vec![test, yes, no],
         ExprKind::Call(_, arguments) => arguments.iter().collect(),
-        ExprKind::Number(_)
-        | ExprKind::Dot
-        | ExprKind::Symbol(_)
-        | ExprKind::Query(..)
-        | ExprKind::SizeofHeaders => Vec::new(),
+        ExprKind::Number(_) | ExprKind::Dot | ExprKind::Symbol(_) | ExprKind::Query(..) | ExprKind::SizeofHeaders => {
+            Vec::new()
+        }
     }
 }
 
@@ -369,8 +367,11 @@ fn operator_length(rest: &[u8]) -> Option<usize> {
     if TWO.iter().any(|sign| rest.starts_with(sign)) {
         return Some(2);
     }
-    matches!(rest.first()?, b'!' | b'-' | b'~' | b'*' | b'/' | b'%' | b'+' | b'<' | b'>' | b'&' | b'|' | b'?' | b':' | b',')
-        .then_some(1)
+    matches!(
+        rest.first()?,
+        b'!' | b'-' | b'~' | b'*' | b'/' | b'%' | b'+' | b'<' | b'>' | b'&' | b'|' | b'?' | b':' | b','
+    )
+    .then_some(1)
 }
 
 /// Whether a text of the script says an expression of the profile as it stands.
@@ -386,7 +387,8 @@ fn is_sign(token: &[u8]) -> bool {
 
 /// Whether a written expression has few enough signs for the profile.
 pub(super) fn is_short(written: &str) -> bool {
-    let signs = tokens(written.as_bytes()).map_or(usize::MAX, |tokens| tokens.iter().filter(|one| is_sign(one)).count());
+    let signs =
+        tokens(written.as_bytes()).map_or(usize::MAX, |tokens| tokens.iter().filter(|one| is_sign(one)).count());
     signs.saturating_add(written.matches('(').count()) <= MOST_SIGNS
 }
 

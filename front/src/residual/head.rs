@@ -115,7 +115,8 @@ impl<'a> Walk<'a> {
                 SectionStatement::Input(_) if is_discarded => {}
                 SectionStatement::Assign(assignment) if assignment.target.node != "." && !is_discarded => {
                     let e = whole_value(assignment);
-                    if uses_dot(&e) && self.versions.of_statement(&assignment.target.node, statement.span.start).is_some()
+                    if uses_dot(&e)
+                        && self.versions.of_statement(&assignment.target.node, statement.span.start).is_some()
                     {
                         self.sync_dot_at(statement.span);
                     }
@@ -306,7 +307,11 @@ impl<'a> Walk<'a> {
         head.load_region = None;
         if self.predicted_load(head) == needed {
             let name = section.name.node.clone();
-            self.note(NoteKind::Rewritten, at.at, format!("AT> of {name}: it keeps the distance of the section before"));
+            self.note(
+                NoteKind::Rewritten,
+                at.at,
+                format!("AT> of {name}: it keeps the distance of the section before"),
+            );
             return needed;
         }
         let distance = head.start.wrapping_sub(needed);
@@ -330,14 +335,7 @@ impl<'a> Walk<'a> {
 
     /// AT(e): as it is; without it, where the distance is that of the section before; with the start in place of
     /// ADDR of the section itself; or as a number.
-    fn own_load(
-        &mut self,
-        section: &OutputSection,
-        e: &Expr,
-        head: &mut Written,
-        needed: Option<u64>,
-        at: At,
-    ) -> u64 {
+    fn own_load(&mut self, section: &OutputSection, e: &Expr, head: &mut Written, needed: Option<u64>, at: At) -> u64 {
         head.load_region = None;
         let name = section.name.node.clone();
         let names_itself = names_section(e, &name);
@@ -432,7 +430,9 @@ impl<'a> Walk<'a> {
         let bytes = self.fill_bytes(fill);
         let own = self.slice(fill.value.span);
         let digits: String = bytes.iter().map(|byte| format!("{byte:02x}")).collect();
-        let is_own = own.to_str().map_or(false, |own| own.strip_prefix("0x").map_or(false, |own| own.eq_ignore_ascii_case(&digits)));
+        let is_own = own
+            .to_str()
+            .map_or(false, |own| own.strip_prefix("0x").map_or(false, |own| own.eq_ignore_ascii_case(&digits)));
         if is_own && (1..=8).contains(&bytes.len()) {
             return Some(own.to_str_lossy().into_owned());
         }

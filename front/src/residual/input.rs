@@ -224,7 +224,10 @@ fn is_plain(node: &InputStatement) -> bool {
         is_word(&pattern.glob) && !pattern.is_quoted && pattern.excluded_files.iter().all(|file| is_word(file))
     };
     let has_one_sort = |patterns: &[Spanned<Pattern>]| match patterns {
-        [one] => matches!(one.node.sorts.as_slice(), [Sort::ByName | Sort::ByAlignment]) && one.node.excluded_files.is_empty(),
+        [one] => {
+            matches!(one.node.sorts.as_slice(), [Sort::ByName | Sort::ByAlignment])
+                && one.node.excluded_files.is_empty()
+        }
         _ => false,
     };
     is_fine(file)

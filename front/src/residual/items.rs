@@ -1,7 +1,7 @@
 //! The statements of a script in the order of the text.
 
 use crate::script::tree::{
-    Assignment, Expr, OutputSection, SectionStatement, SectionsStatement, Script, Span, Spanned, Statement,
+    Assignment, Expr, OutputSection, Script, SectionStatement, SectionsStatement, Span, Spanned, Statement,
 };
 
 /// Calls a function for each assignment, with the span of its statement.

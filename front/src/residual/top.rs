@@ -10,7 +10,7 @@ use super::walk::{At, Memory, Settled, Walk};
 use super::NUMBER_ENTRY;
 use crate::layout::evaluation::StatementKind;
 use crate::script::tree::{
-    AssignOperator, Assertion, Assignment, BinaryOperator, Expr, ExprKind, MemoryRegion, Name, Provision,
+    Assertion, AssignOperator, Assignment, BinaryOperator, Expr, ExprKind, MemoryRegion, Name, Provision,
     SectionsStatement, Setting, Span, Spanned, Statement,
 };
 
@@ -85,7 +85,8 @@ impl<'a> Walk<'a> {
                 dropped("these names are wanted of archives, and kept by --gc-sections")
             }
             Statement::Extern(_) => {
-                let why = "takes no member out of an archive and is no root of --gc-sections: name the object, and KEEP \
+                let why =
+                    "takes no member out of an archive and is no root of --gc-sections: name the object, and KEEP \
                            the section";
                 Some((NoteKind::Changed, Topic::Beside, why.into()))
             }

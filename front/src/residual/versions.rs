@@ -7,7 +7,7 @@ use bstr::{BString, ByteSlice};
 use super::expression::children;
 use super::items::{for_each_assignment, for_each_expression};
 use super::profile::{begins_name, is_in_name};
-use crate::script::tree::{Assignment, AssignOperator, Expr, ExprKind, Name, Provision, Script, Span};
+use crate::script::tree::{AssignOperator, Assignment, Expr, ExprKind, Name, Provision, Script, Span};
 
 /// One assignment of a symbol.
 #[derive(Clone, Debug)]
