@@ -3,7 +3,6 @@
 use std::ffi::{OsStr, OsString};
 use std::io::Write;
 use std::os::unix::ffi::OsStrExt;
-use std::os::unix::fs::MetadataExt;
 use std::path::{Path, PathBuf};
 
 use bstr::{BStr, ByteSlice};
@@ -17,7 +16,7 @@ use crate::mirror::{Brought, Mirror, Refusal, SessionError, Wanted};
 use crate::place::{write_file, NotWritten, Reader, PROGRAM, TEXT};
 use crate::plan::{find_program, options_of, Environment, Inputs, LinkPlan, PlanFault, Scripts, ScriptsFault};
 use crate::residual::{Note, NoteKind, Topic};
-use crate::snapshot::{FileId, Snapshot};
+use crate::snapshot::Snapshot;
 
 /// The refused objects that are named.
 const GREATEST_LIST: usize = 20;
@@ -371,11 +370,7 @@ fn check_outputs(command: &Command, snapshot: &Snapshot) -> Result<(), LinkFault
     let map = map_path(command);
     let written = [Some(command.output.as_path()), map.as_deref(), command.dependency_file.as_deref()];
     for path in written.into_iter().flatten() {
-        let id = match std::fs::metadata(path) {
-            Ok(found) if found.is_file() => FileId { device: found.dev(), inode: found.ino() },
-            _ => continue,
-        };
-        if let Some(name) = snapshot.name_of(id) {
+        if let Some(name) = snapshot.read_as(path) {
             let name: &BStr = name.as_os_str().as_bytes().as_bstr();
             return Err(LinkFault::SameFile(name.to_string()));
         }

@@ -127,7 +127,10 @@ impl LinkPlan {
     /// The same plan where some files have other bytes now; `None` where all must be planned anew, as these files are no
     /// objects, or decide about members of archives.
     pub fn replan(mut self, command: &Command, snapshot: &mut Snapshot, changed: &[PathBuf]) -> Option<LinkPlan> {
-        let loaded = self.inputs.loaded.with_changed(command, snapshot, changed)?;
+        if !self.inputs.loaded.take_changed(command, snapshot, changed) {
+            return None;
+        }
+        let loaded = &self.inputs.loaded;
         let others: Vec<usize> = (0..loaded.objects.len())
             .filter(|at| {
                 let (old, new) = (self.inputs.held.get(*at), loaded.objects.get(*at));
@@ -135,7 +138,6 @@ impl LinkPlan {
             })
             .collect();
         self.inputs.held = held_of(&loaded.objects);
-        self.inputs.loaded = loaded;
         let settings = settings_of(command, &self.inputs.scripts);
         let objects = self.inputs.objects();
         let changed: Vec<ObjectIndex> = others.into_iter().map(|at| ObjectIndex(at as u32)).collect();
