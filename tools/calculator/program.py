@@ -47,12 +47,33 @@ def write(data):
         left = left[os.write(1, left):]
 
 
+def clash(given):
+    """The line of an output that is an input or the other output, if one is."""
+    pairs = [("-o", given.o, "--Map", given.Map)]
+    for word, file in ("-T", given.T), *[("an object", file) for file in given.objects]:
+        pairs += [("-o", given.o, word, file), ("--Map", given.Map, word, file)]
+    for option, output, word, other in pairs:
+        if output is not None and other is not None and is_same(output, other):
+            return f"error: {option} and {word} name the same file: {output if word == '--Map' else other}"
+    return None
+
+
+def is_same(output, other):
+    """Whether two names are those of one regular file, or of a file that is not there."""
+    if os.path.exists(output) and os.path.exists(other):
+        return os.path.isfile(output) and os.path.samefile(output, other)
+    return os.path.realpath(output) == os.path.realpath(other)
+
+
 def link_files(given, options):
     """Reads all files, the script first; sets the script, adds the objects in order, and links once."""
     try:
         script, objects = contents(given.T), [(word, contents(word)) for word in given.objects]
     except OSError:
         return ended("device", DEVICE)
+    line = clash(given)
+    if line is not None:
+        return ended(line, REFUSED)
     found = link_contents(script, objects, options)
     if isinstance(found, tuple):
         word, refusal = found
@@ -74,18 +95,34 @@ def link_contents(script, objects, options):
 
 
 def write_files(given, linked):
-    """The map and then the image; or the fault lines on standard error, and no file."""
+    """The map and the image; or the fault lines on standard error, and no file."""
     if linked.status != 0:
         sys.stderr.buffer.write(linked.faults)
         return linked.status
+    outputs = [(file, data) for file, data in ((given.Map, linked.map), (given.o, linked.image)) if file is not None]
+    beside = {}
     try:
-        for file, data in ((given.Map, linked.map), (given.o, linked.image)):
-            if file is not None:
-                with open(file, "wb") as out:
-                    out.write(data)
+        for file, data in outputs:
+            if os.path.isfile(file) or not os.path.lexists(file):
+                beside[file] = f"{os.path.realpath(file)}.beside"
+                put(beside[file], data)
+        for file, data in outputs:
+            if file not in beside:
+                put(file, data)
+        for file, written in beside.items():
+            os.replace(written, os.path.realpath(file))
     except OSError:
+        for written in beside.values():
+            if os.path.exists(written):
+                os.remove(written)
         return ended("device", DEVICE)
     return linked.status
+
+
+def put(file, data):
+    """Writes a file."""
+    with open(file, "wb") as out:
+        out.write(data)
 
 
 def contents(file):

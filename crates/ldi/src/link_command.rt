@@ -1,16 +1,33 @@
 //! `ldi link`: reads the files, the script first, links once, and writes the image and the map.
 
-use crate::files::{MAP_MODE, read_file, read_objects, write_file, write_image};
-use crate::{DEVICE, NO_MEMORY};
+ghost use Rattle.std.specs.Prelude.{◌≡◌, ◌↔◌, IsSome, IfSome, Ok};
+ghost use Rattle.relink.specs.driver.Answer.{answer_of};
+ghost use Rattle.ldmodel.specs.LinkCommand.{link_status};
+
+use crate::{DEVICE, NO_MEMORY, REFUSED};
+use ldi_files::clash::{Clash, Outputs, Role};
+use ldi_files::reading::FileReader;
+use ldi_files::writing::{NewFile, write_files};
+use ldmodel::edit::MAX_PAYLOAD;
 use relink::driver::exit_report::{exit_status, message};
 use relink::driver::fault::LinkFault;
+use relink::driver::file::ObjectFile;
 use relink::driver::from_files::{link, link_without_map};
 use relink::{Options, Output};
+use std::alloc::AllocError;
 use std::hash::RandomState;
 use std::io;
 
 /// The status of a link without faults.
 const GOOD: u8 = 0;
+
+/// The permission bits of an image that is made: all may read and run it.
+const IMAGE_MODE: u32 = 0o755;
+/// The permission bits of a map that is made: all may read it.
+const MAP_MODE: u32 = 0o644;
+
+/// The most bytes of a file that are read: one more than an object or a script may have.
+const MOST: usize = MAX_PAYLOAD + 1;
 
 /// The names of the files of a link.
 #[derive(Drop)]
@@ -25,12 +42,98 @@ pub struct FileNames {
     pub objects: Vec<String>,
 }
 
-/// Writes the map and then the image: if the map can't be written, an old image stays as it is.
-fn write_output(rt: &HostRuntime, names: &FileNames, output: &Output) -> io::Result<()> {
-    if let Some(map) = &names.map {
-        write_file(rt, map.as_str(), MAP_MODE, output.map())?;
+/// Why files are not linked, or not written.
+#[derive(Drop)]
+enum FileFault {
+    /// One cannot be read or written; of kind `OutOfMemory` if memory ran out.
+    Device(io::Error),
+    /// One that is written is named a second time.
+    Clash(Clash),
+}
+
+impl From<io::Error> for FileFault {
+    fn from(error: io::Error) -> FileFault {
+        FileFault::Device(error)
     }
-    write_image(rt, names.image.as_str(), output.image())
+}
+
+impl From<AllocError> for FileFault {
+    fn from(error: AllocError) -> FileFault {
+        FileFault::Device(io::Error::from(error))
+    }
+}
+
+/// Where the outputs lead.
+///
+/// # Errors
+///
+/// If image and map are one file.
+fn outputs(rt: &HostRuntime, names: &FileNames) -> Result<Outputs, FileFault> {
+    let image = names.image.as_str();
+    let map = match &names.map {
+        Some(map) => Some(map.as_str()),
+        None => None,
+    };
+    let outputs = Outputs::of(rt, image, map)?;
+    match outputs.own_clash(rt.alloc(), image)? {
+        Some(clash) => Err(FileFault::Clash(clash)),
+        None => Ok(outputs),
+    }
+}
+
+/// The bytes of an input.
+///
+/// # Errors
+///
+/// If it cannot be read, or is one of the outputs.
+fn read_input(
+    rt: &HostRuntime,
+    reader: &mut FileReader,
+    outputs: &Outputs,
+    role: Role,
+    name: &str,
+) -> Result<Vec<u8>, FileFault> {
+    let file = reader.read(rt, name)?;
+    match outputs.clash_with(rt.alloc(), file.id, role, name)? {
+        Some(clash) => Err(FileFault::Clash(clash)),
+        None => Ok(file.bytes),
+    }
+}
+
+/// The bytes of the script and the objects.
+#[derive(Drop)]
+struct Inputs {
+    script: Vec<u8>,
+    objects: Vec<ObjectFile>,
+}
+
+/// Reads all inputs, the script first.
+///
+/// # Errors
+///
+/// As `read_input`, for the first that fails.
+fn read_inputs(
+    rt: &HostRuntime,
+    names: &FileNames,
+    outputs: &Outputs,
+) -> Result<Inputs, FileFault> {
+    let mut reader = FileReader::new(rt.alloc(), MOST)?;
+    let script = read_input(
+        rt,
+        &mut reader,
+        outputs,
+        Role::Script,
+        names.script.as_str(),
+    )?;
+    let mut objects = Vec::with_capacity(rt.alloc(), names.objects.len())?;
+    for name in &names.objects {
+        let word = Vec::from_slice(rt.alloc(), name.as_bytes())?;
+        let bytes = read_input(rt, &mut reader, outputs, Role::Object, name.as_str())?;
+        objects
+            .push(ObjectFile { word, bytes })
+            .map_err(AllocError::from)?;
+    }
+    Ok(Inputs { script, objects })
 }
 
 /// Reads all files, the script first, and links. Without a file for the map none is made.
@@ -38,15 +141,46 @@ fn link_read(
     rt: &HostRuntime,
     names: &FileNames,
     options: Options,
-) -> io::Result<Result<Output, LinkFault>> {
-    let script = read_file(rt, names.script.as_str())?;
-    let objects = read_objects(rt, names.objects.as_slice())?;
+) -> Result<Result<Output, LinkFault>, FileFault> {
+    let outputs = outputs(rt, names)?;
+    let Inputs { script, objects } = read_inputs(rt, names, &outputs)?;
     let seed = RandomState::new(rt)?;
     let alloc = rt.alloc();
     Ok(match names.map {
         Some(_) => link(alloc, seed, script, objects, options),
         None => link_without_map(alloc, seed, script, objects, options),
     })
+}
+
+/// What a link writes to files: its output, if it is one without faults.
+fn good_output(outcome: &Result<Output, LinkFault>) -> Option<&Output>
+    ensures good { IsSome result ↔ link_status (answer_of outcome.now) ≡ 0 }
+    ensures output { IfSome result (λ output. outcome.now ≡ Ok output.now) }
+{
+    match outcome {
+        Ok(output) if exit_status(outcome) == GOOD => Some(output),
+        _ => None,
+    }
+}
+
+/// Writes the map and the image.
+fn write_output(rt: &HostRuntime, names: &FileNames, output: &Output) -> io::Result<()> {
+    let image = NewFile {
+        name: names.image.as_str(),
+        mode: IMAGE_MODE,
+        bytes: output.image(),
+    };
+    match &names.map {
+        None => write_files(rt, &[image]),
+        Some(map) => {
+            let map = NewFile {
+                name: map.as_str(),
+                mode: MAP_MODE,
+                bytes: output.map(),
+            };
+            write_files(rt, &[map, image])
+        }
+    }
 }
 
 /// Writes the image and the map of a good link, or what else there is to say on standard error. Gives the status to end
@@ -56,33 +190,36 @@ fn end_with(
     names: &FileNames,
     outcome: &Result<Output, LinkFault>,
 ) -> io::Result<u8> {
-    let status = exit_status(outcome);
-    match outcome {
-        Ok(output) if status == GOOD => write_output(rt, names, output)?,
-        _ => {
+    match good_output(outcome) {
+        Some(output) => write_output(rt, names, output)?,
+        None => {
             let text = message(rt.alloc(), names.objects.as_slice(), outcome)?;
             let _ = rt.stderr().write_all(&text);
         }
     }
-    Ok(status)
+    Ok(exit_status(outcome))
 }
 
 /// Links files, and gives the status to end with.
-fn link_named(rt: &HostRuntime, names: &FileNames, options: Options) -> io::Result<u8> {
+fn link_named(rt: &HostRuntime, names: &FileNames, options: Options) -> Result<u8, FileFault> {
     let outcome = link_read(rt, names, options)?;
-    end_with(rt, names, &outcome)
+    Ok(end_with(rt, names, &outcome)?)
 }
 
 /// Links files, and gives the status to end with: 0 if the image and the map are written, 1 after fault lines, 2 if an
-/// edit is refused, 3 if a file can't be read or written, 4 if memory ran out.
+/// edit is refused or a file that is written is named twice, 3 if a file can't be read or written, 4 if memory ran out.
 pub fn link_files(rt: &HostRuntime, names: &FileNames, options: Options) -> u8 {
     match link_named(rt, names, options) {
         Ok(status) => status,
-        Err(error) if error.kind() == io::ErrorKind::OutOfMemory => {
+        Err(FileFault::Clash(clash)) => {
+            clash.report(rt);
+            REFUSED
+        }
+        Err(FileFault::Device(error)) if error.kind() == io::ErrorKind::OutOfMemory => {
             let _ = eprintln!(rt; "memory");
             NO_MEMORY
         }
-        Err(_) => {
+        Err(FileFault::Device(_)) => {
             let _ = eprintln!(rt; "device");
             DEVICE
         }

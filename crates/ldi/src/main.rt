@@ -22,7 +22,6 @@ use std::hash::RandomState;
 use std::process::ExitCode;
 use std::{env, io};
 
-mod files;
 mod link_command;
 mod session_command;
 

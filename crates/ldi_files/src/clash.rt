@@ -1,0 +1,129 @@
+//! A file that is written and that another word of the command line names too.
+
+use crate::place::{FileId, Place};
+use std::alloc::Global;
+use std::io;
+use std::rt::Files;
+
+/// What a word of the command line names.
+#[derive(Clone, Copy, PartialEq, Eq, Debug)]
+pub enum Role {
+    /// The linker script.
+    Script,
+    /// An object.
+    Object,
+    /// The image.
+    Image,
+    /// The map.
+    Map,
+}
+
+impl Role {
+    /// The option that names it, or what it is.
+    fn text(self) -> &'static str {
+        match self {
+            Role::Script => "-T",
+            Role::Object => "an object",
+            Role::Image => "-o",
+            Role::Map => "--Map",
+        }
+    }
+}
+
+/// A file that is written and that another word of the command line names too.
+#[derive(Debug, Drop)]
+pub struct Clash {
+    written: Role,
+    other: Role,
+    name: String,
+}
+
+impl Clash {
+    /// Says on standard error which file it is. If that cannot be written, the status alone says it.
+    pub fn report(&self, rt: &impl Eprint) {
+        let (written, other) = (self.written.text(), self.other.text());
+        let name = self.name.as_str();
+        let _ = eprintln!(rt; "error: {written} and {other} name the same file: {name}");
+    }
+}
+
+/// The files that a link writes.
+#[derive(Debug, Drop)]
+pub struct Outputs {
+    image: Place,
+    map: Option<Place>,
+}
+
+impl Outputs {
+    /// Where the names of the image and of the map lead.
+    ///
+    /// # Errors
+    ///
+    /// Of kind `OutOfMemory` if memory runs out.
+    pub fn of<R: Files + AllocGlobal>(
+        rt: &R,
+        image: &str,
+        map: Option<&str>,
+    ) -> io::Result<Outputs> {
+        Ok(Outputs {
+            image: Place::of(rt, image)?,
+            map: match map {
+                Some(map) => Some(Place::of(rt, map)?),
+                None => None,
+            },
+        })
+    }
+
+    /// The clash of the image, which has this name, and the map, if they are one file.
+    ///
+    /// # Errors
+    ///
+    /// If memory runs out.
+    pub fn own_clash(&self, alloc: Global, name: &str) -> io::Result<Option<Clash>> {
+        match &self.map {
+            Some(map) if map.is_same(&self.image) => {
+                let name = String::from_str(alloc, name)?;
+                Ok(Some(Clash {
+                    written: Role::Image,
+                    other: Role::Map,
+                    name,
+                }))
+            }
+            _ => Ok(None),
+        }
+    }
+
+    /// Which of the files that are written this one is.
+    fn role_of(&self, file: FileId) -> Option<Role> {
+        if self.image.is_file(file) {
+            return Some(Role::Image);
+        }
+        match &self.map {
+            Some(map) if map.is_file(file) => Some(Role::Map),
+            _ => None,
+        }
+    }
+
+    /// The clash of an input, which is this file if it is a regular one and has this name, with a file that is written.
+    ///
+    /// # Errors
+    ///
+    /// If memory runs out.
+    pub fn clash_with(
+        &self,
+        alloc: Global,
+        file: Option<FileId>,
+        other: Role,
+        name: &str,
+    ) -> io::Result<Option<Clash>> {
+        let Some(written) = file.and_then(|file| self.role_of(file)) else {
+            return Ok(None);
+        };
+        let name = String::from_str(alloc, name)?;
+        Ok(Some(Clash {
+            written,
+            other,
+            name,
+        }))
+    }
+}

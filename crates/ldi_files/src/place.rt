@@ -1,0 +1,113 @@
+//! Which file a name leads to.
+
+use std::fs::Metadata;
+use std::io::ErrorKind;
+use std::os::unix::fs::MetadataExt;
+use std::path::PathBuf;
+use std::rt::Files;
+use std::{fs, io};
+
+/// How many links are followed that lead to no file: as many as Linux follows.
+const MOST_LINKS: usize = 40;
+
+/// A file or a folder, by what the system knows it by. All its names lead to the same one.
+#[derive(Clone, Copy, PartialEq, Eq, Debug)]
+pub struct FileId {
+    device: u64,
+    inode: u64,
+}
+
+impl FileId {
+    /// Whose metadata these are.
+    fn of(metadata: &Metadata) -> FileId {
+        FileId {
+            device: metadata.dev(),
+            inode: metadata.ino(),
+        }
+    }
+
+    /// Whose metadata these are, if it is a regular file.
+    pub fn of_regular(metadata: &Metadata) -> Option<FileId> {
+        metadata.is_file().then_some(FileId::of(metadata))
+    }
+}
+
+/// Where a name leads, through all links.
+#[derive(Debug, Drop)]
+pub enum Place {
+    /// To a regular file.
+    File(FileId),
+    /// To nothing yet: a file that is made would have this name in this folder.
+    New(FileId, String),
+    /// To a device, say, or to a folder that is not there: nothing is lost there.
+    Other,
+}
+
+impl Place {
+    /// Where this name leads.
+    ///
+    /// # Errors
+    ///
+    /// Of kind `OutOfMemory` if memory runs out.
+    pub fn of<R: Files + AllocGlobal>(rt: &R, name: &str) -> io::Result<Place> {
+        match fs::metadata(rt, name) {
+            Ok(metadata) => Ok(FileId::of_regular(&metadata).map_or(Place::Other, Place::File)),
+            Err(_) => new_place(rt, name),
+        }
+    }
+
+    /// Whether it is this file.
+    pub fn is_file(&self, file: FileId) -> bool {
+        match self {
+            Place::File(mine) => *mine == file,
+            Place::New(..) | Place::Other => false,
+        }
+    }
+
+    /// Whether what is written to one name is what the other then leads to.
+    pub fn is_same(&self, other: &Place) -> bool {
+        match (self, other) {
+            (Place::File(mine), Place::File(its)) => *mine == *its,
+            (Place::New(mine, name), Place::New(its, other_name)) => {
+                *mine == *its && name.as_str() == other_name.as_str()
+            }
+            _ => false,
+        }
+    }
+}
+
+/// The path that a name is, after links that lead to no file.
+fn behind_links<R: Files + AllocGlobal>(rt: &R, name: &str) -> io::Result<PathBuf> {
+    let mut path = PathBuf::from_str(rt.alloc(), name)?;
+    for _ in 0..MOST_LINKS {
+        match fs::read_link(rt, path.as_path()) {
+            Ok(target) => {
+                path.pop();
+                path.push(target.as_path())?;
+            }
+            Err(error) if error.kind() == ErrorKind::OutOfMemory => return Err(error),
+            Err(_) => break,
+        }
+    }
+    Ok(path)
+}
+
+/// Where a name leads that leads to no file.
+fn new_place<R: Files + AllocGlobal>(rt: &R, name: &str) -> io::Result<Place> {
+    let path = behind_links(rt, name)?;
+    let (Some(folder), Some(last)) = (path.parent(), path.file_name()) else {
+        return Ok(Place::Other);
+    };
+    let folder = if folder.as_os_str().is_empty() {
+        "."
+    } else {
+        folder.as_os_str()
+    };
+    match fs::metadata(rt, folder) {
+        Ok(metadata) => {
+            let name = String::from_str(rt.alloc(), last)?;
+            Ok(Place::New(FileId::of(&metadata), name))
+        }
+        Err(_) => Ok(Place::Other),
+    }
+}

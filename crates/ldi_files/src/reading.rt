@@ -1,0 +1,121 @@
+//! The bytes of a file.
+
+ghost use Rattle.std.specs.Prelude.{◌≡◌, ◌≤◌, ◌⊎◌, ◌++◌, take, length, IfOk, IfSome};
+ghost use Rattle.std.specs.Io.KnownBytes.{Consumes};
+
+use crate::place::FileId;
+use std::alloc::Global;
+use std::fs::{File, OpenFile};
+use std::io;
+use std::io::{ErrorKind, Read};
+use std::rt::Files;
+
+/// How many bytes one read is to give at most. A buffer is zeros before it is read into, so that all files are read
+/// into one of this length, and copied from there; a longer file is read piece by piece.
+const AT_ONCE: usize = 131_072;
+
+/// A file that was read.
+#[derive(Drop)]
+pub struct ReadFile {
+    /// Which file it is, if it is a regular one.
+    pub id: Option<FileId>,
+    /// Its bytes.
+    pub bytes: Vec<u8>,
+}
+
+/// Reads the files of a link, one after the other.
+#[derive(Drop)]
+pub struct FileReader {
+    /// What the first bytes of each file are read into.
+    buffer: Vec<u8>,
+    /// The most bytes of a file that are read.
+    most: usize,
+}
+
+/// Reads once, into a buffer, and gives the number of bytes: 0 if a signal interrupts it.
+fn read_once<R: Read>(reader: &mut R, buffer: &mut [u8]) -> io::Result<usize>
+    ensures bound { IfOk result (λ n. n ≤ length buffer.new) }
+    ensures read { IfOk result (λ n. Consumes (R.remaining reader.old) (R.remaining reader.new) (take n buffer.new)) }
+{
+    match reader.read(buffer) {
+        Ok(count) => Ok(count),
+        Err(error) if error.kind() == ErrorKind::Interrupted => Ok(0),
+        Err(error) => Err(error),
+    }
+}
+
+/// These bytes and those that a reader has left, or the first `most` of them if there are more. The buffer has room for
+/// `room` bytes from the beginning.
+#[tactic(auto, using(crate::proofs::Prefix::take_both))]
+fn read_on<R: Read + Drop>(
+    alloc: Global,
+    reader: R,
+    first: &[u8],
+    room: usize,
+    most: usize,
+) -> io::Result<Vec<u8>>
+    requires { length first.now ≤ most }
+    ensures { IfOk result (λ bytes. IfSome (R.remaining reader) (λ rest.
+        bytes.items ≡ take most (first.now ++ rest))) }
+{
+    let mut bytes = Vec::with_capacity(alloc, room)?;
+    bytes.extend_from_slice(first)?;
+    let rest = (most - first.len()) as u64;
+    reader.take(rest).read_to_end(&mut bytes)?;
+    Ok(bytes)
+}
+
+/// The bytes that a reader has left, or the first `most` of them if there are more. `size` is the number of bytes that
+/// it is said to have, and the first ones are read into a buffer. If the first read has room for more than `size` and
+/// gives exactly so many, it has reached the end; so most files take one read.
+#[tactic(auto, using(crate::proofs::Prefix::take_first))]
+fn read_bytes<R: Read + Drop>(
+    alloc: Global,
+    mut reader: R,
+    size: usize,
+    most: usize,
+    buffer: &mut [u8],
+) -> io::Result<Vec<u8>>
+    requires { length buffer.old ≤ most }
+    // A reader that has another number of bytes than is said of it may be taken at its word.
+    ensures { IfOk result (λ bytes. IfSome (R.remaining reader) (λ all.
+        (bytes.items ≡ take most all) ⊎ ((length bytes.items ≡ size) × (bytes.items ≡ take size all)))) }
+{
+    let count = read_once(&mut reader, buffer)?;
+    let room = buffer.len();
+    let first = &buffer[..count];
+    if !first.is_empty() && first.len() == size && size < room {
+        return Ok(Vec::from_slice(alloc, first)?);
+    }
+    read_on(alloc, reader, first, size.saturating_add(1).min(most), most)
+}
+
+impl FileReader {
+    /// Reads at most this many bytes of each file: one more than a file may have, so that one that is too long is
+    /// recognized, and an endless one is not read for ever.
+    ///
+    /// # Errors
+    ///
+    /// If memory runs out.
+    pub fn new(alloc: Global, most: usize) -> io::Result<FileReader> {
+        let buffer = vec![in alloc; 0; AT_ONCE]?;
+        Ok(FileReader { buffer, most })
+    }
+
+    /// A file of this name.
+    ///
+    /// # Errors
+    ///
+    /// If the file can't be read; of kind `OutOfMemory` if memory runs out.
+    pub fn read<R: Files + AllocGlobal>(&mut self, rt: &R, name: &str) -> io::Result<ReadFile> {
+        let file = File::open(rt, name)?;
+        let metadata = file.metadata()?;
+        let size = usize::try_from(metadata.len()).unwrap_or(self.most);
+        let room = self.buffer.len().min(self.most);
+        let bytes = read_bytes(rt.alloc(), file, size, self.most, &mut self.buffer[..room])?;
+        Ok(ReadFile {
+            id: FileId::of_regular(&metadata),
+            bytes,
+        })
+    }
+}

@@ -1,0 +1,162 @@
+//! The files that a link makes. A regular file is written beside its place, and put there once all files are written:
+//! where one cannot be written, the old ones stay as they were.
+
+use std::fs::{OpenFile, OpenOptions};
+use std::io::{ErrorKind, Write};
+use std::os::unix::fs::OpenOptionsExt;
+use std::path::PathBuf;
+use std::random::RandomSource;
+use std::rt::Files;
+use std::{fs, io};
+
+/// A file that is to be written.
+#[derive(Clone, Copy)]
+pub struct NewFile<'a> {
+    /// Its name.
+    pub name: &'a str,
+    /// The permission bits that it is made with. The system takes away the bits of the umask, as of each file that is
+    /// made.
+    pub mode: u32,
+    /// Its bytes.
+    pub bytes: &'a [u8],
+}
+
+/// A file that is written and not yet in its place.
+#[derive(Drop)]
+struct Beside {
+    /// The path under which it is.
+    temporary: PathBuf,
+    /// The path that it is to have.
+    place: PathBuf,
+}
+
+/// The path of the regular file that a name leads to, or that a file of the name would have; nothing if it is written
+/// where it is: a device, a pipe, or what a link leads to that leads to no file.
+fn place_beside<R: Files + AllocGlobal>(rt: &R, name: &str) -> io::Result<Option<PathBuf>> {
+    let is_link = match fs::symlink_metadata(rt, name) {
+        Ok(found) if found.is_file() => false,
+        Ok(found) if found.is_symlink() => true,
+        Ok(_) => return Ok(None),
+        Err(error) if error.kind() == ErrorKind::NotFound => false,
+        Err(_) => return Ok(None),
+    };
+    if !is_link {
+        return Ok(Some(PathBuf::from_str(rt.alloc(), name)?));
+    }
+    match fs::metadata(rt, name) {
+        Ok(found) if found.is_file() => Ok(Some(fs::canonicalize(rt, name)?)),
+        _ => Ok(None),
+    }
+}
+
+/// A file name that no other file has, as good as surely: 64 random bits are in it.
+fn unused_name<R: RandomSource + AllocGlobal>(rt: &R) -> io::Result<String> {
+    let mut bits = [0; 8];
+    rt.fill_bytes(&mut bits)?;
+    let number = u64::from_le_bytes(bits);
+    Ok(format!(in rt.alloc(); ".ldi-{number:016x}.new")?)
+}
+
+/// Writes a file beside its place; gives nothing if it is to be written in place, as a device is, or a file in a folder
+/// where none may be made.
+fn write_beside<R: Files + RandomSource + AllocGlobal>(
+    rt: &R,
+    file: &NewFile<'_>,
+) -> io::Result<Option<Beside>> {
+    let Some(place) = place_beside(rt, file.name)? else {
+        return Ok(None);
+    };
+    let name = unused_name(rt)?;
+    let temporary = place.with_file_name(rt.alloc(), name.as_str())?;
+    let opened = OpenOptions::new()
+        .write(true)
+        .create_new(true)
+        .mode(file.mode)
+        .open(rt, temporary.as_path());
+    let mut out = match opened {
+        Ok(out) => out,
+        Err(error) if error.kind() == ErrorKind::PermissionDenied => return Ok(None),
+        Err(error) => return Err(error),
+    };
+    if let Err(error) = out.write_all(file.bytes) {
+        let _ = fs::remove_file(rt, temporary.as_path());
+        return Err(error);
+    }
+    Ok(Some(Beside { temporary, place }))
+}
+
+/// Writes a file in place of what it held. If that fails, no part of the bytes is left of it.
+fn write_in_place<R: Files>(rt: &R, file: &NewFile<'_>) -> io::Result<()> {
+    let mut out = OpenOptions::new()
+        .write(true)
+        .create(true)
+        .truncate(true)
+        .mode(file.mode)
+        .open(rt, file.name)?;
+    let written = out.write_all(file.bytes);
+    if written.is_err() {
+        // a device has no length to set
+        let _ = out.set_len(0);
+    }
+    written
+}
+
+/// Puts a file that is written into its place. Where the system does not let another file have the name, as that of a
+/// mounted file or of another user's in a folder for all, it is written in place.
+fn put<R: Files>(rt: &R, file: &NewFile<'_>, beside: &Beside) -> io::Result<()> {
+    match fs::rename(rt, beside.temporary.as_path(), beside.place.as_path()) {
+        Ok(()) => Ok(()),
+        Err(error) => match error.kind() {
+            ErrorKind::PermissionDenied | ErrorKind::ResourceBusy | ErrorKind::CrossesDevices => {
+                write_in_place(rt, file)?;
+                let _ = fs::remove_file(rt, beside.temporary.as_path());
+                Ok(())
+            }
+            _ => Err(error),
+        },
+    }
+}
+
+/// Writes all files: each regular one beside its place, then the others in place, and then puts the regular ones into
+/// their places.
+fn write_all_files<R: Files + RandomSource + AllocGlobal>(
+    rt: &R,
+    files: &[NewFile<'_>],
+    beside: &mut Vec<Option<Beside>>,
+) -> io::Result<()> {
+    for file in files {
+        beside.push(write_beside(rt, file)?)?;
+    }
+    for (file, beside) in files.iter().zip(beside.iter()) {
+        if beside.is_none() {
+            write_in_place(rt, file)?;
+        }
+    }
+    for (file, beside) in files.iter().zip(beside.iter()) {
+        if let Some(beside) = beside {
+            put(rt, file, beside)?;
+        }
+    }
+    Ok(())
+}
+
+/// Writes files, in their order where they are written in place.
+///
+/// # Errors
+///
+/// If one cannot be written. Then each regular file is as it was, or does not exist if it did not; a file behind a link
+/// that led to no file, or in a folder where none may be made, is empty. Of kind `OutOfMemory` if memory runs out.
+pub fn write_files<R: Files + RandomSource + AllocGlobal>(
+    rt: &R,
+    files: &[NewFile<'_>],
+) -> io::Result<()> {
+    let mut beside = Vec::with_capacity(rt.alloc(), files.len())?;
+    let written = write_all_files(rt, files, &mut beside);
+    if written.is_err() {
+        for beside in beside.iter().flatten() {
+            // one that is in its place has no longer this name
+            let _ = fs::remove_file(rt, beside.temporary.as_path());
+        }
+    }
+    written
+}
