@@ -292,8 +292,24 @@ def _reserved(rules: Rules) -> list[str]:
     return ["", *(f"    {line}" for line in listed), "", *textwrap.wrap(said, LONGEST), ""]
 
 
+def _proof_files(_rules: Rules) -> list[str]:
+    """How many files of proofs and hints there are, rounded, so that they change seldom."""
+    proofs = list((ROOT / "crates").glob("*/proofs/**/*.antt"))
+    answers, invariants = (sum(path.name == name for path in proofs) for name in ("Answers.antt", "Invariants.antt"))
+    hints = sum(path.read_text(encoding="utf-8").count("#[tactic(auto, ")
+                for path in (ROOT / "crates").glob("*/src/**/*.rt"))
+    counts = [_rounded(count) for count in (answers, invariants, len(proofs) - answers - invariants, hints)]
+    said = "There are some {} files of answers, {} of invariants and {} of lemmas, and {} hints.".format(*counts)
+    return ["", *textwrap.wrap(said, LONGEST), ""]
+
+
+def _rounded(count: int) -> int:
+    return (count + 25) // 50 * 50
+
+
 TABLES = {
     "docs/layout.md": {"relocations": _relocations},
+    "docs/proofs.md": {"proof files": _proof_files},
     "docs/manual.md": {"phases": _phases, "edit refusals": _edit_refusals},
     "docs/scripts.md": {"reserved words": _reserved, "script refusals": _script_refusals},
 }
