@@ -27,7 +27,7 @@ fn lines_of_code_with_each_version_of_dwarf() {
         };
         let mut lines = lines_of(&object("a.o", data), ".text");
         lines.dedup();
-        for line in ["/project/text.c:6", "/project/text.c:7"] {
+        for line in ["/project/text.c:6", "/project/text.c:8"] {
             assert!(lines.iter().any(|found| found == line), "{flags:?}: {lines:?}");
         }
         assert!(lines.iter().all(|line| line.starts_with("/project/text.c:")), "{flags:?}: {lines:?}");
