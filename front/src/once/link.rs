@@ -8,11 +8,11 @@ use std::path::{Path, PathBuf};
 use bstr::{BStr, ByteSlice};
 
 use super::fallback::{hand_over, Reasons};
-use super::{say, tables};
+use super::{messages, say, tables};
 use crate::command::Command;
 use crate::finish::{finish, FileImage, FinishError};
 use crate::inputs::InputFault;
-use crate::mirror::{Brought, Mirror, Refusal, SessionError, Wanted};
+use crate::mirror::{Brought, Mirror, SessionError, Wanted};
 use crate::place::{write_file, NotWritten, Reader, PROGRAM, TEXT};
 use crate::plan::{find_program, options_of, Environment, Inputs, LinkPlan, PlanFault, Scripts, ScriptsFault};
 use crate::residual::{Note, NoteKind, Topic};
@@ -164,14 +164,14 @@ impl Link<'_> {
         }
         if let Some(refusal) = brought.script_refused {
             self.report();
-            self.say_refusal(&self.path(), refusal);
+            messages::say_refused_script(self.plan, refusal, self.environment);
             return Ok(Some(if refusal.is_memory() { Status::Memory } else { Status::Refused }));
         }
         if !brought.is_good {
             self.report();
             self.notes();
             let faults = mirror.faults()?;
-            self.say_faults(&faults);
+            messages::say_faults(self.command, self.plan, &faults);
             return Ok(Some(Status::Faults));
         }
         Ok(None)
@@ -182,7 +182,7 @@ impl Link<'_> {
         let name = |index: usize| self.plan.held().get(index).map_or_else(String::new, |held| held.name.to_string());
         let say_more = || {
             for (index, refusal) in brought.refused.iter().take(GREATEST_LIST) {
-                self.say_refusal(&name(*index), *refusal);
+                messages::say_refused_object(self.plan, *index, *refusal, self.environment);
             }
         };
         if brought.refused.iter().any(|(_, refusal)| refusal.is_memory()) {
@@ -199,16 +199,9 @@ impl Link<'_> {
         hand_over(&reasons, self.words, self.environment, self.command.is_verbose)
     }
 
-    fn say_refusal(&self, name: &str, refusal: Refusal) {
-        eprintln!("{name}: refused {} {}", refusal.number, refusal.inner);
-    }
-
-    fn say_faults(&self, faults: &[u8]) {
-        eprint!("{}", faults.to_str_lossy());
-    }
-
     /// What was done to the script: with `--verbose` all of it.
     fn report(&self) {
+        messages::say_warnings(self.plan);
         for note in &self.plan.residual.notes {
             let is_wanted = self.command.is_verbose && note.kind != NoteKind::Changed;
             if is_wanted && note.topic != Topic::Segments {

@@ -4,6 +4,7 @@ mod ask;
 mod builds;
 mod fallback;
 mod link;
+mod messages;
 mod tables;
 
 use std::ffi::OsString;
@@ -29,7 +30,10 @@ pub fn main(words: &[OsString]) -> u8 {
     let status = match run(words, &environment) {
         Ok(status) => status,
         Err(fault) => {
-            say(fault.to_string());
+            match &fault {
+                LinkFault::Plan(PlanFault::Script(ScriptsFault::NoScript(error))) => messages::say_no_script(error),
+                _ => say(fault.to_string()),
+            }
             fault.status()
         }
     };

@@ -1,0 +1,67 @@
+//! What is said of refused inputs, of faults and of scripts.
+
+use std::ffi::OsStr;
+use std::os::unix::ffi::OsStrExt;
+
+use bstr::ByteSlice;
+
+use crate::command::Command;
+use crate::mirror::Refusal;
+use crate::plan::{find_program, Environment, LinkPlan};
+use crate::report::{
+    fault_diagnostics, refusals_of_object, refusals_of_script, Diagnostic, Inputs, RefusedInput, Style,
+};
+use crate::script::{Place, ScriptError};
+
+/// The faults of a link that are said.
+const GREATEST_FAULTS: usize = 1000;
+
+fn say_all(diagnostics: &[Diagnostic]) {
+    let style = Style::of(&std::io::stderr());
+    diagnostics.iter().for_each(|diagnostic| eprintln!("{}", diagnostic.render(style)));
+}
+
+/// Where a line of the script that was sent came from.
+fn origin(plan: &LinkPlan, line: u32) -> Option<Place> {
+    plan.residual.lines.get((line as usize).checked_sub(1)?).cloned()
+}
+
+/// An object that is refused.
+pub(super) fn say_refused_object(plan: &LinkPlan, index: usize, refusal: Refusal, environment: &Environment) {
+    let ldi = find_program("ldi", environment);
+    if let Some(held) = plan.held().get(index) {
+        let input = RefusedInput { name: held.name.as_bstr(), refusal, data: Some(&held.data), ldi: &ldi };
+        say_all(&refusals_of_object(&input, plan.inputs.objects().get(index)));
+    }
+}
+
+/// The script, where it is refused.
+pub(super) fn say_refused_script(plan: &LinkPlan, refusal: Refusal, environment: &Environment) {
+    let ldi = find_program("ldi", environment);
+    let name = plan.inputs.scripts.path.as_os_str().as_bytes().as_bstr();
+    let input = RefusedInput { name, refusal, data: Some(&plan.residual.text), ldi: &ldi };
+    say_all(&refusals_of_script(&input, &|line| origin(plan, line)));
+}
+
+/// The faults of a link.
+pub(super) fn say_faults(command: &Command, plan: &LinkPlan, faults: &[u8]) {
+    let inputs = Inputs {
+        script_path: &plan.inputs.scripts.path,
+        script: &plan.residual.text,
+        origin: &|line| origin(plan, line),
+        objects: plan.inputs.objects(),
+        entry: command.entry.as_ref().map(|entry| OsStr::from_bytes(entry.as_ref())),
+    };
+    say_all(&fault_diagnostics(faults, &inputs, Some(GREATEST_FAULTS)));
+}
+
+/// A text that is no script.
+pub(super) fn say_no_script(error: &ScriptError) {
+    say_all(&[Diagnostic::from(error)]);
+}
+
+/// What was passed over in the scripts.
+pub(super) fn say_warnings(plan: &LinkPlan) {
+    let warnings: Vec<Diagnostic> = plan.inputs.scripts.reading.warnings.iter().map(Diagnostic::from).collect();
+    say_all(&warnings);
+}
