@@ -118,12 +118,22 @@ impl<'a> Walk<'a> {
 
     /// All of it.
     pub(super) fn run(mut self) -> Residual {
+        self.includes();
         self.commands();
         let insertion = self.memory();
         self.statements();
         self.entry(insertion);
         segments::write(&mut self);
         self.finish()
+    }
+
+    /// INCLUDE goes; what the file has stands after it.
+    fn includes(&mut self) {
+        let source = self.request.source;
+        for (span, path) in source.includes() {
+            self.note(NoteKind::Rewritten, span.start, format!("INCLUDE {}: its text is read in", path.display()));
+            self.edits.replace(self.text, *span, "\n");
+        }
     }
 
     /// The text, and what is to be said of it.

@@ -95,6 +95,7 @@ pub struct Source {
     text: Vec<u8>,
     files: Vec<ScriptFile>,
     stretches: Vec<Stretch>,
+    includes: Vec<(Span, PathBuf)>,
 }
 
 impl Source {
@@ -114,6 +115,17 @@ impl Source {
     #[must_use]
     pub fn files(&self) -> &[ScriptFile] {
         &self.files
+    }
+
+    /// The INCLUDEs, each with the path of the file that was read; what it has stands after it.
+    #[must_use]
+    pub fn includes(&self) -> &[(Span, PathBuf)] {
+        &self.includes
+    }
+
+    /// Notes an INCLUDE.
+    pub(super) fn add_include(&mut self, span: Span, path: PathBuf) {
+        self.includes.push((span, path));
     }
 
     /// The file, line and column of an offset; of one after the end, those of the end.
