@@ -3,6 +3,7 @@
 //! [`Inputs::load`] reads scripts and objects; [`LinkPlan::new`] lays the script out over the objects and writes it in the
 //! profile. [`LinkPlan::replan`] is the same plan with other bytes of some objects.
 
+mod collecting;
 mod programs;
 mod scripts;
 mod settings;
@@ -173,6 +174,14 @@ fn written(command: &Command, inputs: &Inputs, evaluation: Option<&Evaluation>) 
     let objects: Vec<&BStr> = inputs.held.iter().map(|held| held.name.as_bstr()).collect();
     let defines =
         |name: &BStr| inputs.objects().iter().any(|object| object.globals_named(name).any(|one| one.rank().is_some()));
+    let entry = command.entry.as_ref().or_else(|| inputs.scripts.entry());
+    let kept = match evaluation.filter(|_| command.collects_sections) {
+        Some(evaluation) => {
+            let entry = entry.map_or_else(|| b"start".as_bstr(), |name| name.as_bstr());
+            collecting::kept_beside(&inputs.scripts.reading.script, inputs.objects(), evaluation, entry)
+        }
+        None => Vec::new(),
+    };
     residual(Request {
         script: &inputs.scripts.reading.script,
         source: &inputs.scripts.reading.source,
@@ -182,6 +191,7 @@ fn written(command: &Command, inputs: &Inputs, evaluation: Option<&Evaluation>) 
         entry: command.entry.as_ref().map(|name| name.as_bstr()),
         has_default_entry: true,
         defines: &defines,
+        kept: &kept,
     })
 }
 

@@ -9,7 +9,7 @@ use super::rules::{translate, Reasons};
 use super::top::whole_value;
 use super::view::View;
 use super::walk::{At, Settled, Walk};
-use crate::layout::evaluation::{Gap, Placed, StatementKind};
+use crate::layout::evaluation::{Definer, Gap, Placed, StatementKind};
 use crate::layout::ids::SectionId;
 use crate::script::tree::{
     AssignOperator, Assignment, BinaryOperator, DataText, DataWidth, Expr, ExprKind, Function, InputStatement, Name,
@@ -72,9 +72,31 @@ impl<'a> Walk<'a> {
         }
         let close = section.body.span.end.saturating_sub(1);
         self.rest(body, close);
+        self.bounds(body, close);
         if let Some(place) = body.place {
             if place.size > body.at && !place.is_gone {
                 self.gap_to(body, place.size, None, close);
+            }
+        }
+    }
+
+    /// `__start_NAME` and `__stop_NAME`, which GNU ld defines by itself for a section of that name.
+    fn bounds(&mut self, body: &Body<'a>, close: u32) {
+        let (evaluation, place) = match (self.request.evaluation, body.place) {
+            (Some(evaluation), Some(place)) => (evaluation, place),
+            _ => return,
+        };
+        let end = place.address.wrapping_add(place.size);
+        for (front, wanted, at, order) in
+            [("__start_", place.address, body.open, -5), ("__stop_", end, close, 1_000_000)]
+        {
+            let name = Name::from([front.as_bytes(), &body.name].concat());
+            let symbol = evaluation.symbol(&name).filter(|symbol| symbol.definer == Definer::Linker);
+            let value = symbol.and_then(|symbol| symbol.value).map(|value| value.address);
+            if value == Some(wanted) && super::profile::is_name(&name) {
+                self.edits.insert(at, order, format!(" PROVIDE({name} = .) "));
+                self.note(NoteKind::Rewritten, body.open, format!("{name}, which GNU ld defines by itself, is PROVIDEd"));
+                self.symbols.insert(name, wanted);
             }
         }
     }
@@ -198,7 +220,13 @@ impl<'a> Walk<'a> {
             end = one.offset.wrapping_add(one.size);
         }
         if !is_fine || !is_regular {
-            let text = self.explicit_with(&sections, &gaps, node.is_kept, body);
+            let text = self.explicit_with(&sections, gaps, node.is_kept, body);
+            return self.edits.replace(self.text, span, text);
+        }
+        if !node.is_kept && sections.iter().any(|id| self.needs_keep(*id)) {
+            let kept: Vec<SectionId> = sections.iter().copied().filter(|id| self.needs_keep(*id)).collect();
+            self.kept_by_name.extend(kept);
+            let text = self.explicit_with(&sections, gaps, false, body);
             return self.edits.replace(self.text, span, text);
         }
         if let Some(first) = places.first() {
@@ -229,6 +257,11 @@ impl<'a> Walk<'a> {
         self.explicit_with(sections, &[], is_kept, body)
     }
 
+    /// Whether an input section stays by KEEP alone.
+    fn needs_keep(&self, id: SectionId) -> bool {
+        self.request.kept.get(id.index()).copied().unwrap_or(false)
+    }
+
     /// Statements that take these input sections one by one, each at its place.
     fn explicit_with(&mut self, sections: &[SectionId], gaps: &[Gap], is_kept: bool, body: &mut Body<'a>) -> String {
         let evaluation = match self.request.evaluation {
@@ -237,7 +270,8 @@ impl<'a> Walk<'a> {
         };
         let mut text = Vec::new();
         let mut before = None;
-        for one in sections.iter().filter_map(|id| evaluation.section(*id)) {
+        for (id, one) in sections.iter().filter_map(|id| Some((id, evaluation.section(*id)?))) {
+            let needs_keep = self.needs_keep(*id);
             if one.offset != aligned(body.at, one.own_align) || gaps.iter().any(|gap| gap.offset == body.at) {
                 let gap = gaps.iter().find(|gap| gap.offset == body.at);
                 let is_plain = one.offset == aligned(body.at, one.own_align)
@@ -248,12 +282,12 @@ impl<'a> Walk<'a> {
             }
             let object = self.request.objects.get(one.object.0 as usize).copied().unwrap_or_default();
             let name = evaluation.section_name(one);
-            let key = (one.object, one.name);
+            let key = (one.object, one.name, needs_keep);
             if before != Some(key) {
                 match (super::profile::word_of_name(object), super::profile::word_of_name(name)) {
                     (Some(object), Some(name)) => {
                         let own = format!("{}({})", object.to_str_lossy(), name.to_str_lossy());
-                        text.push(if is_kept { format!("KEEP({own})") } else { own });
+                        text.push(if is_kept || needs_keep { format!("KEEP({own})") } else { own });
                     }
                     _ => self.note(NoteKind::Changed, body.open, format!("{name} of {object} cannot be named")),
                 }

@@ -125,7 +125,7 @@ impl<'a> Walk<'a> {
         if is_plain && !self.has_doubtful_file(node) {
             return true;
         }
-        let form = form_of(node, false);
+        let form = form_of(node, false, self.has_members());
         let is_in_doubt = form.is_in_doubt || self.has_doubtful_file(node);
         if is_in_doubt && self.request.evaluation.is_some() {
             if !self.takes_the_same(&form, span, sections) {
@@ -154,7 +154,7 @@ impl<'a> Walk<'a> {
         if is_plain(node) && !node.is_kept {
             return;
         }
-        let form = form_of(node, true);
+        let form = form_of(node, true, self.has_members());
         let text = form.text(false);
         let what = self.quoted(span);
         self.edits.replace(self.text, span, text.clone());
@@ -166,7 +166,12 @@ impl<'a> Walk<'a> {
     fn has_doubtful_file(&self, node: &InputStatement) -> bool {
         let names_files = node.file.as_ref().map_or(false, |file| file.node.glob != "*")
             || all_patterns(node).any(|pattern| !pattern.excluded_files.is_empty());
-        names_files && self.request.objects.iter().any(|name| name.contains(&b'('))
+        names_files && self.has_members()
+    }
+
+    /// Whether there are members of archives among the objects.
+    fn has_members(&self) -> bool {
+        self.request.objects.iter().any(|name| name.contains(&b'('))
     }
 
     /// Whether the statements of a form take these sections, in this order, of those that no earlier statement takes.
@@ -239,7 +244,7 @@ fn is_plain(node: &InputStatement) -> bool {
 }
 
 /// The statements of the profile for one of GNU ld's.
-fn form_of(node: &InputStatement, is_discarded: bool) -> Form {
+fn form_of(node: &InputStatement, is_discarded: bool, has_members: bool) -> Form {
     let mut form = Form::default();
     let file = node.file.as_ref().map(|file| &file.node);
     match file {
@@ -262,7 +267,7 @@ fn form_of(node: &InputStatement, is_discarded: bool) -> Form {
         form.say("EXCLUDE_FILE before each pattern");
     }
     for pattern in patterns {
-        group(&pattern.node, left_out, is_discarded, &mut form);
+        group(&pattern.node, left_out, is_discarded, has_members, &mut form);
     }
     if form.groups.len() > 1 {
         form.doubt("a statement for each sort");
@@ -311,14 +316,14 @@ fn word(glob: &[u8], form: &mut Form) -> Vec<u8> {
 }
 
 /// Puts a pattern into a group of its sort.
-fn group(pattern: &Pattern, left_out: &[Name], is_discarded: bool, form: &mut Form) {
+fn group(pattern: &Pattern, left_out: &[Name], is_discarded: bool, has_members: bool, form: &mut Form) {
     let mut sort = sort_of(pattern, form);
     if is_discarded && sort.is_some() {
         form.say("what is left out needs no sort");
         sort = None;
     }
     let files = left_out.iter().chain(&pattern.excluded_files);
-    let excluded: Vec<Vec<u8>> = files.map(|file| excluded_file(file, form)).collect();
+    let excluded: Vec<Vec<u8>> = files.flat_map(|file| excluded_files(file, has_members, form)).collect();
     if sort.is_some() && !excluded.is_empty() {
         form.doubt("EXCLUDE_FILE does not stand in a sort");
         sort = None;
@@ -335,12 +340,25 @@ fn group(pattern: &Pattern, left_out: &[Name], is_discarded: bool, form: &mut Fo
     }
 }
 
-fn excluded_file(file: &Name, form: &mut Form) -> Vec<u8> {
-    let own = match file.iter().rposition(|byte| *byte == b':') {
-        Some(at) => file.get(at + 1..).unwrap_or_default(),
-        None => file.as_slice(),
-    };
-    word(own, form)
+/// The patterns of a file that is left out. Members of archives are named `lib.a(member.o)`.
+fn excluded_files(file: &Name, has_members: bool, form: &mut Form) -> Vec<Vec<u8>> {
+    let of_member = |archive: &[u8], member: &[u8]| [archive, b"\\(", member, b"\\)"].concat();
+    match file.iter().rposition(|byte| *byte == b':') {
+        Some(0) => vec![word(file.get(1..).unwrap_or_default(), form)],
+        Some(at) => {
+            let archive = word(file.get(..at).unwrap_or_default(), form);
+            let member = file.get(at + 1..).filter(|member| !member.is_empty()).unwrap_or(b"*");
+            let member = word(member, form);
+            vec![of_member(&archive, &member)]
+        }
+        None => {
+            let own = word(file, form);
+            match has_members {
+                true => vec![own.clone(), of_member(b"*", &own), of_member(&own, b"*")],
+                false => vec![own],
+            }
+        }
+    }
 }
 
 /// The sort of the profile that is nearest to those of a pattern.
@@ -396,19 +414,19 @@ mod tests {
 
     #[test]
     fn sorts_and_files_have_their_forms() {
-        let both = form_of(&statement("*", vec![pattern(".a", &[Sort::ByName]), pattern(".b", &[])]), false);
+        let both = form_of(&statement("*", vec![pattern(".a", &[Sort::ByName]), pattern(".b", &[])]), false, false);
         assert_eq!(both.text(false), "*(SORT_BY_NAME(.a)) *(.b)");
         assert!(both.is_in_doubt);
-        let none = form_of(&statement("lib.a:x.o", vec![pattern(".a", &[Sort::None])]), false);
+        let none = form_of(&statement("lib.a:x.o", vec![pattern(".a", &[Sort::None])]), false, false);
         assert_eq!(none.text(true), "KEEP(lib.a\\(x.o\\)(.a))");
-        let priority = form_of(&statement("*", vec![pattern(".init_array.*", &[Sort::ByInitPriority])]), false);
+        let priority = form_of(&statement("*", vec![pattern(".init_array.*", &[Sort::ByInitPriority])]), false, false);
         assert!(!priority.is_in_doubt);
         assert_eq!(priority.text(false), "*(SORT_BY_NAME(.init_array.*))");
     }
 
     #[test]
     fn a_form_takes_in_the_order_of_its_statements() {
-        let form = form_of(&statement("*", vec![pattern(".b*", &[Sort::ByName]), pattern("*", &[])]), false);
+        let form = form_of(&statement("*", vec![pattern(".b*", &[Sort::ByName]), pattern("*", &[])]), false, false);
         let sections: [(&[u8], &[u8], u64); 4] =
             [(b"x", b".c", 1), (b"x", b".b2", 1), (b"y", b".b1", 1), (b"y", b".a", 1)];
         assert_eq!(form.takes(&sections), [2, 1, 0, 3]);

@@ -51,6 +51,9 @@ pub struct Request<'a> {
     pub has_default_entry: bool,
     /// Names of symbols and the objects that define them, for what is said.
     pub defines: &'a dyn Fn(&BStr) -> bool,
+    /// The input sections, by their index, that stay by KEEP alone: GNU ld's --gc-sections keeps them, and `ldi` would
+    /// not by itself. Empty where there are none.
+    pub kept: &'a [bool],
 }
 
 /// A script of the profile.

@@ -113,7 +113,7 @@ fn described(test: &Expr) -> String {
 fn foreign(e: &Expr, name: &Name, around: &dyn Around, reasons: &mut Reasons) -> Expr {
     match around.value(e) {
         Some(value) => {
-            reasons.say(format!("{name} as its value"));
+            reasons.say(format!("{name} as the number that a link gives it"));
             reasons.foreign.push((name.clone(), value));
             reasons.is_numeric = true;
             number(value)

@@ -11,7 +11,8 @@ use super::rules::{translate, Reasons};
 use super::versions::Versions;
 use super::view::{Facts, View};
 use super::{segments, Request, Residual};
-use crate::layout::evaluation::{Statement, StatementKind};
+use crate::layout::evaluation::{Definer, Statement, StatementKind};
+use crate::layout::ids::SectionId;
 use crate::script::tree::{Expr, Name, Provision, Script, Span};
 
 /// An output section that is complete, as the profile has it.
@@ -78,6 +79,8 @@ pub(super) struct Walk<'a> {
     pub(super) foreign: BTreeMap<Name, u64>,
     /// The statements with the input sections that they take, by their order; made when it is asked for.
     pub(super) takers: Option<Vec<u32>>,
+    /// The input sections that got KEEP.
+    pub(super) kept_by_name: Vec<SectionId>,
     pub(super) result: Residual,
 }
 
@@ -112,6 +115,7 @@ impl<'a> Walk<'a> {
             section_names: HashSet::new(),
             foreign: BTreeMap::new(),
             takers: None,
+            kept_by_name: Vec::new(),
             result: Residual::default(),
         }
     }
@@ -123,8 +127,69 @@ impl<'a> Walk<'a> {
         let insertion = self.memory();
         self.statements();
         self.entry(insertion);
+        self.bounds_as_numbers();
+        self.say_kept();
         segments::write(&mut self);
         self.finish()
+    }
+
+    /// The other symbols that GNU ld defines by itself, as numbers.
+    fn bounds_as_numbers(&mut self) {
+        let evaluation = match self.request.evaluation {
+            Some(evaluation) => evaluation,
+            None => return,
+        };
+        let end = u32::try_from(self.text.len()).unwrap_or(u32::MAX);
+        for symbol in evaluation.symbols.iter().filter(|symbol| symbol.definer == Definer::Linker) {
+            let value = symbol.value.filter(|_| symbol.is_in_objects && super::profile::is_name(&symbol.name));
+            if let (Some(value), false) = (value, self.symbols.contains_key(&symbol.name)) {
+                self.edits.insert(end, i32::MAX - 2, format!(" {} = {:#x};", symbol.name, value.address));
+            }
+        }
+    }
+
+    /// Says what of --gc-sections is other than GNU ld's.
+    fn say_kept(&mut self) {
+        let end = u32::try_from(self.text.len()).unwrap_or(u32::MAX).saturating_sub(1);
+        let kept = std::mem::take(&mut self.kept_by_name);
+        if let Some(list) = self.listed(&kept) {
+            let why = "under KEEP, as GNU ld keeps what is wanted by a name, notes, and what more references lead to";
+            self.note_of(NoteKind::Rewritten, Topic::Beside, end, format!("--gc-sections: {list}: {why}"));
+        }
+        let evaluation = match self.request.evaluation.filter(|_| !self.request.kept.is_empty()) {
+            Some(evaluation) => evaluation,
+            None => return,
+        };
+        let orphans: Vec<SectionId> = evaluation
+            .orphans
+            .iter()
+            .copied()
+            .filter(|id| self.request.kept.get(id.index()).copied().unwrap_or(false))
+            .filter(|id| evaluation.section(*id).map_or(false, super::head::is_linked))
+            .collect();
+        if let Some(list) = self.listed(&orphans) {
+            let why = "GNU ld keeps and places this, which no statement takes; here it is not in the image";
+            self.note_of(NoteKind::Changed, Topic::Beside, end, format!("--gc-sections: {list}: {why}"));
+        }
+    }
+
+    /// The first of some input sections, for people; `None` where there is none.
+    fn listed(&self, sections: &[SectionId]) -> Option<String> {
+        const GREATEST_NAMES: usize = 3;
+        let evaluation = self.request.evaluation?;
+        let known = sections.iter().filter_map(|id| evaluation.section(*id));
+        let labels: Vec<String> = known
+            .take(GREATEST_NAMES)
+            .map(|one| {
+                let object = self.request.objects.get(one.object.0 as usize).copied().unwrap_or_default();
+                format!("{} of {}", evaluation.section_name(one), object.as_bstr())
+            })
+            .collect();
+        let more = match sections.len().saturating_sub(GREATEST_NAMES) {
+            0 => String::new(),
+            more => format!(" and {more} more"),
+        };
+        (!labels.is_empty()).then(|| format!("{}{more}", labels.join(", ")))
     }
 
     /// INCLUDE goes; what the file has stands after it.
