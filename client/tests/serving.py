@@ -119,7 +119,7 @@ class ServerTest(LinkTest):
 
     def begin(self, *words: str, env: Mapping[str, str] | None = None) -> subprocess.Popen[str]:
         """Starts a call, and does not wait for it."""
-        environment = {**os.environ, **(env or self.env())}
+        environment = {**os.environ, "LDI_FALLBACK": "none", **(env or self.env())}
         return subprocess.Popen([LD_LDI, *(words or WORDS)], cwd=self.folder, env=environment, text=True,
                                 stdin=subprocess.DEVNULL, stdout=subprocess.PIPE, stderr=subprocess.PIPE)
 

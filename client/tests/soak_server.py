@@ -57,7 +57,7 @@ class Soak:
 
     def __post_init__(self) -> None:
         self.chance = random.Random(self.seed)
-        self.env = {**os.environ, "XDG_RUNTIME_DIR": str(self.runtime), "LDI_SERVER": "1"}
+        self.env = {**os.environ, "XDG_RUNTIME_DIR": str(self.runtime), "LDI_SERVER": "1", "LDI_FALLBACK": "none"}
         self._archive()
 
     # edits

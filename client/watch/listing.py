@@ -40,7 +40,7 @@ def check_names(names: Sequence[str]) -> None:
     for name in names:
         raw = name.encode(errors="surrogateescape")
         if not is_name(raw):
-            raise NamesRefused(f"{raw.decode(errors='replace')}: {why_no_name(raw)}")
+            raise NamesRefused(f"`{raw.decode(errors='replace')}`: {why_no_name(raw)}")
         if name in seen:
             raise NamesRefused(f"`{name}` is named twice", "refused 1 0")
         seen.add(name)
