@@ -92,6 +92,12 @@ class ExampleTest(OutsideTest):
         for line in self.must(LDI_GDB, "--lines", "hello.map", "401013").splitlines():
             self.assertRegex(line, r"system\.c:[0-9]+")
 
+    @unittest.expectedFailure  # `readscript` has one form for all numbers
+    def test_one_statement(self) -> None:
+        """`readscript` of a script with one statement."""
+        self.write("one.ld", "SECTIONS { }\n")
+        self.assertIn("1 statement\n", self.must(os.path.join(os.path.dirname(LDI), "readscript"), "one.ld"))
+
     @unittest.expectedFailure  # the tip of the words of `ldi` is of an option `-M`
     def test_tip(self) -> None:
         """`ldi link -Map` is told `--Map`."""
