@@ -550,7 +550,7 @@ impl<'a> Loader<'a> {
             return Err(InputFault::OfOtherLinkers(format!("{full_name}: {fault}")));
         }
         self.known.put(data, object.clone());
-        self.objects.push(object.with_retained(retained.iter().copied()));
+        self.objects.push(object.with_retained(retained));
         Ok(())
     }
 

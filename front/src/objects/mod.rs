@@ -95,9 +95,13 @@ impl Origin {
     }
 }
 
-/// An object of a link. A copy shares what was read.
+/// An object of a link. A copy shares all of it.
 #[derive(Clone, Debug)]
-pub struct Object {
+pub struct Object(Arc<Inner>);
+
+/// What an object is.
+#[derive(Clone, Debug)]
+struct Inner {
     name: BString,
     origin: Origin,
     elf: Arc<Elf>,
@@ -116,52 +120,57 @@ impl Object {
             Ok(elf) => (elf, None),
             Err(fault) => (Elf::empty(data), Some(fault)),
         };
-        Object { name, origin, elf: Arc::new(elf), fault, retained }
+        Object(Arc::new(Inner { name, origin, elf: Arc::new(elf), fault, retained }))
     }
 
     /// The same with sections that `--gc-sections` keeps whatever names them.
     #[must_use]
-    pub fn with_retained(mut self, sections: impl IntoIterator<Item = SectionIndex>) -> Object {
-        self.retained.extend(sections);
+    pub fn with_retained(mut self, sections: &[SectionIndex]) -> Object {
+        if !sections.is_empty() {
+            Arc::make_mut(&mut self.0).retained.extend_from_slice(sections);
+        }
         self
     }
 
     /// The same bytes under another name and from another place.
     #[must_use]
     pub fn renamed(mut self, name: BString, origin: Origin) -> Object {
-        self.name = name;
-        self.origin = origin;
+        if self.name() != name || *self.origin() != origin {
+            let inner = Arc::make_mut(&mut self.0);
+            inner.name = name;
+            inner.origin = origin;
+        }
         self
     }
 
     /// Its name in the session of `ldi`: 1 to 255 bytes from `!` to `~`, no other object's.
     pub fn name(&self) -> &BStr {
-        self.name.as_bstr()
+        self.0.name.as_bstr()
     }
 
     /// Where it is from.
     pub fn origin(&self) -> &Origin {
-        &self.origin
+        &self.0.origin
     }
 
     /// The bytes that `ldi` gets.
     pub fn data(&self) -> &Bytes {
-        self.elf.data()
+        self.0.elf.data()
     }
 
     /// Its tables; also `object.sections()` and its like, as an object stands for them.
     pub fn elf(&self) -> &Elf {
-        &self.elf
+        &self.0.elf
     }
 
     /// Why it is no object that `ldi` links.
     pub fn fault(&self) -> Option<&ObjectFault> {
-        self.fault.as_ref()
+        self.0.fault.as_ref()
     }
 
     /// The sections that `--gc-sections` keeps whatever names them.
     pub fn retained(&self) -> &[SectionIndex] {
-        &self.retained
+        &self.0.retained
     }
 }
 
@@ -169,6 +178,6 @@ impl Deref for Object {
     type Target = Elf;
 
     fn deref(&self) -> &Elf {
-        &self.elf
+        &self.0.elf
     }
 }
