@@ -34,6 +34,8 @@ mod sorting;
 mod special;
 pub mod stop;
 mod symbols;
+#[cfg(test)]
+mod tests;
 mod unwinding;
 mod values;
 
