@@ -95,7 +95,11 @@ impl<'a> Walk<'a> {
             let value = symbol.and_then(|symbol| symbol.value).map(|value| value.address);
             if value == Some(wanted) && super::profile::is_name(&name) {
                 self.edits.insert(at, order, format!(" PROVIDE({name} = .) "));
-                self.note(NoteKind::Rewritten, body.open, format!("{name}, which GNU ld defines by itself, is PROVIDEd"));
+                self.note(
+                    NoteKind::Rewritten,
+                    body.open,
+                    format!("{name}, which GNU ld defines by itself, is PROVIDEd"),
+                );
                 self.symbols.insert(name, wanted);
             }
         }

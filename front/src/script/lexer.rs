@@ -83,6 +83,9 @@ struct Frame {
 /// How deep files can include one another, the script itself counted (MAX_INCLUDE_DEPTH of GNU ld).
 const MAX_OPEN_FILES: usize = 10;
 
+/// The line ends that a file of INCLUDE gets, at most.
+const BREAKS: usize = 2;
+
 /// After how many characters that begin nothing a text is no script.
 const MAX_INVALID: usize = 1000;
 
@@ -104,23 +107,30 @@ pub(super) struct Lexer {
 }
 
 impl Lexer {
-    /// Begins with a file, or goes on with one that is included.
+    /// Begins with a file.
     pub fn push(&mut self, path: PathBuf, text: Vec<u8>) -> Result<(), ScriptError> {
-        self.planned = self.planned.saturating_add(text.len());
+        self.planned = self.planned.saturating_add(text.len() + BREAKS);
         if u32::try_from(self.planned).is_err() {
             return Err(self.error_here(ErrorKind::TooLong));
         }
         if self.frames.len() >= MAX_OPEN_FILES {
             return Err(self.error_here(ErrorKind::IncludeDepth));
         }
-        if let Some(outer) = self.frames.last_mut() {
-            self.source.append(outer.file, outer.copied, outer.at);
-            outer.copied = outer.at;
-        }
         let file = self.source.add_file(path, text);
         self.seen = None;
         self.frames.push(Frame { file, at: 0, copied: 0, base: self.source.end() });
         Ok(())
+    }
+
+    /// Goes on with a file that the statement names which began with a word and ended with the last token: in the whole
+    /// text the file stands in its place, on lines of its own.
+    pub fn include(&mut self, word: Token, path: PathBuf, text: Vec<u8>) -> Result<(), ScriptError> {
+        if let Some(outer) = self.frames.last_mut() {
+            self.source.append(outer.file, outer.copied, word.at);
+            self.source.break_line();
+            outer.copied = outer.at;
+        }
+        self.push(path, text)
     }
 
     /// Ends the file that was begun last, and goes on with the one around it.
@@ -134,6 +144,7 @@ impl Lexer {
         self.seen = None;
         self.previous = None;
         if let Some(outer) = self.frames.last_mut() {
+            self.source.break_line();
             outer.base = self.source.end().wrapping_sub(offset(outer.at));
         }
         self.last = self.source.end();

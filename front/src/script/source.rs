@@ -1,5 +1,5 @@
-//! The text of a script with the files that INCLUDE names, each after the statement that names it, and the file and line
-//! of an offset.
+//! The text of a script with the files that INCLUDE names, each in the place of the statement that names it, and the file
+//! and line of an offset.
 
 use std::fmt;
 use std::io;
@@ -165,6 +165,11 @@ impl Source {
     /// The length of the text.
     pub(super) fn end(&self) -> u32 {
         u32::try_from(self.text.len()).unwrap_or(u32::MAX)
+    }
+
+    /// Ends a line of the text, which no file has so.
+    pub(super) fn break_line(&mut self) {
+        self.text.push(b'\n');
     }
 
     /// Appends a part of a file to the text.

@@ -1,5 +1,5 @@
 //! The tree of a script of GNU ld's language. Each node has its span in the text; what INCLUDE names stands in the text
-//! after it, so one pair of offsets serves (`Source` knows the file and the line of an offset).
+//! in its place, so one pair of offsets serves (`Source` knows the file and the line of an offset).
 //!
 //! Trees are equal when they say the same: spans do not count.
 

@@ -142,7 +142,7 @@ impl<'a> Parser<'a> {
             Err(_) => return Err(self.lexer.error(word, ErrorKind::MissingInclude(name.to_string()))),
         };
         self.lexer.source.add_include(word.span.to(span), path.clone());
-        self.lexer.push(path, text)?;
+        self.lexer.include(word, path, text)?;
         read(self)?;
         let end = self.peek(state)?;
         if end.kind != Kind::End {

@@ -44,6 +44,15 @@ fn include_stands_at_the_top_in_memory_in_sections_and_in_output_sections() {
 }
 
 #[test]
+fn a_file_stands_in_the_text_in_the_place_of_its_statement() {
+    let reading = read_with_files("a = 1; INCLUDE top.ld b = 2;").unwrap_or_else(|error| panic!("{error}"));
+    assert_eq!(reading.source.text(), b"a = 1; \ntop = 1;\n b = 2;");
+    let reading = read_with_files(TEXT).unwrap_or_else(|error| panic!("{error}"));
+    let alone = super::super::parse(Path::new("script"), reading.source.text()).map(|reading| reading.script);
+    assert_eq!(alone, Ok(reading.script));
+}
+
+#[test]
 fn spans_name_the_text_and_the_place() {
     let reading = read_with_files(TEXT).unwrap_or_else(|error| panic!("{error}"));
     let source = &reading.source;
