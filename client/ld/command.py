@@ -119,6 +119,11 @@ class Command:
         if text not in self.notes:
             self.notes.append(text)
 
+    def refuse(self, reason: str) -> None:
+        """Keeps what only another linker can do, once."""
+        if reason not in self.cannot:
+            self.cannot.append(reason)
+
     @property
     def has_script(self) -> bool:
         """Whether the words name a script."""
@@ -190,9 +195,7 @@ class Reader:
         if option.effect is Effect.SAID:
             self.command.note(f"{self.written(option)}: {option.note}")
         elif option.effect is Effect.CANNOT:
-            reason = f"{self.written(option)}: {option.note}"
-            if reason not in self.command.cannot:
-                self.command.cannot.append(reason)
+            self.command.refuse(f"{self.written(option)}: {option.note}")
         elif option.effect is Effect.TAKEN:
             if not (self.setting(name, value or "") or self.input_flag(name, value or "")):
                 self.special(name, value)
@@ -285,7 +288,7 @@ class Reader:
         command = self.command
         if name == "m":
             if value != "elf_x86_64":
-                command.cannot.append(f"-m {value}: another machine")
+                command.refuse(f"-m {value}: another machine")
         elif name == "z":
             self.keyword(value or "")
         elif name == "orphan-handling":
@@ -305,7 +308,7 @@ class Reader:
             if value in ("binary", "elf64-x86-64"):
                 command.output_format = value
             else:
-                command.cannot.append(f"--oformat {value}: another format")
+                command.refuse(f"--oformat {value}: another format")
         elif name == "N":
             command.omagic = True
             command.note("-N: code is not writable; segments lie in the file as their addresses modulo 4,096 ask")

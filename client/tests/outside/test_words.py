@@ -41,6 +41,8 @@ class WordsTest(OutsideTest):
             done = self.ld(option, "-T", "t.ld", "a.o", "-o", "out", env=NONE)
             self.assertEqual(done.returncode, 2)
             self.assertTrue(done.stderr.startswith(f"ld.ldi: {option.partition('=')[0]}: "), done.stderr)
+        done = self.ld("-m", "elf_i386", "-m", "elf_i386", "a.o", env=NONE)
+        self.assertEqual(done.stderr.count("-m elf_i386"), 1, done.stderr)
         self.assertTrue(self.said("--strip-all").startswith("ld.ldi: --strip-all: "))
 
     def test_no_server_in_a_container(self) -> None:
