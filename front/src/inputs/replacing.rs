@@ -5,8 +5,8 @@ use super::{Archive, Loaded};
 use crate::command::Command;
 use crate::objects::Object;
 use crate::snapshot::{Bytes, Snapshot};
-use bstr::{BStr, BString};
-use std::collections::{HashMap, HashSet};
+use bstr::BStr;
+use std::collections::HashMap;
 use std::path::{Path, PathBuf};
 
 impl Loaded {
@@ -48,12 +48,6 @@ impl Loaded {
     fn is_choosing(&self, command: &Command, name: &BStr) -> bool {
         let is_required = command.required.iter().any(|required| required == name);
         is_required || self.choosing.iter().flat_map(|symbols| symbols.iter()).any(|(other, _)| other == name)
-    }
-
-    /// The names of the symbol tables of the archives that were gone through: what objects have of others takes no
-    /// member.
-    pub fn choosing_names(&self) -> HashSet<&BString> {
-        self.choosing.iter().flat_map(|symbols| symbols.iter()).map(|(name, _)| name).collect()
     }
 }
 

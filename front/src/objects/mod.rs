@@ -4,7 +4,6 @@ mod elf;
 mod filter;
 mod names;
 mod profile;
-mod references;
 mod section;
 mod symbol;
 #[cfg(test)]
@@ -14,7 +13,6 @@ pub use elf::Elf;
 pub(crate) use filter::NameFilter;
 pub use names::{Definition, LinkNames};
 pub use profile::{binary_object, session_name, without_retain, GREATEST_NAME};
-pub use references::{Lead, NameIndex, Part, References, Target};
 pub use section::{Relocation, Section, SectionFlags, SectionIndex, SectionKind};
 pub use symbol::{Binding, Home, Rank, Symbol, SymbolIndex, SymbolKind, Visibility};
 
