@@ -8,10 +8,13 @@ use std::path::{Path, PathBuf};
 use bstr::{BStr, ByteSlice};
 
 use super::fallback::{hand_over, Reasons};
-use super::{messages, say, tables};
+use super::{messages, say, tables, verdict};
+use crate::checker::NoImage;
 use crate::command::Command;
 use crate::finish::{finish, FileImage, FinishError};
 use crate::inputs::InputFault;
+use crate::layout::stop::RefusedReason;
+use crate::layout::Stop;
 use crate::mirror::{Brought, Mirror, SessionError, Wanted};
 use crate::place::{write_file, NotWritten, Reader, PROGRAM, TEXT};
 use crate::plan::{find_program, options_of, Environment, Inputs, LinkPlan, PlanFault, Scripts, ScriptsFault};
@@ -57,6 +60,9 @@ pub enum LinkFault {
     /// A file cannot be written.
     #[error(transparent)]
     NotWritten(NotWritten),
+    /// The session answered no image.
+    #[error(transparent)]
+    NoImage(#[from] NoImage),
     /// A file that was read would be written.
     #[error("input file '{0}' is the same as output file")]
     SameFile(String),
@@ -71,7 +77,7 @@ impl LinkFault {
             }
             LinkFault::Plan(_) | LinkFault::SameFile(_) => Status::Refused,
             LinkFault::Form(_) => Status::Faults,
-            LinkFault::Session { .. } | LinkFault::NotWritten(_) => Status::Device,
+            LinkFault::Session { .. } | LinkFault::NotWritten(_) | LinkFault::NoImage(_) => Status::Device,
         }
     }
 }
@@ -152,9 +158,21 @@ impl Link<'_> {
         for note in &left {
             eprintln!("{note}");
         }
-        self.plan.residual.changed().filter(|note| is_said(note)).for_each(|note| eprintln!("{note}"));
+        self.say_section_outside();
+        self.plan.residual.changed().filter(|note| verdict::is_said(note)).for_each(|note| eprintln!("{note}"));
         say(format!("{}: {} places cannot be linked by ldi; they are named above", self.path(), left.len()));
         Ok(Status::Refused)
+    }
+
+    /// Says that a symbol has no value as its section is not in the image.
+    fn say_section_outside(&self) {
+        if let Err(Stop::Refused(refused)) = &self.plan.evaluation {
+            if let RefusedReason::UnresolvableSymbol(name) = &refused.reason {
+                let why = "is not in the image, so that its value cannot be written: take it in, under KEEP where \
+                           --gc-sections leaves it out";
+                say(format!("{}: the section of {name} {why}", self.path()));
+            }
+        }
     }
 
     /// What ends a link without an image.
@@ -169,6 +187,8 @@ impl Link<'_> {
         }
         if !brought.is_good {
             self.report();
+            let changed = self.plan.residual.changed().filter(|note| verdict::is_said(note));
+            changed.for_each(|note| eprintln!("{note}"));
             self.notes();
             let faults = mirror.faults()?;
             messages::say_faults(self.command, self.plan, &faults);
@@ -208,28 +228,6 @@ impl Link<'_> {
                 eprintln!("{note}");
             }
         }
-        self.plan.residual.changed().filter(|note| self.is_of_image(note)).for_each(|note| eprintln!("{note}"));
-        if let Err(stop) = &self.plan.evaluation {
-            let source = &self.plan.inputs.scripts.reading.source;
-            let place = stop.span().map(|span| source.place(span.start).to_string());
-            let place = place.unwrap_or_else(|| format!("{}:1", self.path()));
-            match stop {
-                crate::layout::Stop::Refused(_) => {
-                    eprintln!("{place}: changed: GNU ld makes no image here: {stop}");
-                }
-                crate::layout::Stop::NotEvaluated(_) => {
-                    eprintln!("{place}: changed: the image was not compared with what GNU ld makes: {stop}");
-                }
-            }
-        }
-    }
-
-    /// Whether a line of what is changed is said of an image: what its comparison says is not.
-    fn is_of_image(&self, note: &Note) -> bool {
-        match self.plan.evaluation {
-            Ok(_) => note.topic == Topic::Beside,
-            Err(_) => is_said(note),
-        }
     }
 
     /// Options and inputs of which something is said.
@@ -242,11 +240,19 @@ impl Link<'_> {
         let command = self.command;
         let image = mirror.image().map_err(session)?;
         let tables = command.prints_memory_usage || command.collects_sections && command.prints_collected;
-        let wants_map = command.map_file.is_some() || command.prints_map || tables;
+        let is_compared = verdict::wants_map(self.plan, command.collects_sections);
+        let wants_map = command.map_file.is_some() || command.prints_map || tables || is_compared;
         let map = if wants_map { mirror.map().map_err(session)? } else { Vec::new() };
         mirror.end();
         self.report();
+        let verdict = verdict::verdict(self.plan, &image, if is_compared { &map } else { b"" }, command.is_verbose)?;
+        verdict.lines.iter().for_each(|line| eprintln!("{line}"));
         self.notes();
+        if verdict.differs {
+            let why = "the image would be another than GNU ld's, as is said above: none is written";
+            say(format!("{}: {why}", self.path()));
+            return Ok(Status::Faults);
+        }
         let finished = finish(image, &self.plan.form).map_err(LinkFault::Form)?;
         for note in &finished.notes {
             say(format!("{}: {note}", self.path()));
@@ -307,11 +313,6 @@ impl Link<'_> {
             }
         }
     }
-}
-
-/// Whether a line of what is changed is said at all: program headers and the form are written after the link.
-fn is_said(note: &Note) -> bool {
-    !matches!(note.topic, Topic::Segments | Topic::Form)
 }
 
 fn write(path: &Path, file: &FileImage, mode: rustix::fs::Mode) -> Result<(), LinkFault> {

@@ -6,6 +6,7 @@ mod fallback;
 mod link;
 mod messages;
 mod tables;
+mod verdict;
 
 use std::ffi::OsString;
 use std::os::unix::ffi::OsStrExt;

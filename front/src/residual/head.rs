@@ -103,9 +103,8 @@ impl<'a> Walk<'a> {
         let first = Span { start: span.start, end: section.body.span.start + 1 };
         if is_discarded {
             self.edits.replace(self.text, first, "/DISCARD/ : {");
-            let size = place.map_or(0, |place| place.size);
-            let why = format!("its {size:#x} bytes are not in the image; GNU ld's has them, not loaded");
-            self.note_of(NoteKind::Changed, Topic::Beside, span.start, format!("{name}: {why}"));
+            let why = "what it takes is not loaded, and not in the image";
+            self.note(NoteKind::Rewritten, span.start, format!("{name}: {why}"));
         } else {
             self.edits.blank(self.text, first);
             self.note(NoteKind::Dropped, span.start, format!("{name}: GNU ld makes no such section of what is linked"));

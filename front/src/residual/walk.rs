@@ -5,7 +5,7 @@ use std::collections::{BTreeMap, HashMap, HashSet};
 use bstr::{BStr, BString, ByteSlice};
 
 use super::edits::Edits;
-use super::expression::{number, says, value, write};
+use super::expression::{is_short, number, says, value, write};
 use super::note::{Note, NoteKind, Topic};
 use super::rules::{translate, Reasons};
 use super::versions::Versions;
@@ -286,11 +286,12 @@ impl<'a> Walk<'a> {
             None => return Settled { e: own, reasons },
             Some(needed) => needed,
         };
-        if reasons.missing.is_empty() && self.value_of(&own, at) == Some(needed) {
+        let is_right = |walk: &Walk<'a>, e: &Expr| walk.value_of(e, at) == Some(needed) && is_short(&walk.written(e));
+        if reasons.missing.is_empty() && is_right(self, &own) {
             return Settled { e: own, reasons };
         }
         for (other, why) in others(self, &own) {
-            if self.value_of(&other, at) == Some(needed) {
+            if is_right(self, &other) {
                 reasons.say(why);
                 return Settled { e: other, reasons };
             }

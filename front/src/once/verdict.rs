@@ -1,0 +1,116 @@
+//! What is said of an image beside GNU ld's, and whether it is written.
+
+use crate::checker::{check, Checked, NoImage};
+use crate::layout::evaluation::StatementKind;
+use crate::layout::Stop;
+use crate::plan::LinkPlan;
+use crate::report::link_map::LinkMap;
+use crate::residual::{Note, Topic};
+use crate::script::tree::Span;
+
+/// The input sections up to which their places are compared too, by the map.
+const SMALL: usize = 5000;
+
+/// What came of a comparison.
+#[derive(Debug, Default)]
+pub(super) struct Verdict {
+    /// The lines to be said.
+    pub(super) lines: Vec<String>,
+    /// Whether the image is another than GNU ld's, and nothing that is said explains it: then none is written.
+    pub(super) differs: bool,
+}
+
+/// Whether the map is wanted for a comparison.
+pub(super) fn wants_map(plan: &LinkPlan, collects_sections: bool) -> bool {
+    match &plan.evaluation {
+        Ok(evaluation) => collects_sections || evaluation.sections.len() <= SMALL,
+        Err(_) => false,
+    }
+}
+
+/// Compares an image with what GNU ld makes of the script; says what is changed.
+pub(super) fn verdict(plan: &LinkPlan, image: &[u8], map: &[u8], is_verbose: bool) -> Result<Verdict, NoImage> {
+    let evaluation = match &plan.evaluation {
+        Ok(evaluation) => evaluation,
+        Err(stop) => return Ok(Verdict { lines: unknown(plan, stop), differs: false }),
+    };
+    let map = if map.is_empty() { None } else { LinkMap::read(map).ok() };
+    let checked = check(evaluation, plan.inputs.objects(), image, map.as_ref())?;
+    let mut verdict = if checked.differences.is_empty() {
+        let beside = plan.residual.changed().filter(|note| note.topic == Topic::Beside);
+        Verdict { lines: beside.map(Note::to_string).collect(), differs: false }
+    } else {
+        different(plan, &checked, is_verbose)
+    };
+    if !verdict.differs {
+        for one in &checked.not_loaded {
+            let kind = kind_of(plan, one.span);
+            let what = format!("{kind} of {}: its {:#x} bytes are not in the image", one.name, one.size);
+            verdict.lines.push(line(plan, one.span, &format!("changed: {what}; GNU ld's has them, not loaded")));
+        }
+        for one in &checked.merged {
+            verdict.lines.push(line(plan, one.span, &format!("changed: {one}")));
+        }
+    }
+    Ok(verdict)
+}
+
+/// The differences: with the constructs that explain them, where some are said otherwise.
+fn different(plan: &LinkPlan, checked: &Checked, is_verbose: bool) -> Verdict {
+    let mut lines: Vec<String> = plan.residual.changed().filter(|note| is_said(note)).map(Note::to_string).collect();
+    let has_cause = plan.residual.changed().any(|note| note.topic == Topic::Statement);
+    let differences = &checked.differences;
+    if !has_cause {
+        lines.extend(differences.iter().map(|one| line(plan, one.span, &one.to_string())));
+        return Verdict { lines, differs: true };
+    }
+    let shown = if is_verbose { differences.len() } else { 1 };
+    let more = match differences.len() - shown {
+        0 => String::new(),
+        more => format!(", and {more} more"),
+    };
+    lines.extend(differences.iter().take(shown).map(|one| line(plan, one.span, &format!("changed: {one}{more}"))));
+    Verdict { lines, differs: false }
+}
+
+/// Whether a line of what is changed is said at all: program headers and the form are written after the link.
+pub(super) fn is_said(note: &Note) -> bool {
+    !matches!(note.topic, Topic::Segments | Topic::Form)
+}
+
+/// Why it is not known whether GNU ld makes the same.
+fn unknown(plan: &LinkPlan, stop: &Stop) -> Vec<String> {
+    let mut lines: Vec<String> = plan.residual.changed().filter(|note| is_said(note)).map(Note::to_string).collect();
+    let place = line(plan, stop.span(), "");
+    if lines.iter().any(|line| line.starts_with(&place)) {
+        return lines;
+    }
+    lines.push(match stop {
+        Stop::Refused(_) => format!("{place}changed: GNU ld makes no image here: {stop}"),
+        Stop::NotEvaluated(_) => {
+            format!("{place}changed: the image was not compared with what GNU ld makes: {stop}")
+        }
+    });
+    lines
+}
+
+/// The words in parentheses of an output section's head.
+fn kind_of(plan: &LinkPlan, span: Option<Span>) -> String {
+    let evaluation = plan.evaluation.as_ref().ok();
+    let is_output = span.and_then(|span| evaluation?.statement_at(span)).map_or(false, |statement| {
+        matches!(statement.kind, StatementKind::Output(_))
+    });
+    let text = span.filter(|_| is_output).map(|span| plan.inputs.scripts.reading.source.slice(span).to_string());
+    let head = text.as_deref().and_then(|text| text.split('{').next());
+    let inside = head.and_then(|head| head.split_once('(')).and_then(|(_, rest)| rest.split_once(')'));
+    inside.map_or_else(|| "the type".into(), |(word, _)| format!("({})", word.trim()))
+}
+
+/// A line with its place in the script.
+fn line(plan: &LinkPlan, span: Option<Span>, text: &str) -> String {
+    let scripts = &plan.inputs.scripts;
+    match span {
+        Some(span) => format!("{}: {text}", scripts.reading.source.place(span.start)),
+        None => format!("{}:1: {text}", scripts.path.display()),
+    }
+}
