@@ -192,12 +192,11 @@ impl<'a> Walk<'a> {
         (!labels.is_empty()).then(|| format!("{}{more}", labels.join(", ")))
     }
 
-    /// INCLUDE goes; what the file has stands after it.
+    /// What a file of INCLUDE has stands in the text already.
     fn includes(&mut self) {
         let source = self.request.source;
         for (span, path) in source.includes() {
             self.note(NoteKind::Rewritten, span.start, format!("INCLUDE {}: its text is read in", path.display()));
-            self.edits.replace(self.text, *span, "\n");
         }
     }
 

@@ -127,7 +127,7 @@ impl Lexer {
     pub fn include(&mut self, word: Token, path: PathBuf, text: Vec<u8>) -> Result<(), ScriptError> {
         if let Some(outer) = self.frames.last_mut() {
             self.source.append(outer.file, outer.copied, word.at);
-            self.source.break_line();
+            self.source.add_include(path.clone());
             outer.copied = outer.at;
         }
         self.push(path, text)

@@ -117,15 +117,17 @@ impl Source {
         &self.files
     }
 
-    /// The INCLUDEs, each with the path of the file that was read; what it has stands after it.
+    /// The INCLUDEs: for each the line end that stands in its place, before the text of the file, and the file's path.
     #[must_use]
     pub fn includes(&self) -> &[(Span, PathBuf)] {
         &self.includes
     }
 
-    /// Notes an INCLUDE.
-    pub(super) fn add_include(&mut self, span: Span, path: PathBuf) {
-        self.includes.push((span, path));
+    /// Notes an INCLUDE, and puts a line end in its place.
+    pub(super) fn add_include(&mut self, path: PathBuf) {
+        let start = self.end();
+        self.break_line();
+        self.includes.push((Span { start, end: self.end() }, path));
     }
 
     /// The file, line and column of an offset; of one after the end, those of the end.

@@ -133,7 +133,7 @@ impl<'a> Parser<'a> {
     /// `INCLUDE file`: what the file has, by the given reader of statements, which stops at what it does not know.
     fn include(&mut self, state: State, read: impl FnOnce(&mut Self) -> Parsed<()>) -> Parsed<()> {
         let word = self.take(state)?;
-        let Spanned { node: name, span } = self.name(state, "the name of a file")?;
+        let name = self.name(state, "the name of a file")?.node;
         if self.scripts.contains(&name) {
             return Err(self.lexer.error(word, ErrorKind::Repeated(name.to_string())));
         }
@@ -141,7 +141,6 @@ impl<'a> Parser<'a> {
             Ok(found) => found,
             Err(_) => return Err(self.lexer.error(word, ErrorKind::MissingInclude(name.to_string()))),
         };
-        self.lexer.source.add_include(word.span.to(span), path.clone());
         self.lexer.include(word, path, text)?;
         read(self)?;
         let end = self.peek(state)?;

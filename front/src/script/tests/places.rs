@@ -47,6 +47,10 @@ fn include_stands_at_the_top_in_memory_in_sections_and_in_output_sections() {
 fn a_file_stands_in_the_text_in_the_place_of_its_statement() {
     let reading = read_with_files("a = 1; INCLUDE top.ld b = 2;").unwrap_or_else(|error| panic!("{error}"));
     assert_eq!(reading.source.text(), b"a = 1; \ntop = 1;\n b = 2;");
+    let includes: Vec<(String, String)> = (reading.source.includes().iter())
+        .map(|(span, path)| (reading.source.place(span.start).to_string(), path.display().to_string()))
+        .collect();
+    assert_eq!(includes, [("script:1".to_owned(), "top.ld".to_owned())]);
     let reading = read_with_files(TEXT).unwrap_or_else(|error| panic!("{error}"));
     let alone = super::super::parse(Path::new("script"), reading.source.text()).map(|reading| reading.script);
     assert_eq!(alone, Ok(reading.script));
