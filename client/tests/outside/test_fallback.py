@@ -190,6 +190,16 @@ main: main.o part.o
         self.assertEqual(done.stderr.count("-r: relocatable output: linked by ld.bfd"), 1, done.stderr)
         self.assertEqual(self.must("./main"), "42\n")
 
+    def test_with_a_server(self) -> None:
+        """A link that goes to another linker in between: the image is that of the inputs at each call."""
+        self.write("t.ld", PLAIN)
+        for text in (START, START + '.section .more, "a"\n.long 4\n', START, START + '.data\n.quad 4\n'):
+            self.compile("a.s", text)
+            self.serves("-T", "t.ld", "a.o", "-o", "image")
+            self.must("ld.bfd", "-T", "t.ld", "a.o", "-o", "gnu")
+            self.assertEqual(read_image(self.read("image")).places(), read_image(self.read("gnu")).places())
+        self.assertEqual(len(self.servers()), 1)
+
     def test_good_links_are_its_own(self) -> None:
         """What `ldi` links is linked by it, and nothing is said."""
         self.write("t.ld", PLAIN)
