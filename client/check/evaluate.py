@@ -317,8 +317,11 @@ class Evaluation:
             if value is not None:
                 result.symbols[name] = value
         name = result.entry_name = self.settings.entry or self.statements.entry or "start"
-        result.entry = result.value(name)
-        if result.entry is None and name[0].isdigit():
+        result.entry, symbol = result.value(name), self.fold.known(name)
+        if symbol is not None and symbol.kind in (DEFINED, DEFINED_WEAK) and symbol.item is not None \
+                and symbol.item.out is NUMBERS:
+            result.entry = symbol.value  # of a section that is left out, which is at 0
+        elif result.entry is None and name[0].isdigit():
             result.entry = int(name, 0)
         elif result.entry is None:
             place = next((output.place for output in self.statements.by_name.get(".text", ())

@@ -99,9 +99,10 @@ class HandedOverTest(OutsideTest):
             self.hands_over(*words, "-T", "t.ld", "d.o", why="nowhere")
 
     def test_no_entry(self) -> None:
-        """An entry symbol that nothing defines is a warning to GNU ld: the image has the same entry."""
+        """An entry symbol that nothing defines, or that is discarded, is no error to GNU ld: the entry is the same."""
         self.write("no.ld", PLAIN.replace("ENTRY(_start)", "ENTRY(nothing)"))
-        for words in (("-T", "no.ld"), ("-T", "t.ld", "-e", "nothing")):
+        self.write("gone.ld", PLAIN.replace(".text : { *(.text) }", ".text : { LONG(1) } /DISCARD/ : { *(.text) }"))
+        for words in (("-T", "no.ld"), ("-T", "t.ld", "-e", "nothing"), ("-T", "gone.ld"), ("-T", "gone.ld", "-e", "3")):
             self.links(*words, "a.o", "-o", "own")
             self.must("ld.bfd", *words, "a.o", "-o", "gnu")
             self.assertEqual(read_image(self.read("own")).entry, read_image(self.read("gnu")).entry)
