@@ -395,7 +395,6 @@ class Link:
         is left. What GNU ld may link all the same goes to the other linker."""
         self.script = script
         outcome = self._checked(opened, script, result)
-        status = self._status(outcome)
         why, status = reason_for_another(self.command, script, outcome, self._inputs), self._status(outcome)
         if why is not None:
             status = self._another(Reasons([why], "", lambda: self._report(script, outcome), status))

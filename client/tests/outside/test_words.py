@@ -5,6 +5,7 @@ import os
 import re
 import shutil
 import unittest
+from pathlib import Path
 
 from client.tests.outside.programs import LD_LDI, LDI, LDI_ADAPT, LDI_GDB, LDI_WATCH, ROOT, OutsideTest, needs
 
@@ -98,7 +99,9 @@ class ExampleTest(OutsideTest):
     def test_one_statement(self) -> None:
         """`readscript` of a script with one statement."""
         self.write("one.ld", "SECTIONS { }\n")
-        self.assertIn("1 statement\n", self.must(os.path.join(os.path.dirname(LDI), "readscript"), "one.ld"))
+        beside = Path(LDI).with_name("readscript")
+        program = beside if beside.is_file() else ROOT / "crates" / "readscript" / "out" / "readscript"
+        self.assertIn("1 statement\n", self.must(program, "one.ld"))
 
     @unittest.expectedFailure  # the tip of the words of `ldi` is of an option `-M`
     def test_tip(self) -> None:
