@@ -10,7 +10,7 @@ import json
 import re
 import textwrap
 import tomllib
-from collections.abc import Iterator
+from collections.abc import Callable, Iterator
 from pathlib import Path
 from typing import Any, NamedTuple
 
@@ -307,7 +307,7 @@ def _rounded(count: int) -> int:
     return (count + 25) // 50 * 50
 
 
-TABLES = {
+TABLES: dict[str, dict[str, Callable[[Rules], list[str]]]] = {
     "docs/layout.md": {"relocations": _relocations},
     "docs/proofs.md": {"proof files": _proof_files},
     "docs/manual.md": {"phases": _phases, "edit refusals": _edit_refusals},
