@@ -189,10 +189,11 @@ pub struct Command {
     pub is_without_standard_folders: bool,
     /// `-N`: the default script does not begin its data on a page of their own.
     pub is_omagic: bool,
-    /// `--section-start`, `-Ttext`, `-Tdata`, `-Tbss`: the address of each section
+    /// `--section-start`: the address of each section
     pub section_starts: IndexMap<BString, u64>,
     /// `-Ttext-segment` and its like, `-Ttext`, `-Tdata`, `-Tbss`: what SEGMENT_START of a script gives for `text-segment`,
-    /// `rodata-segment`, `ldata-segment`, `text`, `data` or `bss`
+    /// `rodata-segment`, `ldata-segment`, `text`, `data` or `bss`; where no SEGMENT_START of the last three is there, the
+    /// address of the section `.text`, `.data` or `.bss`
     pub segment_starts: IndexMap<BString, u64>,
     /// `-z max-page-size`, a power of two
     pub page_size: Option<u64>,

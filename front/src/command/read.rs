@@ -182,9 +182,6 @@ impl Reader {
             Action::SegmentStart(name) => {
                 let start = address(value, &format!("-T{name}"))?;
                 self.command.segment_starts.insert(BString::from(name), start);
-                if !name.ends_with("-segment") {
-                    self.command.section_starts.insert(BString::from(format!(".{name}")), start);
-                }
             }
             _ => {}
         }

@@ -48,9 +48,12 @@ fn names_that_begin_with_o_have_two_dashes() {
 
 #[test]
 fn addresses_are_hexadecimal() {
-    let command = read(&["-Ttext=0x7c00", "-Tdata", "8000", "--section-start=.x=10"]);
-    let starts: Vec<_> = command.section_starts.iter().map(|(name, at)| (name.to_string(), *at)).collect();
-    assert_eq!(starts, [(".text".into(), 0x7C00), (".data".into(), 0x8000), (".x".into(), 0x10)]);
+    let command = read(&["-Ttext=0x7c00", "-Tdata", "8000", "--section-start=.x=10", "--section-start", ".y=0x20"]);
+    let starts = |found: &IndexMap<BString, u64>| -> Vec<(String, u64)> {
+        found.iter().map(|(name, at)| (name.to_string(), *at)).collect()
+    };
+    assert_eq!(starts(&command.segment_starts), [("text".into(), 0x7C00), ("data".into(), 0x8000)]);
+    assert_eq!(starts(&command.section_starts), [(".x".into(), 0x10), (".y".into(), 0x20)]);
 }
 
 #[test]
@@ -58,7 +61,7 @@ fn the_address_of_a_segment_is_for_segment_start() {
     let command = read(&["-Ttext-segment=0x200000", "-Trodata-segment", "300000", "-Tbss=1"]);
     let starts: Vec<_> = command.segment_starts.iter().map(|(name, at)| (name.to_string(), *at)).collect();
     assert_eq!(starts, [("text-segment".into(), 0x20_0000), ("rodata-segment".into(), 0x30_0000), ("bss".into(), 1)]);
-    assert_eq!(command.section_starts.len(), 1);
+    assert!(command.section_starts.is_empty());
 }
 
 #[test]

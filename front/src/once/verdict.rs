@@ -97,9 +97,9 @@ fn unknown(plan: &LinkPlan, stop: &Stop) -> Vec<String> {
 /// The words in parentheses of an output section's head.
 fn kind_of(plan: &LinkPlan, span: Option<Span>) -> String {
     let evaluation = plan.evaluation.as_ref().ok();
-    let is_output = span.and_then(|span| evaluation?.statement_at(span)).map_or(false, |statement| {
-        matches!(statement.kind, StatementKind::Output(_))
-    });
+    let is_output = span
+        .and_then(|span| evaluation?.statement_at(span))
+        .map_or(false, |statement| matches!(statement.kind, StatementKind::Output(_)));
     let text = span.filter(|_| is_output).map(|span| plan.inputs.scripts.reading.source.slice(span).to_string());
     let head = text.as_deref().and_then(|text| text.split('{').next());
     let inside = head.and_then(|head| head.split_once('(')).and_then(|(_, rest)| rest.split_once(')'));

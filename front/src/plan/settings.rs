@@ -1,6 +1,7 @@
 //! What a command says of a layout.
 
 use bstr::{BString, ByteSlice};
+use indexmap::IndexMap;
 
 use super::Scripts;
 use crate::command::{Command, Input, Orphans};
@@ -14,7 +15,8 @@ pub fn settings_of(command: &Command, scripts: &Scripts) -> Settings {
         text_read_only: !command.is_omagic,
         undefined: undefined_of(command, scripts),
         entry: command.entry.clone(),
-        section_starts: command.section_starts.iter().map(|(name, address)| (name.clone(), *address)).collect(),
+        section_starts: addresses(&command.section_starts),
+        segment_starts: addresses(&command.segment_starts),
         script_first: scripts.is_own && script_is_first(command),
         ..Settings::default()
     };
@@ -38,6 +40,10 @@ pub fn settings_of(command: &Command, scripts: &Scripts) -> Settings {
         start_stop_gc: command.collects_start_stop,
     });
     settings
+}
+
+fn addresses(starts: &IndexMap<BString, u64>) -> Vec<(BString, u64)> {
+    starts.iter().map(|(name, address)| (name.clone(), *address)).collect()
 }
 
 fn undefined_of(command: &Command, scripts: &Scripts) -> Vec<BString> {
