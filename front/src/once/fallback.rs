@@ -24,17 +24,24 @@ pub(super) struct Reasons<'a> {
     kind: Option<String>,
     /// Says more than the lines, before them: where nothing links, or with `--verbose`.
     say_more: Option<&'a dyn Fn()>,
+    /// What is said in place of the lines where the other linker links: the first thing that is to blame.
+    first: Option<&'a dyn Fn() -> String>,
 }
 
 impl<'a> Reasons<'a> {
     /// These lines.
     pub(super) fn of(lines: Vec<String>) -> Reasons<'a> {
-        Reasons { lines, kind: None, say_more: None }
+        Reasons { lines, kind: None, say_more: None, first: None }
     }
 
     /// A line of a kind that many links have, and what more there is to say.
     pub(super) fn of_kind(line: String, kind: &str, say_more: &'a dyn Fn()) -> Reasons<'a> {
-        Reasons { lines: vec![line], kind: Some(kind.into()), say_more: Some(say_more) }
+        Reasons { lines: vec![line], kind: Some(kind.into()), say_more: Some(say_more), first: None }
+    }
+
+    /// The same with what is said where the other linker links.
+    pub(super) fn with_first(self, first: &'a dyn Fn() -> String) -> Reasons<'a> {
+        Reasons { first: Some(first), ..self }
     }
 
     fn say_more(&self) {
@@ -129,6 +136,7 @@ pub(super) fn hand_over(
     let name = program.first().cloned().unwrap_or_default();
     let text = reasons.lines.join("; ");
     if is_first(reasons.kind.as_deref().unwrap_or(&text), environment) || is_verbose {
+        let text = reasons.first.map_or(text, |first| first());
         say(format!("{text}: linked by {}", name.to_string_lossy()));
     }
     // What leads back here ends here.

@@ -160,7 +160,8 @@ impl Link<'_> {
         }
         self.say_section_outside();
         self.plan.residual.changed().filter(|note| verdict::is_said(note)).for_each(|note| eprintln!("{note}"));
-        say(format!("{}: {} places cannot be linked by ldi; they are named above", self.path(), left.len()));
+        let places = if left.len() == 1 { "1 place".to_owned() } else { format!("{} places", left.len()) };
+        say(format!("{}: {places} cannot be linked by ldi, as is said above", self.path()));
         Ok(Status::Refused)
     }
 
@@ -215,7 +216,8 @@ impl Link<'_> {
             count => format!(" and {} others", count - 1),
         };
         let line = format!("{first}{more}: outside the profile of ldi");
-        let reasons = Reasons::of_kind(line, "outside the profile of ldi", &say_more);
+        let detail = || messages::detail(self.plan, &brought.refused, self.environment);
+        let reasons = Reasons::of_kind(line, "outside the profile of ldi", &say_more).with_first(&detail);
         hand_over(&reasons, self.words, self.environment, self.command.is_verbose)
     }
 

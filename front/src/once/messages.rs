@@ -26,12 +26,32 @@ fn origin(plan: &LinkPlan, line: u32) -> Option<Place> {
     plan.residual.lines.get((line as usize).checked_sub(1)?).cloned()
 }
 
+/// The messages of an object that is refused.
+fn of_object(plan: &LinkPlan, index: usize, refusal: Refusal, environment: &Environment) -> Vec<Diagnostic> {
+    let ldi = find_program("ldi", environment);
+    match plan.held().get(index) {
+        Some(held) => {
+            let input = RefusedInput { name: held.name.as_bstr(), refusal, data: Some(&held.data), ldi: &ldi };
+            refusals_of_object(&input, plan.inputs.objects().get(index))
+        }
+        None => Vec::new(),
+    }
+}
+
 /// An object that is refused.
 pub(super) fn say_refused_object(plan: &LinkPlan, index: usize, refusal: Refusal, environment: &Environment) {
-    let ldi = find_program("ldi", environment);
-    if let Some(held) = plan.held().get(index) {
-        let input = RefusedInput { name: held.name.as_bstr(), refusal, data: Some(&held.data), ldi: &ldi };
-        say_all(&refusals_of_object(&input, plan.inputs.objects().get(index)));
+    say_all(&of_object(plan, index, refusal, environment));
+}
+
+/// The first message of objects that are refused, and how many others there are.
+pub(super) fn detail(plan: &LinkPlan, refused: &[(usize, Refusal)], environment: &Environment) -> String {
+    let (index, refusal) = refused.first().copied().unwrap_or((0, Refusal { number: 0, inner: 0 }));
+    let first = of_object(plan, index, refusal, environment).into_iter().next();
+    let first = first.map_or_else(String::new, |first| Diagnostic { rule: None, ..first }.to_string());
+    match refused.len().saturating_sub(1) {
+        0 => first,
+        1 => format!("{first}; 1 other object"),
+        count => format!("{first}; {count} other objects"),
     }
 }
 
