@@ -5,8 +5,10 @@
 //! layout -               many calls: a line of words separated by tabs each, the last line of an answer is `.`
 //! ```
 //!
-//! An object is a path, or `ARCHIVE(MEMBER)=PATH`. `INNER:WORDS` times the layout (`--time N` evaluates N times).
+//! An object is a path, or `ARCHIVE(MEMBER)=PATH`. `--time N` evaluates N times and says how long that took, `--check
+//! IMAGE` compares an image with the layout.
 
+use ldi_front::checker::check;
 use ldi_front::layout::evaluation::{Base, Gap, StatementKind};
 use ldi_front::layout::settings::{GcSettings, OrphanHandling, SectionSort, SortCommon};
 use ldi_front::layout::{Evaluation, Layout, Settings, Stop};
@@ -31,6 +33,7 @@ struct Call {
     max_page: Option<u64>,
     common_page: Option<u64>,
     times: usize,
+    image: Option<String>,
 }
 
 fn number(text: &str) -> Result<u64, Failure> {
@@ -88,6 +91,7 @@ fn read_call(words: &[&str]) -> Result<Call, Failure> {
                 Some(_) => {}
                 None => {}
             },
+            "--check" => call.image = Some(next()?.to_owned()),
             "--time" => call.times = next()?.parse()?,
             "-o" => {
                 next()?;
@@ -146,7 +150,23 @@ fn answer(words: &[&str], out: &mut dyn Write) -> Result<(), Failure> {
         found
     });
     match found {
-        Ok(found) => print(&found, &objects, out)?,
+        Ok(found) => {
+            print(&found, &objects, out)?;
+            if let Some(path) = &call.image {
+                let began = Instant::now();
+                let checked = check(&found, &objects, &std::fs::read(path)?, None)?;
+                for difference in &checked.differences {
+                    let line = difference.span.map_or(0, |span| reading.source.place(span.start).line);
+                    writeln!(out, "difference {} {}", line, difference)?;
+                }
+                for merged in &checked.merged {
+                    writeln!(out, "merged {}", merged)?;
+                }
+                if call.times > 0 {
+                    eprintln!("checked in {:?}", began.elapsed());
+                }
+            }
+        }
         Err(stop) => {
             let kind = if matches!(stop, Stop::Refused(_)) { "refused" } else { "unknown" };
             let line = stop.span().map_or(0, |span| reading.source.place(span.start).line);

@@ -197,7 +197,7 @@ mod tests {
         let found = explained(&[at(12, 14), at(30, 35), at(45, 46), at(0, 5)], &changed);
         assert_eq!(found, [Some(changed[1]), Some(changed[1]), Some(changed[0]), None]);
         let of_none = Difference { span: None, ..at(0, 0) };
-        assert_eq!(explained(&[of_none.clone()], &changed), [Some(changed[1])]);
+        assert_eq!(explained(std::slice::from_ref(&of_none), &changed), [Some(changed[1])]);
         assert_eq!(explained(&[of_none], &[]), [None]);
     }
 

@@ -102,7 +102,7 @@ impl Link<'_> {
                 let base = if self.counts_absolute() { Base::Absolute } else { Base::Number };
                 Folded::of(*value, base)
             }
-            Node::Dot => self.from_section(self.dot),
+            Node::Dot => self.of_address(self.dot),
             Node::Symbol(symbol) => {
                 let symbol = *symbol;
                 self.fold_symbol(symbol, e)?
@@ -128,7 +128,7 @@ impl Link<'_> {
                 let (given, inner) = (self.segment_start(name), *inner);
                 let found = self.fold_node(inner)?;
                 match found.is_valid {
-                    true => self.from_section(given.unwrap_or(found.value)),
+                    true => self.of_address(given.unwrap_or(found.value)),
                     false => found,
                 }
             }
@@ -165,7 +165,7 @@ impl Link<'_> {
     }
 
     /// An address, as counted from the section around (ldexp.c, `new_rel_from_abs`).
-    fn from_section(&self, address: u64) -> Folded {
+    fn of_address(&self, address: u64) -> Folded {
         Folded::of(address.wrapping_sub(self.base_address(self.at)), self.at)
     }
 
@@ -261,7 +261,7 @@ impl Link<'_> {
         match region {
             None => refused(RefusedReason::UndefinedRegion(name.clone()), self.span(e)),
             Some(region) if query == Query::Length => Ok(Folded::number(region.length)),
-            Some(region) => Ok(self.from_section(region.origin)),
+            Some(region) => Ok(self.of_address(region.origin)),
         }
     }
 
@@ -323,7 +323,7 @@ impl Link<'_> {
             Unary::Operator(UnaryOperator::Plus) => found,
             Unary::Operator(operator) => Folded { value: unary(operator, found.value), ..found },
             Unary::Align | Unary::Next if is_first => found.unknown(),
-            Unary::Align => self.from_section(align_up(self.dot, found.value)),
+            Unary::Align => self.of_address(align_up(self.dot, found.value)),
             Unary::Next => {
                 let align = self.address(found);
                 Folded { value: align_up(self.dot, align), base: Base::Absolute, ..found }

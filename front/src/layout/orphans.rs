@@ -442,7 +442,7 @@ fn place_behind_notes(link: &Link<'_>, after: Option<OutputId>) -> Option<Option
     if !rest.first().map_or(false, |id| is_note(link, *id)) {
         return None;
     }
-    Some(rest.iter().filter(|id| is_note(link, **id)).last().copied())
+    Some(rest.iter().rev().find(|id| is_note(link, **id)).copied())
 }
 
 /// At the end of all.

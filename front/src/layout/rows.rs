@@ -24,16 +24,51 @@ pub(crate) struct Rows {
     commons: QuickMap<ObjectIndex, SectionId>,
 }
 
-/// What GNU ld makes in every link (elf64-x86-64.c, elflink.c), empty in a static one: names, types, flags.
-fn own_sections() -> [(&'static [u8], u32, Flags); 6] {
+/// A section that no header has.
+struct Made {
+    name: &'static [u8],
+    kind: u32,
+    flags: Flags,
+    size: u64,
+    align: u64,
+    origin: Origin,
+}
+
+/// What GNU ld makes in every link (elf64-x86-64.c, elflink.c), empty in a static one.
+fn own_sections() -> [Made; 6] {
+    let made = |name: &'static [u8], kind, flags| Made {
+        name,
+        kind,
+        flags: flags | Flags::ALLOC | Flags::LOAD | Flags::CONTENTS | Flags::CREATED,
+        size: 0,
+        align: if name == b".iplt" { 1 } else { 8 },
+        origin: Origin::Linker,
+    };
     [
-        (b".rela.got", elf::SHT_RELA, Flags::READONLY),
-        (b".got", elf::SHT_PROGBITS, Flags::DATA),
-        (b".got.plt", elf::SHT_NULL, Flags::DATA),
-        (b".iplt", elf::SHT_NULL, Flags::READONLY | Flags::CODE),
-        (b".rela.iplt", elf::SHT_RELA, Flags::READONLY),
-        (b".igot.plt", elf::SHT_NULL, Flags::DATA),
+        made(b".rela.got", elf::SHT_RELA, Flags::READONLY),
+        made(b".got", elf::SHT_PROGBITS, Flags::DATA),
+        made(b".got.plt", elf::SHT_NULL, Flags::DATA),
+        made(b".iplt", elf::SHT_NULL, Flags::READONLY | Flags::CODE),
+        made(b".rela.iplt", elf::SHT_RELA, Flags::READONLY),
+        made(b".igot.plt", elf::SHT_NULL, Flags::DATA),
     ]
+}
+
+/// The section of the common blocks of an object.
+fn common_section() -> Made {
+    Made { name: b"COMMON", kind: elf::SHT_NULL, flags: Flags::ALLOC, size: 0, align: 1, origin: Origin::Common }
+}
+
+/// The note of `--build-id`, with as many bytes (ldelf.c, `ldelf_after_open`).
+fn build_id_section(size: u64) -> Made {
+    Made {
+        name: b".note.gnu.build-id",
+        kind: elf::SHT_NOTE,
+        flags: Flags::ALLOC | Flags::LOAD | Flags::CONTENTS | Flags::READONLY | Flags::DATA,
+        size: size.wrapping_add(16),
+        align: 4,
+        origin: Origin::Linker,
+    }
 }
 
 impl Rows {
@@ -58,46 +93,32 @@ impl Rows {
             }
             if owners.contains(&id) {
                 rows.commons.insert(id, SectionId::new(rows.sections.len()));
-                rows.add(id, names, b"COMMON", elf::SHT_NULL, Flags::ALLOC, (0, 1), Origin::Common);
+                rows.add(id, names, &common_section());
             }
             if let (0, Some(size)) = (number, settings.build_id) {
-                let flags = Flags::ALLOC | Flags::LOAD | Flags::CONTENTS | Flags::READONLY | Flags::DATA;
-                let size = size.wrapping_add(16);
-                rows.add(id, names, b".note.gnu.build-id", elf::SHT_NOTE, flags, (size, 4), Origin::Linker);
+                rows.add(id, names, &build_id_section(size));
             }
             if number == own {
-                for (name, kind, flags) in own_sections() {
-                    let flags = flags | Flags::ALLOC | Flags::LOAD | Flags::CONTENTS | Flags::CREATED;
-                    let align = if name == b".iplt" { 1 } else { 8 };
-                    rows.add(id, names, name, kind, flags, (0, align), Origin::Linker);
-                }
+                own_sections().iter().for_each(|made| rows.add(id, names, made));
             }
         }
         rows.matches = matches_of(takings, &rows.sections, names, objects);
         rows
     }
 
-    fn add(
-        &mut self,
-        object: ObjectIndex,
-        names: &mut Names,
-        name: &[u8],
-        kind: u32,
-        flags: Flags,
-        (size, align): (u64, u64),
-        origin: Origin,
-    ) {
+    /// Adds a section that no header has.
+    fn add(&mut self, object: ObjectIndex, names: &mut Names, made: &Made) {
         self.sections.push(InputSection {
             object,
-            origin,
-            name: names.enter(name),
-            flags,
-            kind,
+            origin: made.origin,
+            name: names.enter(made.name),
+            flags: made.flags,
+            kind: made.kind,
             bits: 0,
             entry_size: 0,
-            size,
-            own_align: align,
-            align,
+            size: made.size,
+            own_align: made.align,
+            align: made.align,
             fate: Fate::Open,
             offset: 0,
         });
