@@ -85,8 +85,9 @@ impl FileImage {
     /// Whether the file has zeros in a stretch.
     pub(super) fn has_zeros(&self, at: u64, size: u64) -> bool {
         let end = at.saturating_add(size);
-        end <= self.length
-            && self.pieces().filter(|(start, bytes)| *start < end && at < start + bytes.len() as u64).all(
+        size == 0
+            || end <= self.length
+                && self.pieces().filter(|(start, bytes)| *start < end && at < start + bytes.len() as u64).all(
                 |(start, bytes)| {
                     let from = usize::try_from(at.saturating_sub(start)).unwrap_or(usize::MAX);
                     let to = usize::try_from(end - start).unwrap_or(usize::MAX).min(bytes.len());

@@ -19,6 +19,7 @@ use crate::mirror::{Brought, Mirror, SessionError, Wanted};
 use crate::place::{write_file, NotWritten, Reader, PROGRAM, TEXT};
 use crate::plan::{find_program, options_of, Environment, Inputs, LinkPlan, PlanFault, Scripts, ScriptsFault};
 use crate::residual::{Note, NoteKind, Topic};
+use crate::script::tree::{Script, SectionsStatement, Statement};
 use crate::snapshot::Snapshot;
 
 /// The refused objects that are named.
@@ -235,6 +236,10 @@ impl Link<'_> {
     /// Options and inputs of which something is said.
     fn notes(&self) {
         self.command.notes.iter().for_each(say);
+        let script = &self.plan.inputs.scripts.reading.script;
+        for section in self.command.section_starts.keys().filter(|name| !has_section(script, name)) {
+            say(format!("the address of {section}: the script has no such section"));
+        }
     }
 
     /// Writes the files of a good link.
@@ -315,6 +320,17 @@ impl Link<'_> {
             }
         }
     }
+}
+
+/// Whether a script has an output section of a name.
+fn has_section(script: &Script, name: &[u8]) -> bool {
+    script.statements.iter().any(|statement| match &statement.node {
+        Statement::Sections(items) => items.iter().any(|item| match &item.node {
+            SectionsStatement::Output(section) => section.name.node == name,
+            _ => false,
+        }),
+        _ => false,
+    })
 }
 
 fn write(path: &Path, file: &FileImage, mode: rustix::fs::Mode) -> Result<(), LinkFault> {

@@ -58,7 +58,7 @@ pub(super) fn verdict(plan: &LinkPlan, image: &[u8], map: &[u8], is_verbose: boo
 /// The differences: with the constructs that explain them, where some are said otherwise.
 fn different(plan: &LinkPlan, checked: &Checked, is_verbose: bool) -> Verdict {
     let mut lines: Vec<String> = plan.residual.changed().filter(|note| is_said(note)).map(Note::to_string).collect();
-    let has_cause = plan.residual.changed().any(|note| note.topic == Topic::Statement);
+    let has_cause = !lines.is_empty();
     let differences = &checked.differences;
     if !has_cause {
         lines.extend(differences.iter().map(|one| line(plan, one.span, &one.to_string())));

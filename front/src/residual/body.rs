@@ -9,8 +9,9 @@ use super::rules::{translate, Reasons};
 use super::top::whole_value;
 use super::view::View;
 use super::walk::{At, Settled, Walk};
-use crate::layout::evaluation::{Definer, Gap, Placed, StatementKind};
+use crate::layout::evaluation::{Definer, Gap, InputSection, Placed, StatementKind};
 use crate::layout::ids::SectionId;
+use crate::layout::Flags;
 use crate::script::tree::{
     AssignOperator, Assignment, BinaryOperator, DataText, DataWidth, Expr, ExprKind, Function, InputStatement, Name,
     OutputSection, SectionStatement, Span,
@@ -204,6 +205,7 @@ impl<'a> Walk<'a> {
 
     fn input_inside(&mut self, node: &'a InputStatement, span: Span, body: &mut Body<'a>) {
         let (sections, gaps) = self.taken(span);
+        self.say_unloaded(span, body);
         let is_fine = self.input(node, span, &sections);
         let evaluation = match self.request.evaluation {
             Some(evaluation) => evaluation,
@@ -240,6 +242,28 @@ impl<'a> Walk<'a> {
         }
         body.at = end;
         body.has_bytes |= places.iter().any(|one| one.size > 0 && has_bytes(one));
+    }
+
+    /// Says where a statement takes what is not loaded too, which GNU ld then loads.
+    fn say_unloaded(&mut self, span: Span, body: &Body<'a>) {
+        let is_loaded = body.place.map_or(false, |place| place.is_allocated() && !place.is_gone);
+        let (evaluation, statement) = match (self.request.evaluation, self.evaluated(span)) {
+            (Some(evaluation), Some(statement)) if is_loaded => (evaluation, statement),
+            _ => return,
+        };
+        if let StatementKind::Input { sections, .. } = &statement.kind {
+            let known = sections.iter().filter_map(|id| evaluation.section(*id));
+            let is_other = |one: &&InputSection| {
+                !is_linked(one) && one.size > 0 && !one.flags.has(Flags::CREATED | Flags::EXCLUDE)
+            };
+            let names: Vec<_> = known.filter(is_other).map(|one| evaluation.section_name(one).to_string()).collect();
+            if let Some(first) = names.first() {
+                let more = if names.len() > 1 { format!(" and {} more", names.len() - 1) } else { String::new() };
+                let what = self.quoted(span);
+                let why = "is taken too, which is not loaded; GNU ld loads it";
+                self.note(NoteKind::Changed, span.start, format!("{what}: {first}{more} {why}"));
+            }
+        }
     }
 
     /// The input sections that a statement takes and `ldi` links, and what is between them.

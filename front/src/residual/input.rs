@@ -138,10 +138,10 @@ impl<'a> Walk<'a> {
             let why = form.said.join("; ");
             self.note(NoteKind::Changed, span.start, format!("{what}: {why}"));
         }
-        if is_plain {
+        let text = form.text(node.is_kept);
+        if self.squeezed(span.start, span.end) == super::walk::squeezed(text.as_bytes()) {
             return true;
         }
-        let text = form.text(node.is_kept);
         let what = self.quoted(span);
         self.edits.replace(self.text, span, text.clone());
         let why = if form.said.is_empty() { format!("as {text}") } else { form.said.join("; ") };

@@ -8,7 +8,7 @@ use super::profile::is_name;
 use super::rules::updated;
 use super::walk::{At, Memory, Settled, Walk};
 use super::NUMBER_ENTRY;
-use crate::layout::evaluation::StatementKind;
+use crate::layout::evaluation::{Definer, StatementKind};
 use crate::script::tree::{
     Assertion, AssignOperator, Assignment, BinaryOperator, Expr, ExprKind, MemoryRegion, Name, Provision,
     SectionsStatement, Setting, Span, Spanned, Statement,
@@ -347,7 +347,9 @@ impl<'a> Walk<'a> {
         let name = &assignment.target.node;
         let is_taken = self.versions.assigns(name);
         let mut settled = self.settle(e, at, None, &mut |_, _| Vec::new());
+        let of_linker = self.request.evaluation.and_then(|evaluation| evaluation.symbol(name));
         let cannot_stay = !is_provided
+            || of_linker.map_or(false, |symbol| symbol.definer == Definer::Linker)
             || is_taken
             || !settled.reasons.missing.is_empty()
             || settled.reasons.is_numeric

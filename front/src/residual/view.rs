@@ -4,7 +4,7 @@ use super::expression::Known;
 use super::profile::is_name;
 use super::rules::Around;
 use super::walk::{At, Walk};
-use crate::script::tree::{Expr, Name, Query};
+use crate::script::tree::{Expr, ExprKind, Name, Query};
 use bstr::ByteSlice;
 
 /// The place of an expression, for the rules.
@@ -43,7 +43,10 @@ impl Around for View<'_, '_> {
     }
 
     fn value(&self, e: &Expr) -> Option<u64> {
-        self.walk.gnu_value(e)
+        match &e.kind {
+            ExprKind::Symbol(name) if self.walk.is_left_out(name) => None,
+            _ => self.walk.gnu_value(e),
+        }
     }
 }
 

@@ -295,6 +295,9 @@ impl<'a> Walk<'a> {
                 return Settled { e: other, reasons };
             }
         }
+        if reasons.missing.iter().any(|name| self.is_left_out(name)) {
+            return Settled { e: own, reasons };
+        }
         let mut reasons = Reasons { assertions: reasons.assertions, ..Reasons::default() };
         reasons.say("as the value that GNU ld finds");
         reasons.is_numeric = true;
@@ -345,7 +348,27 @@ impl<'a> Walk<'a> {
         }
     }
 
+    /// Whether a symbol is in a section of an object that is not in the image.
+    pub(super) fn is_left_out(&self, name: &Name) -> bool {
+        let evaluation = match self.request.evaluation {
+            Some(evaluation) => evaluation,
+            None => return false,
+        };
+        match evaluation.symbol(name).map(|symbol| symbol.definer) {
+            Some(Definer::Object(Some(section))) => {
+                evaluation.section(section).map_or(false, |section| section.output().is_none())
+            }
+            _ => false,
+        }
+    }
+
     fn why_missing(&self, name: &BString) -> String {
+        if self.is_left_out(name) {
+            return format!(
+                "the section of {name} is not in the image, so that its value cannot be written: take it in, under KEEP \
+                 where --gc-sections leaves it out"
+            );
+        }
         match (self.request.defines)(name.as_bstr()) {
             true => format!(
                 "an object's symbol has no address while the layout goes on: write `here = .;` before the statement that \

@@ -1,0 +1,210 @@
+//! `ldi-adapt`: a script of GNU ld's language as one of the profile.
+
+mod invented;
+mod words;
+
+use std::ffi::OsString;
+use std::io::Write;
+use std::path::{Path, PathBuf};
+use std::process::{Command as Process, Stdio};
+
+use bstr::BStr;
+
+use crate::checker::check;
+use crate::layout::{evaluate, Evaluation, Settings, Stop};
+use crate::mirror::{Held, Mirror, Options, Wanted};
+use crate::objects::{Object, Origin};
+use crate::place::{write_file, Reader as PipeReader, TEXT};
+use crate::plan::{find_program, Environment};
+use crate::report::link_map::LinkMap;
+use crate::residual::{residual, NoteKind, Request, Residual};
+use crate::script::{Disk, Reader, Reading, ScriptError};
+use crate::snapshot::Bytes;
+use words::{Call, USAGE};
+
+/// Why no script is written.
+#[derive(Debug, thiserror::Error)]
+enum AdaptFault {
+    /// The words are refused.
+    #[error("ldi-adapt: {0}\n{USAGE}")]
+    Words(#[from] words::WordsRefused),
+    /// The script is none.
+    #[error("{0}")]
+    Script(#[from] ScriptError),
+    /// A file cannot be read or written.
+    #[error("ldi-adapt: {0}: {1}")]
+    File(String, String),
+    /// A file is no object.
+    #[error("ldi-adapt: {0}: no object of ELF-64; of an archive, give the members")]
+    NoObject(String),
+}
+
+/// The program `ldi-adapt`; gives its exit status.
+pub fn main(words: &[OsString]) -> u8 {
+    let environment: Environment = std::env::vars_os().collect();
+    if words.iter().any(|word| word == "-h" || word == "--help") {
+        print!("{USAGE}");
+        return 0;
+    }
+    match run(words, &environment) {
+        Ok(status) => status,
+        Err(fault) => {
+            eprint!("{fault}{}", if matches!(fault, AdaptFault::Words(_)) { "" } else { "\n" });
+            2
+        }
+    }
+}
+
+fn file_fault(path: &Path, error: &std::io::Error) -> AdaptFault {
+    let why = error.to_string();
+    let why = why.split(" (os error").next().unwrap_or_default().to_owned();
+    AdaptFault::File(path.display().to_string(), why)
+}
+
+fn run(words: &[OsString], environment: &Environment) -> Result<u8, AdaptFault> {
+    let call = Call::read(words)?;
+    let objects = call.objects.as_ref().map(|paths| read_objects(paths)).transpose()?;
+    let reading = read_script(&call)?;
+    let (result, evaluation) = adapted(&reading, objects.as_deref());
+    for note in &result.notes {
+        eprintln!("{note}");
+    }
+    let mut status = status_of(&result);
+    if let (Some(objects), true) = (&objects, status < 2) {
+        let lines = differences(&reading, objects, &result, evaluation, environment);
+        lines.iter().for_each(|line| eprintln!("{line}"));
+        status = status.max(u8::from(!lines.is_empty()));
+    }
+    if status < 2 && is_refused(&result, environment) {
+        eprintln!("{}:1: left: the adapted script is refused there", call.script.display());
+        status = 2;
+    }
+    match &call.out {
+        Some(path) => write_file(path, &[&result.text], TEXT, PipeReader::IsWaitedFor)
+            .map_err(|fault| AdaptFault::File(path.display().to_string(), plain(&fault.fault)))?,
+        None => std::io::stdout()
+            .write_all(&result.text)
+            .and_then(|()| std::io::stdout().flush())
+            .map_err(|error| file_fault(Path::new("standard output"), &error))?,
+    }
+    Ok(status)
+}
+
+fn plain(error: &std::io::Error) -> String {
+    error.to_string().split(" (os error").next().unwrap_or_default().to_owned()
+}
+
+/// 0: nothing is left or changed; 1: something is changed; 2: something is left.
+fn status_of(result: &Residual) -> u8 {
+    let kinds = result.notes.iter().map(|note| match note.kind {
+        NoteKind::Left => 2,
+        NoteKind::Changed => 1,
+        NoteKind::Dropped | NoteKind::Rewritten => 0,
+    });
+    kinds.max().unwrap_or(0)
+}
+
+fn read_objects(paths: &[PathBuf]) -> Result<Vec<Object>, AdaptFault> {
+    paths
+        .iter()
+        .map(|path| {
+            let data = std::fs::read(path).map_err(|error| file_fault(path, &error))?;
+            if !data.starts_with(b"\x7fELF\x02") {
+                return Err(AdaptFault::NoObject(path.display().to_string()));
+            }
+            let origin = Origin::of_file(path);
+            Ok(Object::new(origin.name.clone(), origin, Bytes::from(data)))
+        })
+        .collect()
+}
+
+/// Reads the script with what it includes, after the assignments of `--defsym`.
+fn read_script(call: &Call) -> Result<Reading, AdaptFault> {
+    let text = std::fs::read(&call.script).map_err(|error| file_fault(&call.script, &error))?;
+    let mut folders = call.folders.clone();
+    folders.push(call.script.parent().map_or_else(PathBuf::new, Path::to_owned));
+    let mut files = Disk;
+    let mut reader = Reader::new(&mut files, folders);
+    for defsym in &call.defsyms {
+        reader.defsym(defsym)?;
+    }
+    reader.text(&call.script, text)?;
+    Ok(reader.finish())
+}
+
+/// The script in the profile: by what GNU ld makes of it over the objects, or over invented ones.
+fn adapted(reading: &Reading, objects: Option<&[Object]>) -> (Residual, Option<Result<Evaluation, Stop>>) {
+    let settings = Settings::default();
+    let invented;
+    let own = match objects {
+        Some(objects) => objects,
+        None => {
+            invented = invented::objects(&reading.script);
+            &invented
+        }
+    };
+    let evaluation = evaluate(&reading.script, own, &settings);
+    let names: Vec<&BStr> = own.iter().map(|object| object.name()).collect();
+    let defines = |name: &BStr| own.iter().any(|object| object.globals_named(name).any(|one| one.rank().is_some()));
+    let result = residual(Request {
+        script: &reading.script,
+        source: &reading.source,
+        evaluation: evaluation.as_ref().ok(),
+        objects: &names,
+        is_followed: false,
+        entry: None,
+        has_default_entry: false,
+        defines: &defines,
+        kept: &[],
+    });
+    (result, objects.map(|_| evaluation))
+}
+
+/// What is another in the image of the objects than GNU ld makes, where `ldi` can be had and links them.
+fn differences(
+    reading: &Reading,
+    objects: &[Object],
+    result: &Residual,
+    evaluation: Option<Result<Evaluation, Stop>>,
+    environment: &Environment,
+) -> Vec<String> {
+    let at = |span: Option<crate::script::tree::Span>| reading.source.place(span.map_or(0, |span| span.start));
+    let evaluation = match evaluation {
+        Some(Ok(evaluation)) => evaluation,
+        Some(Err(stop)) => {
+            let why = "it is not known whether GNU ld makes the same of it";
+            return vec![format!("{}: changed: {why}: {stop}", at(stop.span()))];
+        }
+        None => return Vec::new(),
+    };
+    let held: Vec<Held> =
+        objects.iter().map(|object| Held { name: object.name().to_owned(), data: object.data().clone() }).collect();
+    let mut mirror = Mirror::new(find_program("ldi", environment), None);
+    let options = Options::default();
+    let linked = mirror.bring(Wanted { options: &options, objects: &held, script: &result.text });
+    if !linked.map_or(false, |linked| linked.is_good) {
+        return Vec::new();
+    }
+    let (image, map) = match (mirror.image(), mirror.map()) {
+        (Ok(image), Ok(map)) => (image, map),
+        _ => return Vec::new(),
+    };
+    let checked = match check(&evaluation, objects, &image, LinkMap::read(&map).ok().as_ref()) {
+        Ok(checked) => checked,
+        Err(_) => return Vec::new(),
+    };
+    let of_places = checked.differences.iter().map(|one| format!("{}: changed: {one}", at(one.span)));
+    of_places.chain(checked.merged.iter().map(|one| format!("{}: changed: {one}", at(one.span)))).collect()
+}
+
+/// Whether `readscript` refuses the script, where it can be had.
+fn is_refused(result: &Residual, environment: &Environment) -> bool {
+    let path = std::env::temp_dir().join(format!("ldi-adapt-{}", std::process::id()));
+    if std::fs::write(&path, &result.text).is_err() {
+        return false;
+    }
+    let done = Process::new(find_program("readscript", environment)).arg(&path).stdin(Stdio::null()).output();
+    // The file is in a folder that the system clears where it cannot be removed.
+    let _ = std::fs::remove_file(&path);
+    done.map_or(false, |done| done.status.code() == Some(1) && !done.stdout.is_empty())
+}
