@@ -84,10 +84,12 @@ def hand_over(reasons: Reasons, words: Sequence[str], environment: Mapping[str, 
     try:
         found = fallback_of(environment)
     except BadFallback as fault:
-        return _refused(reasons, f"{VARIABLE}: {fault}", 3)
+        reasons.say_all()
+        print(f"ld.ldi: {reasons.text()}: not made by ldi; {VARIABLE}: {fault}", file=sys.stderr)
+        return 3
     if found is None:
         is_off = VARIABLE in environment
-        return _refused(reasons, f"{VARIABLE} names no linker for it" if is_off else "PATH has no other linker", 2)
+        return _refused(reasons, f"{VARIABLE} names no linker for it" if is_off else "PATH has no other linker")
     path, program = found
     if verbose:
         reasons.say_more()
@@ -100,11 +102,11 @@ def hand_over(reasons: Reasons, words: Sequence[str], environment: Mapping[str, 
         return 3
 
 
-def _refused(reasons: Reasons, why: str, status: int) -> int:
-    """Says that nothing links; gives the status."""
+def _refused(reasons: Reasons, why: str) -> int:
+    """Says that no other linker links; gives the status."""
     reasons.say_all()
     if reasons.status is not None:
         return reasons.status
     for line in reasons.lines:
         print(f"ld.ldi: {line}: not made by ldi; {why}", file=sys.stderr)
-    return status
+    return 2

@@ -102,7 +102,8 @@ class HandedOverTest(OutsideTest):
         """An entry symbol that nothing defines, or that is discarded, is no error to GNU ld: the entry is the same."""
         self.write("no.ld", PLAIN.replace("ENTRY(_start)", "ENTRY(nothing)"))
         self.write("gone.ld", PLAIN.replace(".text : { *(.text) }", ".text : { LONG(1) } /DISCARD/ : { *(.text) }"))
-        for words in (("-T", "no.ld"), ("-T", "t.ld", "-e", "nothing"), ("-T", "gone.ld"), ("-T", "gone.ld", "-e", "3")):
+        for words in (("-T", "no.ld"), ("-T", "t.ld", "-e", "nothing"), ("-T", "gone.ld"),
+                      ("-T", "gone.ld", "-e", "3")):
             self.links(*words, "a.o", "-o", "own")
             self.must("ld.bfd", *words, "a.o", "-o", "gnu")
             self.assertEqual(read_image(self.read("own")).entry, read_image(self.read("gnu")).entry)
@@ -166,6 +167,17 @@ class WhichLinkerTest(OutsideTest):
         self.assertEqual(done.returncode, 0, done.stderr)
         self.assertEqual(self.read("called"), b"-r a.o -o r.o\n")
         self.assertTrue(done.stderr.endswith(": linked by ld\n"), done.stderr)
+
+    def test_named(self) -> None:
+        """LDI_FALLBACK that names no linker is said, with status 3, also of a link with an orphan."""
+        self.write("t.ld", PLAIN)
+        self.compile("b.s", '.section .more, "a"\n.long 1\n')
+        for words in (("-r", "a.o"), ("-T", "t.ld", "a.o", "b.o")):
+            for name, why in (("no-such-linker", "no such linker"), (LD_LDI, "ld.ldi itself"), ("ld 'x", "quotation")):
+                done = self.ld(*words, "-o", "image", env={"LDI_FALLBACK": name})
+                self.assertEqual(done.returncode, 3, done.stderr)
+                self.assertIn(why, done.stderr)
+                self.assertFalse((self.folder / "image").exists())
 
     def test_status(self) -> None:
         """The status is that of the other linker."""
