@@ -47,7 +47,7 @@ pub(super) fn say_refused_object(plan: &LinkPlan, index: usize, refusal: Refusal
 pub(super) fn detail(plan: &LinkPlan, refused: &[(usize, Refusal)], environment: &Environment) -> String {
     let (index, refusal) = refused.first().copied().unwrap_or((0, Refusal { number: 0, inner: 0 }));
     let first = of_object(plan, index, refusal, environment).into_iter().next();
-    let first = first.map_or_else(String::new, |first| Diagnostic { rule: None, ..first }.to_string());
+    let first = first.map_or_else(String::new, |first| first.message());
     match refused.len().saturating_sub(1) {
         0 => first,
         1 => format!("{first}; 1 other object"),

@@ -83,26 +83,34 @@ impl JsonObject {
 }
 
 impl Diagnostic {
-    /// The message as a JSON object on one line: `severity`, `message` (the line for people), and as far as they are
-    /// known `file`, `line`, `column`, `site`, `sentence`, `notes`, `advice`, `text` and `length` (of the script's line
-    /// and of what is meant in it) and `rule`.
+    /// The message as a JSON object on one line.
     #[must_use]
     pub fn to_json(&self) -> String {
-        let mut json = JsonObject::new().text("severity", self.severity.word()).text("message", &self.to_string());
-        json = json.optional("file", self.file.as_deref());
-        for (name, number) in [("line", self.line), ("column", self.column)] {
-            if let Some(number) = number {
-                json = json.number(name, number.into());
+        self.add_to(JsonObject::new()).finish()
+    }
+
+    /// Adds the message to an object: `severity`, `message` (the line for people) and `line` (that of `ldi`), and as far
+    /// as they are known `place` (`file`, and `line` and `column` from 1), `site`, `sentence`, `notes`, `advice`, `text`
+    /// and `length` (the script's line, and the characters that are meant in it).
+    #[must_use]
+    pub fn add_to(&self, json: JsonObject) -> JsonObject {
+        let json = json.text("severity", self.severity.word()).text("message", &self.message());
+        let mut json = json.optional("line", self.rule.as_deref());
+        if let Some(file) = &self.file {
+            let mut place = JsonObject::new().text("file", file);
+            for (name, number) in [("line", self.line), ("column", self.column)] {
+                place = number.map(u64::from).into_iter().fold(place, |place, number| place.number(name, number));
             }
+            json = json.raw("place", &place.finish());
         }
         json = json.optional("site", self.site.as_deref()).text("sentence", &self.sentence);
         if !self.notes.is_empty() {
             json = json.list("notes", self.notes.iter().map(|note| json_string(note)));
         }
         json = json.optional("advice", self.advice.as_deref());
-        if let Some(Excerpt { text, length, .. }) = &self.excerpt {
-            json = json.text("text", text).number("length", *length as u64);
+        match &self.excerpt {
+            Some(Excerpt { text, length, .. }) => json.text("text", text).number("length", *length as u64),
+            None => json,
         }
-        json.optional("rule", self.rule.as_deref()).finish()
     }
 }

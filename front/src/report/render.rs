@@ -115,25 +115,30 @@ impl Diagnostic {
     }
 }
 
-impl fmt::Display for Diagnostic {
-    /// The message on one line: place, sentence, notes, what to do, the line of the file, and in brackets that of `ldi`.
-    fn fmt(&self, f: &mut fmt::Formatter<'_>) -> fmt::Result {
-        write!(f, "{}{}", self.prefix(), self.sentence)?;
-        for note in &self.notes {
-            write!(f, "; {note}")?;
-        }
+impl Diagnostic {
+    /// The message on one line: place, sentence, notes, what to do, and the line of the file.
+    #[must_use]
+    pub fn message(&self) -> String {
+        let mut text = format!("{}{}", self.prefix(), self.sentence);
+        self.notes.iter().for_each(|note| text.push_str(&format!("; {note}")));
         if let Some(advice) = &self.advice {
-            write!(f, "{} {advice}", if self.notes.is_empty() { ";" } else { ":" })?;
+            text.push_str(if self.notes.is_empty() { "; " } else { ": " });
+            text.push_str(advice);
         }
-        if let Some(excerpt) = &self.excerpt {
-            let text = excerpt.text.trim();
-            let short: String = text.chars().take(LONGEST_TEXT).collect();
-            match text.chars().nth(LONGEST_TEXT) {
-                None if short.is_empty() => {}
-                None => write!(f, ": {short}")?,
-                Some(_) => write!(f, ": {short} ..")?,
-            }
+        let line = self.excerpt.as_ref().map_or("", |excerpt| excerpt.text.trim());
+        if !line.is_empty() {
+            let end = if line.chars().nth(LONGEST_TEXT).is_some() { " .." } else { "" };
+            let short: String = line.chars().take(LONGEST_TEXT).collect();
+            text.push_str(&format!(": {short}{end}"));
         }
+        text
+    }
+}
+
+impl fmt::Display for Diagnostic {
+    /// The message on one line, and in brackets that of `ldi`.
+    fn fmt(&self, f: &mut fmt::Formatter<'_>) -> fmt::Result {
+        f.write_str(&self.message())?;
         match &self.rule {
             Some(rule) => write!(f, " [{rule}]"),
             None => Ok(()),

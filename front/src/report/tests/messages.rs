@@ -51,11 +51,14 @@ fn a_long_line_is_cut_and_bytes_are_shown() {
 #[test]
 fn json_has_the_parts() {
     let found = Diagnostic::new(Severity::Warning, "a \"b\"\n").of_file("x\\y").with_note("n").with_advice("do");
-    let wanted = "{\"severity\": \"warning\", \"message\": \"x\\\\y: a \\\"b\\\"\\n; n: do\", \"file\": \"x\\\\y\", \
-        \"sentence\": \"a \\\"b\\\"\\n\", \"notes\": [\"n\"], \"advice\": \"do\"}";
+    let found = Diagnostic { rule: Some("F5 2".into()), ..found };
+    let wanted = "{\"severity\": \"warning\", \"message\": \"x\\\\y: a \\\"b\\\"\\n; n: do\", \"line\": \"F5 2\", \
+        \"place\": {\"file\": \"x\\\\y\"}, \"sentence\": \"a \\\"b\\\"\\n\", \"notes\": [\"n\"], \"advice\": \"do\"}";
     assert_eq!(found.to_json(), wanted);
     let json = of_script("x = ;").to_json();
-    for member in ["\"file\": \"s.ld\"", "\"line\": 1", "\"column\": 5", "\"text\": \"x = ;\"", "\"length\": 1"] {
+    for member in
+        ["\"place\": {\"file\": \"s.ld\", \"line\": 1, \"column\": 5}", "\"text\": \"x = ;\"", "\"length\": 1"]
+    {
         assert!(json.contains(member), "{json}");
     }
 }
