@@ -3,6 +3,7 @@
 use super::archive::{normalized, shown, Archive, MemberIndex};
 use super::names::{NameState, Names};
 use super::script_inputs::{ScriptInput, ScriptInputs};
+use super::undefined::UndefinedNames;
 use super::{InputFault, Loaded, Request};
 use crate::command::{at_sysroot, path_of, Command, Format, Input, InputFlags};
 use crate::objects::{binary_object, session_name, Binding, Home, Object, Origin, SectionIndex, SymbolKind};
@@ -85,6 +86,9 @@ pub(super) struct Loader<'a> {
     names: Names,
     /// What is known of names before the first object.
     first_names: Names,
+    has_commons: bool,
+    /// Made where there are common blocks.
+    undefined: Option<UndefinedNames>,
     entered: usize,
     used: HashSet<BString>,
     archives: IndexMap<PathBuf, ArchiveUse>,
@@ -124,6 +128,8 @@ impl<'a> Loader<'a> {
             plain: HashMap::new(),
             renamed: IndexMap::new(),
             first_names: names.clone(),
+            has_commons: false,
+            undefined: None,
             names,
             entered: 0,
             used: HashSet::new(),
@@ -201,32 +207,15 @@ impl<'a> Loader<'a> {
         Ok(())
     }
 
-    /// Whether the objects from a place on add a name to GNU ld's list of undefined ones, upon which it goes through
-    /// archives again: an undefined name, or a common block of a name that was not known (bfd/linker.c,
-    /// `bfd_link_add_undef`). Without common blocks a second time takes nothing that is not needed; then any object counts.
+    /// Whether the objects from a place on add a name to GNU ld's list of undefined ones. Without common blocks a second
+    /// time takes nothing that is not needed; then any object counts.
     fn adds_undefined(&mut self, begin: usize) -> bool {
-        let (old, new) = self.objects.split_at(begin.min(self.objects.len()));
-        if new.is_empty() || !self.objects.iter().any(|object| object.has_commons()) {
-            return !new.is_empty();
+        if begin >= self.objects.len() || !self.has_commons {
+            return begin < self.objects.len();
         }
-        let listed = |object: &Object| -> Vec<(BString, NameState)> {
-            let states = object.globals().map(|symbol| (symbol.name, NameState::of(&symbol)));
-            let listed = states.filter(|(_, state)| matches!(state, NameState::Undefined | NameState::Common));
-            listed.map(|(name, state)| (name.to_owned(), state)).collect()
-        };
-        let mut names = self.first_names.clone();
-        names.ask(&new.iter().flat_map(listed).map(|(name, _)| name).collect::<Vec<_>>());
-        old.iter().for_each(|object| names.add(object));
-        new.iter().any(|object| {
-            let is_new = |(name, state): &(BString, NameState)| match names.state(name.as_bstr()) {
-                None => true,
-                Some(NameState::UndefinedWeak) => *state == NameState::Undefined,
-                Some(_) => false,
-            };
-            let adds = listed(object).iter().any(is_new);
-            names.add(object);
-            adds
-        })
+        let first_names = &self.first_names;
+        let undefined = self.undefined.get_or_insert_with(|| UndefinedNames::new(first_names));
+        undefined.are_added(&self.objects, begin)
     }
 
     /// Takes the inputs that a script names; `beside` is the folder of one that stands in the place of an object.
@@ -549,6 +538,7 @@ impl<'a> Loader<'a> {
         if let Some(fault) = object.fault().filter(|fault| fault.is_of_other_linkers()) {
             return Err(InputFault::OfOtherLinkers(format!("{full_name}: {fault}")));
         }
+        self.has_commons |= object.has_commons();
         self.known.put(data, object.clone());
         self.objects.push(object.with_retained(retained));
         Ok(())

@@ -7,6 +7,7 @@ mod replacing;
 mod script_inputs;
 #[cfg(test)]
 mod tests;
+mod undefined;
 
 pub use archive::{Archive, ArchiveSymbol, BadArchive, Member, MemberIndex};
 pub use names::{NameState, Names};

@@ -32,7 +32,7 @@ impl NameState {
     }
 
     /// What is known after an object that has this of the name.
-    fn after(old: Option<NameState>, found: NameState) -> NameState {
+    pub(super) fn after(old: Option<NameState>, found: NameState) -> NameState {
         use NameState::{Common, Defined, Undefined, UndefinedWeak, Weak};
         match (found, old) {
             (_, None) | (Defined, _) | (Undefined, Some(UndefinedWeak)) => found,
@@ -99,6 +99,11 @@ impl Names {
                 }
             }
         }
+    }
+
+    /// The names that are known, with what is known of them.
+    pub(super) fn states(&self) -> impl Iterator<Item = (&BString, NameState)> {
+        self.known.iter().filter_map(|(name, state)| Some((name, (*state)?)))
     }
 
     /// What is known of a name that was asked for.

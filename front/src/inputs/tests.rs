@@ -290,6 +290,27 @@ fn a_common_block_is_replaced_by_a_definition_and_not_by_a_block() {
 }
 
 #[test]
+fn a_function_does_not_take_the_place_of_a_common_block() {
+    const FUNCTION: u8 = 0x20;
+    let project = Project::new("function");
+    project.write("main.o", &code(&[("c", GLOBAL, COMMON, 4, 4)]));
+    project.write("function.o", &code(&[("c", FUNCTION | GLOBAL, TEXT, 0, 2)]));
+    project.archive("x.a", &["function.o"]);
+    assert_eq!(project.load(&["main.o", "x.a"]), ["main.o"]);
+}
+
+#[test]
+fn a_new_common_block_has_the_archive_gone_through_again() {
+    let project = Project::new("new-block");
+    project.refers("main.o", "f");
+    let data = WrittenSection { name: ".data", kind: 1, flags: 3, data: b"12345678" };
+    project.write("defined.o", &object(&[data], &[("c", GLOBAL, 1, 0, 8)], &[]));
+    project.write("f.o", &code(&[("f", GLOBAL, TEXT, 0, 0), ("c", GLOBAL, COMMON, 8, 8)]));
+    project.archive("x.a", &["defined.o", "f.o"]);
+    assert_eq!(project.load(&["main.o", "x.a"]), ["main.o", "f.o", "defined.o"]);
+}
+
+#[test]
 fn a_member_takes_members_before_it_too() {
     let project = Project::new("chain");
     project.refers("main.o", "f");

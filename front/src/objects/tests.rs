@@ -11,7 +11,8 @@ pub(crate) struct WrittenSection<'a> {
     pub(crate) data: &'a [u8],
 }
 
-/// Of an object that is written: a symbol's name, binding, section number, value and size.
+/// Of an object that is written: a symbol's name, binding (with the type in the upper four bits), section number, value
+/// and size.
 pub(crate) type WrittenSymbol<'a> = (&'a str, u8, u16, u64, u64);
 
 /// An object with sections, from number 1 on, with global symbols, and with relocations of section 1.
@@ -44,7 +45,7 @@ pub(crate) fn object(sections: &[WrittenSection], symbols: &[WrittenSymbol], rel
     }
     for (name, binding, section, value, size) in symbols {
         table.extend((strings.len() as u32).to_le_bytes());
-        table.extend([binding << 4, 0]);
+        table.extend([binding.rotate_left(4), 0]);
         table.extend(section.to_le_bytes());
         table.extend([*value, *size].iter().flat_map(|word| word.to_le_bytes()));
         strings.extend_from_slice(name.as_bytes());
