@@ -182,7 +182,7 @@ def named_first(one: Case, words: list[str]) -> list[str]:
         text = text.replace("INCLUDE inner.ld", inner)
     named = list(dict.fromkeys(re.findall(r"(?<![\w.*?:\]])([a-g]\.o)\)*\(", text)))
     named = [name for name in named if name in words]
-    at = words.index("-T") + 2
+    at = len(words) - words[::-1].index("-T") + 1
     return [*words[:at], *named, *(word for word in words[at:] if word not in named)]
 
 
@@ -239,8 +239,33 @@ def without_rest(one: Case, seed: int) -> Case:
     return one
 
 
+def with_overlay(one: Case, seed: int) -> Case:
+    """A case with an OVERLAY in front of the last section, and one whose sections another script inserts."""
+    random = Random(seed)
+    lines = one.script.split("\n")
+    at = next((i for i, line in enumerate(lines) if REST_OF.search(line)), None)
+    if at is not None and random.random() < 0.6:
+        head = random.choice(["", " 0x700000", " . + 8"]) + " :" + random.choice(["", " AT(0x3000000)", " AT(0x3000004)"])
+        tail = random.choice(["", " =0x90", " =0x1122"])
+        bodies = random.sample(["*(.tab*)", "*(cmds)", "*(.rodata.*) LONG(1)", "*(.data)", "BYTE(1) . = ALIGN(8);"], 3)
+        sections = " ".join(f".ov{i} {{ {body} }}" for i, body in enumerate(bodies))
+        lines.insert(at, f"  OVERLAY{head} {{ {sections} }}{tail}")
+        one.script = "\n".join(lines)
+    if random.random() < 0.6:
+        names = re.findall(r"^  (\.[a-z0-9]+) .*{", one.script, flags=re.M) or [".rest"]
+        place = random.choice(["AFTER", "BEFORE"])
+        body = random.choice(["*(.vectors) inserted = .;", "*(.init_array*) . = ALIGN(16);", "LONG(0x11) *(.text.b1)"])
+        more = random.choice(["", "marked = .; ", ". = . + 16; "])
+        one.files["insert.ld"] = f"SECTIONS {{ {more}.new : {{ {body} }} }} INSERT {place} {random.choice(names)};\n"
+        one.before += ["-T", "insert.ld"]
+    return one
+
+
+REST_OF = re.compile(r"^  \.[a-z0-9]+ .*\*\(\.text \.text\.\*\)")
+
+
 def main(words: list[str]) -> int:
-    """`fuzz-layout COUNT [SEED] [--gc-sections] [--commons] [--orphans] [-v]`"""
+    """`fuzz-layout COUNT [SEED] [--gc-sections] [--commons] [--orphans] [--overlays] [-v]`"""
     given, words = words, [word for word in words if not word.startswith("-")]
     count, first = int(words[0]) if words else 300, int(words[1]) if len(words) > 1 else 0
     folder = os.environ.get("FUZZ_FOLDER", "/tmp/fuzz-layout")
@@ -257,6 +282,8 @@ def main(words: list[str]) -> int:
         one.script = re.sub(r"^(  ASSERT.*\)); $", r"\1", one.script, flags=re.M)  # none there for GNU ld 2.40
         if "--orphans" in given:
             one = without_rest(one, seed)
+        if "--overlays" in given:
+            one = with_overlay(one, seed)
         came, said = compare(program, one, [word for word in given if word in ("-N", "-n")])
         tally[came] += 1
         if came in (DIFFERS, WE_REFUSE, FAILED, *([GNU_REFUSES, UNKNOWN] if "-v" in given else ())):

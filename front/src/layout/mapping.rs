@@ -1,7 +1,7 @@
 //! Gives the input sections to the output sections, in the order of the script (ldlang.c,
 //! `map_input_to_output_sections`).
 
-use super::evaluation::Fate;
+use super::evaluation::{Fate, InputSection};
 use super::expression::Node;
 use super::flags::Flags;
 use super::ids::{ExprId, OutputId, SectionId, StatementId};
@@ -133,9 +133,17 @@ impl Link<'_> {
         let found: &[Match] =
             found.as_deref().or_else(|| rows.matches.get(taking).map(Vec::as_slice)).unwrap_or_default();
         let mut taken = Vec::with_capacity(found.len());
+        let (mut last, is_reversed) = (None, self.is_reversed(id));
         for one in found {
-            if self.add_to(id, one.section, flags)? {
+            let like = self.section(one.section).map(Alike::of);
+            let is_in = if like.is_some() && like == last && !is_reversed {
+                self.add_alike(id, one.section)
+            } else {
+                self.add_to(id, one.section, flags)?
+            };
+            if is_in {
                 taken.push(one.section);
+                last = like;
             }
         }
         let mut takes_common = false;
@@ -183,6 +191,29 @@ impl Link<'_> {
         place.inputs.push(section);
         input.fate = Fate::Output(id);
         Ok(true)
+    }
+
+    /// Whether GNU ld copies some sections into an output section in reverse.
+    fn is_reversed(&self, id: OutputId) -> bool {
+        let name = self.output(id).map(|output| self.program.names.get(output.name));
+        REVERSED.iter().any(|(reversed, _)| name == Some(reversed.as_bstr()))
+    }
+
+    /// The same of a section that is like the one before, which was added: nothing but the alignment may change.
+    fn add_alike(&mut self, id: OutputId, section: SectionId) -> bool {
+        let (output, input) = match (self.program.outputs.get_mut(id.index()), self.sections.get_mut(section.index())) {
+            (Some(output), Some(input)) => (output, input),
+            _ => return false,
+        };
+        match &mut output.place {
+            Some(place) if input.fate == Fate::Open => {
+                place.align = place.align.max(input.align);
+                place.inputs.push(section);
+                input.fate = Fate::Output(id);
+                true
+            }
+            _ => false,
+        }
     }
 
     fn check_reversed(&self, id: OutputId, section: SectionId) -> Result<(), Stop> {
@@ -292,8 +323,24 @@ impl Link<'_> {
     }
 }
 
+/// What of an input section an output section's flags and type depend on.
+#[derive(Clone, Copy, PartialEq, Eq, Debug)]
+struct Alike {
+    flags: Flags,
+    bits: u64,
+    kind: u32,
+    entry_size: u64,
+}
+
+impl Alike {
+    fn of(section: &InputSection) -> Alike {
+        let InputSection { flags, bits, kind, entry_size, .. } = *section;
+        Alike { flags, bits, kind, entry_size }
+    }
+}
+
 /// The flags and the type of an output section with one more input section.
-fn join(place: &mut Place, input: &super::evaluation::InputSection, mut flags: Flags) {
+fn join(place: &mut Place, input: &InputSection, mut flags: Flags) {
     let merging = Flags::MERGE | Flags::STRINGS;
     place.flags = place.flags & (flags | !Flags::READONLY);
     if place.has_input {

@@ -1,7 +1,7 @@
 //! The passes in their order (ldlang.c, `lang_process`).
 
 use super::compile::files_of;
-use super::evaluation::{Evaluation, Fate, InputSection};
+use super::evaluation::{Evaluation, Fate};
 use super::expression::Node;
 use super::flags::Flags;
 use super::fold::Phase;
@@ -25,8 +25,8 @@ pub(crate) fn run(program: Program, rows: &Rows, objects: &[Object], settings: &
         }
     }
     let mut link = Link::new(program, rows.sections.clone(), settings);
-    let is_stack = |section: &InputSection| link.program.names.get(section.name) == ".note.GNU-stack";
-    link.headers.has_stack = link.sections.iter().any(is_stack);
+    let stack = link.program.names.find(b".note.GNU-stack");
+    link.headers.has_stack = stack.map_or(false, |stack| link.sections.iter().any(|section| section.name == stack));
     link.want_names();
     link.set_regions(false)?;
     if settings.script_first {

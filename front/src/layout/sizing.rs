@@ -369,7 +369,8 @@ impl Link<'_> {
         Ok(())
     }
 
-    /// A load address as far from the address as that of the last section of the region.
+    /// A load address as far from the address as that of the last section of the region; of a section of an OVERLAY but the
+    /// first, the end of that one.
     fn load_after(&self, id: OutputId, region: RegionId, dot: u64, align: u64) -> u64 {
         let place = match self.place(id) {
             None => return dot,
@@ -382,7 +383,12 @@ impl Link<'_> {
                 if is_before {
                     return place.address;
                 }
-                let load = place.address.wrapping_add(last.load).wrapping_sub(last.address);
+                let is_overlay =
+                    self.output(id).map_or(false, |output| output.kind == OutputKind::Overlay { is_first: false });
+                let load = match is_overlay {
+                    true => last.load.wrapping_add(last.size),
+                    false => place.address.wrapping_add(last.load).wrapping_sub(last.address),
+                };
                 if align > 1 {
                     align_power(load, align)
                 } else {
