@@ -112,9 +112,10 @@ def headers_of(data: bytes) -> dict[str, list[tuple[int, int, int, int, int]]]:
     return found
 
 
-def differences(answer: Answer, gnu: Image, data: bytes, mapped: str) -> list[str]:
-    """What GNU ld has another."""
+def differences(answer: Answer, gnu: Image, data: bytes, mapped: str, script: str) -> list[str]:
+    """What GNU ld has another. Hidden symbols that no object has it may leave out of its table."""
     found = []
+    hidden = re.findall(r"PROVIDE_HIDDEN\((\S+) =", script)
     headers = headers_of(data)
     rest = {(name, *one[:4]): one[4] for name, all_of in headers.items() for one in all_of if name not in OTHERS}
     loads = loads_of(mapped)
@@ -143,7 +144,7 @@ def differences(answer: Answer, gnu: Image, data: bytes, mapped: str) -> list[st
         theirs = gnu.symbols.get(name, gnu.local.get(name))
         if theirs is not None and theirs != value:
             found.append(f"symbol {name} {value:#x}: {theirs:#x}")
-        if theirs is None and name in answer.script and name not in gnu.local:
+        if theirs is None and name in answer.script and name not in hidden:
             found.append(f"symbol {name} {value:#x}: none")
     for name, value in gnu.symbols.items():
         if name not in answer.symbols and name in answer.script:
@@ -208,7 +209,7 @@ def compare(program: Program, one: Case, more: list[str]) -> tuple[str, str]:
         return GNU_REFUSES, done.stderr
     with open("gnu.out", "rb") as image, open("gnu.map", encoding="latin-1") as map_file:
         data, mapped = image.read(), map_file.read()
-    found = differences(answer, read_image(data, loads_of(mapped)), data, mapped)
+    found = differences(answer, read_image(data, loads_of(mapped)), data, mapped, one.script)
     return (DIFFERS, " | ".join(found[:5])) if found else (SAME, "")
 
 

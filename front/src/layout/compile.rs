@@ -175,6 +175,9 @@ fn output(program: &mut Program, node: &OutputSection, span: Span, address: Opti
     if let Some(made) = program.outputs.get_mut(id.index()) {
         made.address = own_address.or(address);
         made.kind = kind;
+        if kind == OutputKind::NoLoad {
+            made.expected = Flags::NEVER_LOAD;
+        }
         made.align = align;
         made.subalign = subalign;
         made.load = load;
