@@ -465,7 +465,9 @@ impl<'a> Walk<'a> {
         let new = super::walk::squeezed(text.as_bytes());
         let says_so = own == new && super::expression::says(self.slice(assignment.value.span), &settled.e, self.text);
         let step = new.strip_prefix(b".+=").map(|step| [b".=.+", step].concat());
-        let adds = assignment.operator == AssignOperator::Set && step.map_or(false, |step| own == step);
+        let is_sum = matches!(&assignment.value.kind,
+            ExprKind::Binary(BinaryOperator::Add, left, _) if left.kind == ExprKind::Dot);
+        let adds = is_sum && assignment.operator == AssignOperator::Set && step.map_or(false, |step| own == step);
         if !says_so && !adds {
             if settled.reasons.said.is_empty() {
                 settled.reasons.say(format!("as {text}"));

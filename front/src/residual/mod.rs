@@ -11,6 +11,7 @@ mod expression;
 mod head;
 mod input;
 mod items;
+mod limits;
 mod note;
 mod profile;
 mod rules;

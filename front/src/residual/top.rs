@@ -2,7 +2,7 @@
 
 use bstr::{BStr, ByteSlice};
 
-use super::expression::{made, says, uses_dot, with_dot, written};
+use super::expression::{any, made, says, uses_dot, with_dot, written};
 use super::note::{NoteKind, Topic};
 use super::profile::is_name;
 use super::rules::updated;
@@ -10,7 +10,7 @@ use super::walk::{At, Memory, Settled, Walk};
 use super::NUMBER_ENTRY;
 use crate::layout::evaluation::{Definer, StatementKind};
 use crate::script::tree::{
-    Assertion, AssignOperator, Assignment, BinaryOperator, Expr, ExprKind, MemoryRegion, Name, Provision,
+    Assertion, AssignOperator, Assignment, BinaryOperator, Expr, ExprKind, MemoryRegion, Name, Provision, Query,
     SectionsStatement, Setting, Span, Spanned, Statement,
 };
 
@@ -178,11 +178,13 @@ impl<'a> Walk<'a> {
             }
         }
         let written: Vec<String> = blocks.iter().map(|(_, regions)| self.regions(regions)).collect();
-        let is_late = blocks.iter().any(|(span, _)| span.start > insertion);
+        let used = script.statements.iter().find(|statement| names_region(&statement.node));
+        let used = used.map_or(u32::MAX, |statement| statement.span.start);
         let has_sections = script.statements.iter().any(|one| matches!(one.node, Statement::Sections(_)));
+        let before = if has_sections { used.min(insertion) } else { used };
+        let must_move = blocks.len() > 1 || blocks.iter().any(|(span, _)| span.start > before);
         for (index, (span, _)) in blocks.iter().enumerate() {
             let new = written.get(index).cloned().unwrap_or_default();
-            let must_move = blocks.len() > 1 || is_late && has_sections;
             if must_move {
                 self.edits.blank(self.text, *span);
                 let why = match index {
@@ -194,9 +196,9 @@ impl<'a> Walk<'a> {
                 self.edits.replace(self.text, *span, new);
             }
         }
-        if blocks.len() > 1 || is_late && has_sections {
+        if must_move {
             let inner: Vec<&str> = written.iter().map(|block| inside(block)).collect();
-            let at = blocks.first().map_or(insertion, |(span, _)| span.start.min(insertion));
+            let at = blocks.first().map_or(before, |(span, _)| span.start.min(before));
             self.edits.insert(at, FRONT, format!("MEMORY {{ {} }} ", inner.join(" ")));
         }
         insertion
@@ -657,6 +659,16 @@ fn statement_uses_dot(statement: &Statement) -> bool {
     match statement {
         Statement::Assign(assignment) => assignment.target.node == "." || uses_dot(&assignment.value),
         Statement::Assert(assertion) => uses_dot(&assertion.condition),
+        _ => false,
+    }
+}
+
+/// Whether an expression of a statement at the top names a region.
+fn names_region(statement: &Statement) -> bool {
+    let is_of_region = &mut |e: &Expr| matches!(e.kind, ExprKind::Query(Query::Origin | Query::Length, _));
+    match statement {
+        Statement::Assign(assignment) => any(&assignment.value, is_of_region),
+        Statement::Assert(assertion) => any(&assertion.condition, is_of_region),
         _ => false,
     }
 }

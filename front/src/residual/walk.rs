@@ -6,6 +6,7 @@ use bstr::{BStr, BString, ByteSlice};
 
 use super::edits::Edits;
 use super::expression::{is_short, number, says, value, write};
+use super::limits::{hash_comments, parted};
 use super::note::{Note, NoteKind, Topic};
 use super::rules::{translate, Reasons};
 use super::versions::Versions;
@@ -122,6 +123,7 @@ impl<'a> Walk<'a> {
 
     /// All of it.
     pub(super) fn run(mut self) -> Residual {
+        self.hash_comments();
         self.includes();
         self.commands();
         let insertion = self.memory();
@@ -131,6 +133,16 @@ impl<'a> Walk<'a> {
         self.say_kept();
         segments::write(&mut self);
         self.finish()
+    }
+
+    /// Comments of `#` as those of the profile.
+    fn hash_comments(&mut self) {
+        for (start, end) in hash_comments(self.text) {
+            let inside = self.text.get(start + 1..end).unwrap_or_default().to_str_lossy().replace("*/", "* /");
+            let span = Span { start: start as u32, end: end as u32 };
+            self.edits.replace(self.text, span, format!("/* {} */", inside.trim()));
+            self.note(NoteKind::Rewritten, span.start, "a comment of `#` as /* */");
+        }
     }
 
     /// The other symbols that GNU ld defines by itself, as numbers.
@@ -214,7 +226,7 @@ impl<'a> Walk<'a> {
             self.edits.insert(end, i32::MAX, format!("{front}{}", asserts.concat()));
         }
         self.result.foreign = self.foreign.iter().map(|(name, value)| (name.clone(), *value)).collect();
-        let rendered = self.edits.render(self.text);
+        let rendered = parted(self.edits.render(self.text));
         self.result.lines = rendered.origins.iter().map(|at| self.request.source.place(*at)).collect();
         self.result.text = rendered.text;
         self.notes.sort_by_key(|(at, _)| *at);
