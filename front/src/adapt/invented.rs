@@ -15,9 +15,13 @@ fn form_of(name: &[u8]) -> (u32, u64) {
     const ALLOC: u64 = 2;
     const EXECUTE: u64 = 4;
     match () {
-        () if begins(&[".debug", ".zdebug", ".comment", ".stab", ".line", ".gnu.attributes", ".note.GNU-stack"]) => (1, 0),
+        () if begins(&[".debug", ".zdebug", ".comment", ".stab", ".line", ".gnu.attributes", ".note.GNU-stack"]) => {
+            (1, 0)
+        }
         () if begins(&[".bss", ".sbss", ".dynbss", ".noinit", "COMMON"]) => (8, WRITE | ALLOC),
-        () if begins(&[".text", ".init.text", ".exit.text", ".plt", ".fini"]) || name == b".init" => (1, ALLOC | EXECUTE),
+        () if begins(&[".text", ".init.text", ".exit.text", ".plt", ".fini"]) || name == b".init" => {
+            (1, ALLOC | EXECUTE)
+        }
         () if begins(&[".rodata", ".eh_frame", ".gcc_except", ".note", ".interp"]) => (1, ALLOC),
         () => (1, WRITE | ALLOC),
     }

@@ -331,3 +331,30 @@ fn every_option_of_gnu_lds_help_is_known() {
         assert!(is_known || word.chars().all(char::is_uppercase), "-z {word}");
     }
 }
+
+/// Each option stands in the manual under the heading of its effect.
+#[test]
+fn the_manual_has_each_option_under_its_effect() {
+    let manual = include_str!("../../../docs/makefiles.md");
+    let headings: [(&str, fn(&Effect) -> bool); 4] = [
+        ("Taken", |effect| matches!(effect, Effect::Taken(_))),
+        ("Ignored", |effect| matches!(effect, Effect::Ignored)),
+        ("Said", |effect| matches!(effect, Effect::Said(_))),
+        ("Handed over", |effect| matches!(effect, Effect::Impossible(_))),
+    ];
+    for (heading, belongs) in headings {
+        let after = manual.split(&format!("### {heading}\n")).nth(1).expect(heading);
+        let part = after.split("\n##").next().unwrap_or_default();
+        let spans = part.split('`').skip(1).step_by(2).filter(|span| span.starts_with('-'));
+        let written: Vec<&str> =
+            spans.filter_map(|span| span.split(|c: char| c.is_whitespace() || "[=".contains(c)).next()).collect();
+        for row in OPTIONS.iter().filter(|row| belongs(&row.effect)) {
+            assert!(written.contains(&row.spelling().as_str()), "{heading} has no {}", row.spelling());
+        }
+        for word in written.into_iter().filter(|word| !["-", "-z"].contains(word)) {
+            let rows = find_option(word.into()).map(|found| found.rows).unwrap_or_default();
+            let is_fine = !rows.is_empty() && rows.iter().all(|row| belongs(&row.effect)) || word == "--no-warn-";
+            assert!(is_fine, "{heading} has {word}");
+        }
+    }
+}

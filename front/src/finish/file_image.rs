@@ -88,12 +88,12 @@ impl FileImage {
         size == 0
             || end <= self.length
                 && self.pieces().filter(|(start, bytes)| *start < end && at < start + bytes.len() as u64).all(
-                |(start, bytes)| {
-                    let from = usize::try_from(at.saturating_sub(start)).unwrap_or(usize::MAX);
-                    let to = usize::try_from(end - start).unwrap_or(usize::MAX).min(bytes.len());
-                    bytes.get(from..to).unwrap_or_default().iter().all(|byte| *byte == 0)
-                },
-            )
+                    |(start, bytes)| {
+                        let from = usize::try_from(at.saturating_sub(start)).unwrap_or(usize::MAX);
+                        let to = usize::try_from(end - start).unwrap_or(usize::MAX).min(bytes.len());
+                        bytes.get(from..to).unwrap_or_default().iter().all(|byte| *byte == 0)
+                    },
+                )
     }
 
     /// The last piece that begins at a place or before it.
