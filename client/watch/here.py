@@ -1,7 +1,9 @@
-"""The working folder, which may be removed and made anew while names still go by it."""
+"""The working folder, which may be removed or renamed, and made anew, while names still go by it."""
 from __future__ import annotations
 
 import os
+
+from client.watch.events import identity
 
 
 class Here:
@@ -10,18 +12,19 @@ class Here:
     def __init__(self) -> None:
         self.path = real(".")
 
+    def is_left(self) -> bool:
+        """Whether another folder has the name now."""
+        return identity(self.path) not in (None, identity("."))
+
     def look(self) -> bool:
-        """Goes into the folder of that name, where this one was removed and another is there; says whether it did."""
+        """Goes into the folder that has the name now, where that is another one; says whether it did."""
         try:
-            if os.stat(".").st_nlink > 0:
-                return False
+            if self.is_left():
+                os.chdir(self.path)
+                return True
         except OSError:
             pass
-        try:
-            os.chdir(self.path)
-        except OSError:
-            return False
-        return True
+        return False
 
 
 def real(path: str) -> str:

@@ -164,6 +164,8 @@ class Watch:
         """Looks at all inputs, folders and outputs, for events that the system lost."""
         self.gathering.next_look = now + PERIOD
         is_renewed = self.here.look()
+        if is_renewed:
+            self.teller.note(self.here.path, "another folder has this name now: the watch goes on in that one")
         self.written = self.image.paths()
         disturbed = self.watcher.look() or self.watcher.is_disturbed or is_renewed
         self.watcher.is_disturbed = False
@@ -185,6 +187,8 @@ class Watch:
 
     def step(self) -> None:
         """Reads what has changed, sends it, and puts the image in place, as far as the rule of truth allows."""
+        if self.here.is_left():
+            self.look_at_all(time.monotonic())
         reason = self.commands.start()
         if reason is not None:
             self.standing.set(Waiting((reason,)), at_once=True)

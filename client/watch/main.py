@@ -37,9 +37,9 @@ def main(words: list[str]) -> int:
     except NamesRefused as refused:
         print(f"ldi-watch: {refused}", file=sys.stderr)
         return STATUS_REFUSED
-    stops = Stops()
-    watch = Watch(asked, stops, Teller(asked.json, asked.image), jobserver)
+    watch = None
     try:
+        watch = Watch(asked, Stops(), Teller(asked.json, asked.image), jobserver)
         return watch.run()
     except Stopped as stopped:
         return 128 + stopped.number if asked.once else 0
@@ -51,7 +51,8 @@ def main(words: list[str]) -> int:
         print("ldi-watch: out of memory", file=sys.stderr)
         return STATUS_MEMORY
     finally:
-        watch.end()
+        if watch is not None:
+            watch.end()
 
 
 def open_standard_streams() -> None:

@@ -5,6 +5,7 @@ import os
 import re
 import shutil
 import signal
+import struct
 import subprocess
 import tempfile
 import time
@@ -142,6 +143,78 @@ class OutsideTest(unittest.TestCase):
         while not holds():
             self.assertLess(time.monotonic(), end, what)
             time.sleep(0.02)
+
+
+SCRIPT = """ENTRY(_start)
+SECTIONS {
+  . = 0x401000;
+  .text : { *(.text .text.*) }
+  . = ALIGN(0x1000);
+  .rodata : { *(.rodata .rodata.*) }
+  . = ALIGN(0x1000);
+  .data : { *(.data .data.*) }
+  .bss : { *(.bss .bss.*) *(COMMON) }
+  /DISCARD/ : { *(.eh_frame) *(.note.*) *(.comment) }
+}
+"""
+START = "extern int value[]; void _start(void) { for (;;) *(volatile int *)value; }"
+MARK = bytes.fromhex("5a5a1234a5a54321")
+"""What stands before the number in an object and an image."""
+WORDS = ("-T", "t.ld", "-o", "image", "a.o", "b.o")
+
+
+class ProjectTest(OutsideTest):
+    """Tests with a project in the folder `p`: `a.o`, `b.o` and the script `t.ld`. `b.o` has a number in its data."""
+
+    def setUp(self) -> None:
+        """Makes the project."""
+        super().setUp()
+        mark = ", ".join(map(str, struct.unpack("<2i", MARK)))
+        self.objects = [self.read(self.compile(name, text)) for name, text in (
+            ("a.c", START), ("b.c", f"int value[] = {{{mark}, 0}};"))]
+        self.make("p", 1)
+
+    def make(self, folder: str, number: int) -> None:
+        """Makes a folder with the project and a number."""
+        self.write(f"{folder}/t.ld", SCRIPT)
+        self.write(f"{folder}/a.o", self.objects[0])
+        self.put(f"{folder}/b.o", number)
+
+    def object(self, number: int) -> bytes:
+        """The object with a number."""
+        return self.objects[1].replace(MARK + bytes(4), MARK + struct.pack("<i", number))
+
+    def put(self, name: str, number: int) -> None:
+        """Makes a file the object with a number, in one step."""
+        os.rename(self.write(f"{name}.new", self.object(number)), self.folder / name)
+
+    def number(self, image: str = "p/image") -> int | None:
+        """The number of an image, or of an object; None where there is no file, or no number in it."""
+        try:
+            data = self.read(image)
+        except FileNotFoundError:
+            return None
+        at = data.find(MARK)
+        return None if at < 0 else struct.unpack_from("<i", data, at + len(MARK))[0]
+
+    def call(self, *words: str, cwd: str = "p", **how: object) -> Done:
+        """Runs `ld.ldi` with a server in the project, with status 0; without words by those of the project."""
+        return self.serves(*(words or WORDS), cwd=cwd, **how)
+
+    def begin(self, *words: str | Path, cwd: str = "p", env: Mapping[str, str] | None = None) -> subprocess.Popen[str]:
+        """Starts a program in the project, and does not wait for it; it is ended with the test."""
+        process = subprocess.Popen([str(word) for word in words], cwd=self.folder / cwd,
+                                   env=self.env(**self.serving(**(env or {}))), text=True, errors="replace",
+                                   stdin=subprocess.DEVNULL, stdout=subprocess.PIPE, stderr=subprocess.PIPE)
+        self.addCleanup(end, process)
+        return process
+
+
+def end(process: subprocess.Popen[str]) -> None:
+    """Ends a program, if it runs."""
+    signal_to(process.pid, signal.SIGCONT)
+    process.kill()
+    process.communicate()
 
 
 def signal_to(pid: int, number: signal.Signals) -> None:
