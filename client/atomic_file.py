@@ -17,11 +17,8 @@ from client.exchange import exchange
 PROGRAM, TEXT = 0o755, 0o644
 """The modes of a new image and of a new text, less the umask."""
 
-MOST_NAMES = 100
-"""The names that are tried for a file beside another."""
-
-BESIDE = re.compile(rb"\.(\d+)\.\d+\.new$")
-"""How the name of a file beside another ends: with the number of the process that writes it."""
+BESIDE = re.compile(rb"\.(\d+)\.[0-9a-f]+\.new$")
+"""How the name of a file beside another ends: with the number of the process that writes it, and what is random."""
 
 
 class NewFile:
@@ -73,15 +70,9 @@ class NewFile:
         return stat.S_IMODE(found) if self._keeps_mode else self._mode & ~umask()
 
     def _make(self) -> None:
-        for number in range(MOST_NAMES):
-            self._beside = beside(self.target, number)
-            try:
-                self._descriptor = os.open(self._beside, os.O_WRONLY | os.O_CREAT | os.O_EXCL | os.O_CLOEXEC, 0o600)
-                break
-            except FileExistsError:  # of another output, or left by a process that was killed
-                self._beside = None
-        else:
-            raise FileExistsError(errno.EEXIST, "there are too many files beside it that were left half written")
+        name = beside(self.target)
+        self._descriptor = make(name)
+        self._beside = name
         self.reader = os.open(self._beside, os.O_RDONLY | os.O_CLOEXEC)
         try:
             fcntl.flock(self.reader, fcntl.LOCK_SH | fcntl.LOCK_NB)
@@ -185,10 +176,17 @@ def write_all(descriptor: int, data: bytes | Parts) -> None:
             rest[0] = rest[0][count:]
 
 
-def beside(path: str, number: int) -> str:
-    """The name of a file beside this one that is of this process, and not too long."""
+def beside(path: str) -> str:
+    """The name of a file beside this one that is of this process, not too long, and never given twice: who writes in
+    the folder too cannot tell it, and who has an old one finds no other file by it."""
     folder, name = os.path.split(os.fsencode(path))
-    return os.fsdecode(os.path.join(folder, b".%s.%d.%d.new" % (name[:100], os.getpid(), number)))
+    end = b".%s.%d.%s.new" % (name[:100], os.getpid(), os.urandom(10).hex().encode())
+    return os.fsdecode(os.path.join(folder, end))
+
+
+def make(path: str) -> int:
+    """Makes a file, which is not there yet; gives a descriptor to write it."""
+    return os.open(path, os.O_WRONLY | os.O_CREAT | os.O_EXCL | os.O_CLOEXEC, 0o600)
 
 
 def is_beside(path: str) -> bool:
@@ -205,8 +203,8 @@ def remove(path: str) -> None:
         pass
 
 
-def remove_left(path: str) -> None:
-    """Removes the files beside this one that processes left which were killed."""
+def remove_left(path: str, of_running: bool = False) -> None:
+    """Removes the files beside this one that processes left which were killed, or also those that servers wrote."""
     try:
         folder, name = os.path.split(os.fsencode(os.path.realpath(path)))
         begin = b".%s." % name[:100]
@@ -215,8 +213,9 @@ def remove_left(path: str) -> None:
         return
     for found in names:
         number = BESIDE.fullmatch(found, len(begin) - 1)
-        if number is not None and not is_running(int(number[1])):
-            _remove_unused(os.path.join(folder, found))
+        is_left = number is not None and not is_running(int(number[1]))
+        if is_left or number is not None and of_running:
+            _remove_unused(os.path.join(folder, found), is_left)
 
 
 def is_running(number: int) -> bool:
@@ -231,15 +230,21 @@ def is_running(number: int) -> bool:
         return True  # of another user
 
 
-def _remove_unused(path: bytes) -> None:
-    """Removes a file that no process holds, as one in another container may: its number is not known here."""
+def _remove_unused(path: bytes, is_left: bool) -> None:
+    """Removes a file that `is_left`, or what a server wrote, unless a process holds it, as one in another container
+    may: its number is not known here."""
     try:
         descriptor = os.open(path, os.O_RDONLY | os.O_NOFOLLOW | os.O_NONBLOCK | os.O_CLOEXEC)
     except OSError:
         return
     try:
         fcntl.flock(descriptor, fcntl.LOCK_EX | fcntl.LOCK_NB)
-        os.unlink(path)
+        if stat.S_ISDIR(os.fstat(descriptor).st_mode):
+            for name in os.listdir(descriptor):
+                os.unlink(name, dir_fd=descriptor)
+            os.rmdir(path)
+        elif is_left:
+            os.unlink(path)
     except OSError:
         pass
     finally:

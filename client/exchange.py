@@ -7,15 +7,18 @@ import stat
 AT_FDCWD, RENAME_EXCHANGE = -100, 2
 
 
-def exchange(name: str, target: str) -> bool:
-    """Exchanges a file with a regular one that is there; says whether that was done, which not all systems can."""
+def exchange(name: str, target: str, folder: int = AT_FDCWD) -> bool:
+    """Exchanges a file with a regular one that is there; says whether that was done, which not all systems can.
+
+    `name` goes by the folder of that descriptor.
+    """
     try:
-        return stat.S_ISREG(os.lstat(target).st_mode) and _renameat2(os.fsencode(name), os.fsencode(target))
+        return stat.S_ISREG(os.lstat(target).st_mode) and _renameat2(folder, os.fsencode(name), os.fsencode(target))
     except OSError:
         return False
 
 
-def _renameat2(name: bytes, target: bytes) -> bool:
+def _renameat2(folder: int, name: bytes, target: bytes) -> bool:
     try:
         import _ctypes
 
@@ -30,6 +33,6 @@ def _renameat2(name: bytes, target: bytes) -> bool:
             _flags_, _restype_ = 1, Number
 
         call = Call(_ctypes.dlsym(_ctypes.dlopen(None, 0), "renameat2"))  # type: ignore[attr-defined]
-        return bool(call(AT_FDCWD, name, AT_FDCWD, target, RENAME_EXCHANGE) == 0)
+        return bool(call(folder, name, AT_FDCWD, target, RENAME_EXCHANGE) == 0)
     except (ImportError, AttributeError, OSError):
         return False

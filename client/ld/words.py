@@ -1,6 +1,8 @@
 """`@FILE` in a command line: the words of a file, as GNU's tools read them."""
 from __future__ import annotations
 
+from client import files
+
 GREATEST_DEPTH = 100
 """How deep files of words may name others."""
 
@@ -43,8 +45,7 @@ def expand(words: list[str], depth: int = 0) -> list[str]:
             expanded.append(word)
             continue
         try:
-            with open(word[1:], encoding="utf-8", errors="surrogateescape") as file:  # no input of the link itself
-                text = file.read()
+            text = files.CURRENT.text(word[1:])
         except OSError:
             expanded.append(word)
             continue

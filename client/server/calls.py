@@ -65,6 +65,7 @@ class Calls:
         self._command = read_command(link.expanded)
         """What the words ask for; the link's own has more in it by now."""
         self.files = client.files.CURRENT
+        self.files.refuses = True
         self.count = 0
         """The links that were made."""
         self._objects: dict[int, list[int]] = {}
@@ -77,7 +78,10 @@ class Calls:
         for _ in range(TRIES):
             texts: list[tuple[int, bytes]] = []
             with contextlib.redirect_stdout(Said(1, texts)), contextlib.redirect_stderr(Said(2, texts)):
-                status = self._guarded(words)
+                try:
+                    status = self._guarded(words)
+                except client.files.Private as fault:
+                    raise ByItself(f"{fault}: only the call itself can read it") from None
             if status not in (0, 1):
                 raise ByItself(f"status {status}")
             if self.files.is_provable() and self.files.changed() == []:
@@ -122,6 +126,7 @@ class Calls:
         objects, is_alike = list(link.objects), True
         for path in changed:
             before = self.files.seen[path]
+            self.files.look(path)
             try:
                 after = client.files.again(path, before)
             except OSError:

@@ -6,13 +6,14 @@ import sys
 from collections.abc import Sequence
 
 import client.server.later  # noqa: F401  # before what imports dataclasses
+from client.atomic_file import remove_left
 from client.ld.inputs import Object
 from client.ld.link import Opened, Streamed
 from client.ld.main import Link, main, say
 from client.protocol import Options
 from client.server.adapted import Adapted
 from client.server.checked import CheckedLayout
-from client.server.quick import Attempt
+from client.server.quick import Attempt, output_of
 from client.server.remembering import Remembering
 
 
@@ -56,8 +57,10 @@ def link_by_itself(attempt: Attempt) -> int:
         from client.server.status import run
 
         return run(words, attempt)
-    if attempt.why and "--verbose" in words:
-        say(f"the server did not link: {attempt.why}")
+    if attempt.why:
+        remove_left(output_of(words), attempt.is_gone)  # else a call that is held up puts it in place later
+        if "--verbose" in words:
+            say(f"the server did not link: {attempt.why}")
     against = hindrance(attempt)
     if against and attempt.is_wanted and "--verbose" in words:
         say(f"no server is left {against}; LDI_SERVER=1 allows one")

@@ -4,8 +4,9 @@ from __future__ import annotations
 import os
 import stat
 from collections.abc import Mapping, Sequence
+from contextlib import suppress
 
-from client.atomic_file import MOST_NAMES, Parts, beside, remove, umask, write_all
+from client.atomic_file import Parts, beside, make, remove, umask, write_all
 from client.ld.fallback import NONE, VARIABLE, Reasons
 from client.ld.inputs import Object
 from client.ld.link import Opened
@@ -51,7 +52,11 @@ class ServerHost(Remembering):
         """The session is there, and gets what is other."""
 
     def write(self, path: str, data: bytes | Parts, mode: int) -> None:
-        """Writes a new file beside its place. It is closed before it is put there: who starts it finds no writer."""
+        """Writes a new file beside its place. It is closed before it is put there: who starts it finds no writer.
+
+        It is in a folder of its own: when it is dropped, others who may write beside it cannot give a call that is held
+        up something in its place.
+        """
         target = os.path.realpath(path)
         try:
             is_regular = stat.S_ISREG(os.stat(target).st_mode)
@@ -59,24 +64,20 @@ class ServerHost(Remembering):
             is_regular = not path.endswith("/")
         if not is_regular:
             raise ByItself(f"{path} is no regular file")
-        descriptor = self._open(target)
+        name = os.path.join(beside(target), "new")
+        os.mkdir(os.path.dirname(name), 0o700)
+        self.places.append((name, target))
+        descriptor = make(name)
         try:
             write_all(descriptor, data)
             os.fchmod(descriptor, mode & ~umask())
         finally:
             os.close(descriptor)
 
-    def _open(self, target: str) -> int:
-        for number in range(MOST_NAMES):
-            name = beside(target, number)
-            if any(name == other for other, _ in self.places):
-                continue
-            self.places.append((name, target))
-            return os.open(name, os.O_WRONLY | os.O_CREAT | os.O_TRUNC | os.O_NOFOLLOW | os.O_CLOEXEC, 0o600)
-        raise ByItself("too many files are written")
-
     def drop(self) -> None:
         """Removes what is beside its place: new files that were not put there, or old ones."""
         for name, _ in self.places:
             remove(name)
+            with suppress(OSError):
+                os.rmdir(os.path.dirname(name))
         self.places = []

@@ -76,13 +76,13 @@ class Attempt:
         """Finds the server's name: by output, folder, programs and environment."""
         folder = runtime_folder(self.environment)
         try:
-            here = os.getcwd()
+            here = [os.getcwd(), *standing()]
         except OSError:
             return
         mask = [self.environment.get(name, "") for name in VARIABLES]
         files = [word for word in self.words if word.startswith("@")]
-        parts = [os.path.realpath(output_of(self.words)), here, program_of(self.environment), __file__, _mark(__file__),
-                 *files, *mask]
+        parts = [os.path.realpath(output_of(self.words)), *here, program_of(self.environment), __file__,
+                 _mark(__file__), *files, *mask]
         self.key = "\0".join(parts)
         digest = _blake2.blake2b(self.key.encode(errors="surrogateescape"), digest_size=16).hexdigest()
         if folder is not None and len(folder) < 64:
@@ -98,9 +98,13 @@ class Attempt:
             os.umask(mask)
             send(socket, b"L", marshal.dumps((self.key, self.words, mask)))
             status, places, texts = marshal.loads(answer(socket, limit))
+            socket.settimeout(0)
             for beside, target in places:
+                if has_ended(socket):  # it holds this link no longer
+                    raise Declined("the server has ended", is_gone=True)
                 put(beside, target)
-            socket.send(b"P")
+            if not has_ended(socket):
+                socket.send(b"P")
         except OSError as fault:
             raise Declined(str(fault.strerror or fault), isinstance(fault, (ConnectionError, TimeoutError))) from None
         finally:
@@ -130,6 +134,21 @@ def program_of(environment: Mapping[str, str]) -> str:
             if mark:
                 return path + mark
     return environment.get("LDI", "")
+
+
+def standing() -> list[str]:
+    """What names go by, besides the text of the working folder: the mounts, that folder and the root, each with the
+    mount by which it is reached. OSError where that is not known."""
+    found = [os.readlink("/proc/self/ns/mnt")]
+    for name in (".", "/"):
+        folder = os.open(name, os.O_PATH | os.O_CLOEXEC)
+        try:
+            status = os.fstat(folder)
+            with open(f"/proc/self/fdinfo/{folder}", "rb") as file:
+                found.append(f"{status.st_dev} {status.st_ino} {file.read().decode()}")
+        finally:
+            os.close(folder)
+    return found
 
 
 def _mark(path: str) -> str:
@@ -196,12 +215,27 @@ def _bytes(socket: _socket.socket, count: int) -> bytes:
     return b"".join(parts)
 
 
+def has_ended(socket: _socket.socket) -> bool:
+    """Whether the other end has closed; it says nothing more before."""
+    try:
+        return not socket.recv(1)
+    except BlockingIOError:
+        return False
+
+
 def put(beside: str, target: str) -> None:
     """Puts a new file in place: the names are exchanged where there is a file already, which is quicker on ext4."""
     from client.exchange import exchange
 
-    if not exchange(beside, target):
-        os.rename(beside, target)
+    path, name = os.path.split(beside)
+    folder = os.open(path, os.O_PATH | os.O_DIRECTORY | os.O_NOFOLLOW | os.O_CLOEXEC)
+    try:
+        if os.fstat(folder).st_uid != os.getuid():
+            raise Declined(f"{path} is another user's")
+        if not exchange(name, target, folder):
+            os.rename(name, target, src_dir_fd=folder)
+    finally:
+        os.close(folder)
 
 
 def show(texts: list[tuple[int, bytes]], status: int) -> int:

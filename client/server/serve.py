@@ -33,6 +33,9 @@ BEAT = 0.03
 LONGEST_PLACING = 10.0
 """Seconds that a call has to put its files in place."""
 
+LONGEST_REST = 5.0
+"""Seconds in which neither a link's thread nor its session has worked, after which it is given up, and the server."""
+
 PAGE = os.sysconf("SC_PAGESIZE")
 
 CLIENT = os.path.dirname(os.path.dirname(os.path.abspath(__file__)))
@@ -49,6 +52,10 @@ class Job:
         self.words, self.mask = words, mask
         self.outcome: Outcome | str | None = None
         self.placing_until = 0.0
+        self.thread = threading.Thread(daemon=True)
+        self.work: object = None
+        self.worked = time.monotonic()
+        """What the processor had done for it when that was last another number."""
 
 
 class Server:
@@ -66,6 +73,8 @@ class Server:
         self.idle = seconds_of(attempt.environment.get("LDI_SERVER_IDLE"), IDLE)
         self.memory = memory_limit(attempt.environment.get("LDI_SERVER_MEMORY"))
         self.last_call = time.monotonic()
+        self.held = 0
+        """The bytes that it held when it last looked at all servers together."""
         self.ends = ""
         """Why it ends, where it does."""
         self.wake, self._waker = os.pipe()
@@ -81,6 +90,7 @@ class Server:
         gc.freeze()
         self.listener.setblocking(False)
         try:
+            self._share()
             while not self.ends:
                 self._turn()
         finally:
@@ -138,6 +148,8 @@ class Server:
             send(connection, DONE, marshal.dumps(self._status()))
         elif kind == b"L":
             key, words, mask = marshal.loads(text)
+            if self.job is not None and self.job.placing_until:
+                self._finish(self.job)  # what is not in place by now never is: that call links by itself
             if self.job is not None:
                 send(connection, REFUSED, b"it is busy with another call")
             elif key != self.key or self.versions != self._versions():
@@ -145,8 +157,9 @@ class Server:
                 self.ends = "another version" if key == self.key else self.ends
             else:
                 send(connection, WORKING)
-                self.job = Job(connection, words, mask)
-                threading.Thread(target=self._work, args=(self.job,), daemon=True).start()
+                self.job = job = Job(connection, words, mask)
+                job.thread = threading.Thread(target=self._work, args=(job,), daemon=True)
+                job.thread.start()
                 return True
         return False
 
@@ -171,6 +184,8 @@ class Server:
                 self._finish(job)
             return
         outcome = job.outcome
+        if outcome is None and self._rests(job, now):
+            outcome, self.ends = "its link does not go on", "a link that does not go on"
         try:
             if outcome is None:
                 send(job.connection, WORKING)
@@ -184,13 +199,21 @@ class Server:
             if outcome is not None:
                 self._finish(job)  # the call has ended; as long as its link is made, that goes on
 
+    def _rests(self, job: Job, now: float) -> bool:
+        """Whether nothing has worked on a link for long, as where its session was stopped."""
+        work = [worked(f"self/task/{job.thread.native_id}"), worked(self.calls.host.kept.process())]
+        if work != job.work:
+            job.work, job.worked = work, now
+        return now - job.worked > LONGEST_REST
+
     def _finish(self, job: Job) -> None:
-        job.connection.close()
         self.calls.host.drop()
+        job.connection.close()
         self.job = None
         self.last_call = time.monotonic()
         if self._memory() > self.memory:
             self.ends = "memory"
+        self._share()
         gc.collect()
 
     # whether it is wanted
@@ -203,6 +226,25 @@ class Server:
             self.ends = "its place is gone"
         elif self._versions() != self.versions:
             self.ends = "another version"
+
+    def _share(self) -> None:
+        """Has the oldest servers end where all hold too much together; looks again when it holds an eighth more."""
+        held = self._memory()
+        if held > self.held + (self.held >> 3):
+            self.held = held
+            threading.Thread(target=self._end_oldest, args=(self.memory - held,), daemon=True).start()
+
+    def _end_oldest(self, left: int) -> None:
+        """Leaves so much to the other servers."""
+        from client.server.status import ask, sockets
+
+        others = [path for path in sockets(os.path.dirname(self.path)) if path != self.path]
+        said = [(found["idle"], found["memory"], path) for path in others
+                if not isinstance(found := ask(path, b"S"), str) and not found["busy"]]
+        for _, memory, path in sorted(said):
+            left -= int(str(memory))
+            if left < 0:
+                ask(path, b"Q")
 
     @staticmethod
     def _identity(path: str) -> tuple[int, int] | None:
@@ -270,6 +312,15 @@ def memory_limit(text: str | None) -> int:
         if number.isdigit():
             return int(number) << unit
     return os.sysconf("SC_PHYS_PAGES") * PAGE // 4
+
+
+def worked(task: object) -> list[bytes]:
+    """How long a thread or a process has run, for itself and in the system."""
+    try:
+        with open(f"/proc/{task}/stat", "rb") as file:
+            return file.read().rpartition(b")")[2].split()[11:13]
+    except OSError:
+        return []
 
 
 def resident(process: int) -> int:

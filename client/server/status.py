@@ -2,6 +2,7 @@
 from __future__ import annotations
 
 import _socket  # without what `socket` imports
+import fcntl
 import marshal
 import os
 import sys
@@ -19,21 +20,20 @@ def run(words: list[str], attempt: Attempt) -> int:
     folder = runtime_folder(attempt.environment)
     stops = "--server-stop" in words
     wanted = os.path.realpath(output_of(words)) if any(word.startswith(("-o", "--output")) for word in words) else None
-    for path in _sockets(folder):
-        said = _ask(path, b"S")
-        if isinstance(said, dict) and wanted in (None, said["output"]):
-            said = _ask(path, b"Q") if stops else said
-        elif not isinstance(said, dict):
-            print(f"ld.ldi: {path}: no answer: {said}", file=sys.stderr)
-            continue
-        else:
-            continue
-        if isinstance(said, dict):
-            print(_line(said, stops))
+    for path in sockets(folder):
+        said = ask(path, b"S")
+        if isinstance(said, str):
+            if said:
+                print(f"ld.ldi: {path}: no answer: {said}", file=sys.stderr)
+        elif wanted in (None, said["output"]):
+            said = ask(path, b"Q") if stops else said
+            if isinstance(said, dict):
+                print(_line(said, stops))
     return 0
 
 
-def _sockets(folder: str | None) -> list[str]:
+def sockets(folder: str | None) -> list[str]:
+    """The sockets of this user's servers, also of some that have ended."""
     if folder is None:
         return []
     return [os.path.join(folder, name) for name in sorted(os.listdir(folder))
@@ -46,15 +46,35 @@ def _line(said: dict[str, object], stops: bool) -> str:
             f"{int(str(said['memory'])) / 1e6:.0f} MB, {state}")
 
 
-def _ask(path: str, kind: bytes) -> object:
-    """What a server says of itself; why it does not."""
+def ask(path: str, kind: bytes, limit: float = LIMIT) -> dict[str, object] | str:
+    """What a server says of itself; or why it does not, and nothing where there is none: its socket is removed."""
     socket = _socket.socket(_socket.AF_UNIX, _socket.SOCK_STREAM | _socket.SOCK_CLOEXEC)
-    socket.settimeout(LIMIT)
+    socket.settimeout(limit)
     try:
         connect(socket, path)
         send(socket, kind)
-        return marshal.loads(answer(socket, LIMIT))
+        said = marshal.loads(answer(socket, limit))
+        return said if isinstance(said, dict) else str(said)
+    except ConnectionRefusedError:
+        _remove_left(path, socket)
+        return ""
+    except FileNotFoundError:
+        return ""
     except (OSError, Declined, ValueError, EOFError, TypeError) as fault:
         return str(fault)
     finally:
         socket.close()
+
+
+def _remove_left(path: str, socket: _socket.socket) -> None:
+    """Removes a socket at which nobody listens, nor is about to."""
+    lock = os.open(os.path.dirname(path), os.O_RDONLY | os.O_DIRECTORY | os.O_CLOEXEC)
+    try:
+        fcntl.flock(lock, fcntl.LOCK_EX)
+        socket.connect(path)
+    except ConnectionRefusedError:
+        os.unlink(path)
+    except OSError:
+        pass
+    finally:
+        os.close(lock)

@@ -51,14 +51,19 @@ class ServerTest(LinkTest):
 
     def _clear(self) -> None:
         """Ends what was started; a server that does not end by itself is one that is left."""
-        for pid in self.started | set(self.servers()):
+        for pid in filter(self._is_own, self.started | set(self.servers())):
             for number in (signal.SIGCONT, signal.SIGTERM):
                 signal_to(pid, number)
-        self.wait(lambda: not any(map(is_running, self.started)), "a server is left")
+        self.wait(lambda: not any(map(self._is_own, self.started)), "a server is left")
+
+    def _is_own(self, pid: int) -> bool:
+        """Whether a process is one of this test, and not another one that has its number now."""
+        return is_running(pid) and has_variable(pid, "XDG_RUNTIME_DIR", str(self.run_folder))
 
     def env(self, **more: str) -> dict[str, str]:
         """The environment of a call with a server."""
-        return {"XDG_RUNTIME_DIR": str(self.run_folder), "LDI_SERVER": "1", "LDI_SERVER_ANSWER": ANSWER, **more}
+        return {"XDG_RUNTIME_DIR": str(self.run_folder), "LDI_FALLBACK": "none", "LDI_SERVER": "1",
+                "LDI_SERVER_ANSWER": ANSWER, **more}
 
     def call(self, *words: str, env: Mapping[str, str] | None = None) -> Done:
         """Runs `ld.ldi` with a server."""
@@ -175,6 +180,14 @@ def signal_to(pid: int, number: signal.Signals) -> None:
         os.kill(pid, number)
     except ProcessLookupError:
         pass
+
+
+def has_variable(pid: int, name: str, value: str) -> bool:
+    """Whether a process was started with a variable of this value."""
+    try:
+        return f"{name}={value}".encode() in Path(f"/proc/{pid}/environ").read_bytes().split(b"\0")
+    except OSError:
+        return False
 
 
 def is_running(pid: int) -> bool:

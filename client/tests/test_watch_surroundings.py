@@ -115,7 +115,7 @@ class OtherHandsTest(FolderTest):
         watching.wait()
         left = f".image.{watching.process.pid}.0.new"
         (self.folder / left).write_bytes(b"half")
-        used = beside(str(self.folder / "image"), 7)
+        used = beside(str(self.folder / "image"))
         with open(used, "wb"):
             self.opened()
         self.assertTrue(wait_until(lambda: self.folder.left_over() == [os.path.basename(used)]))

@@ -101,9 +101,27 @@ class Folder:
         """The files that are half written images."""
         return [name for name in os.listdir(self.path) if name.endswith(".new")]
 
+    def replace(self) -> None:
+        """Puts a copy of the folder in its place."""
+        old, new = (self.path.with_name(f"{self.path.name}.{what}") for what in ("old", "new"))
+        shutil.copytree(self.path, new, copy_function=copied)
+        os.rename(self.path, old)
+        os.rename(new, self.path)
+        shutil.rmtree(old)
+
     def remove(self) -> None:
         """Removes the folder."""
         shutil.rmtree(self.path, ignore_errors=True)
+
+
+def copied(source: str, target: str) -> None:
+    """Copies a file with its times, or makes a FIFO; hidden files are left out."""
+    if os.path.basename(source).startswith("."):
+        return
+    if Path(source).is_fifo():
+        os.mkfifo(target)
+    else:
+        shutil.copy2(source, target)
 
 
 def default_signals() -> None:
