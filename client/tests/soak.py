@@ -3,13 +3,16 @@
     python3 -m client.tests.soak [ROUNDS [LIMIT [SEED]]]
 
 In each round three writers, processes of their own, rewrite the objects of a small project: in place, by a rename, half
-and then whole, bad ones among them. Each text that they write has a version of its own, which stands in the object's
+and then whole, bad ones and FIFOs among them. Between rounds the folder may be replaced by a copy, and in them the
+session be stopped for a while. Where this runs as root another user puts FIFOs and links under the names beside the
+image. Each text that they write has a version of its own, which stands in the object's
 section `.numbers`, so that an image says itself which texts it was made of. Each writer notes from when to when a text
 may have been on disk whole: from before its first byte could be seen there to after its last one could. Judged is:
 
 - each image that was read is, byte for byte, `ldi link`'s of the texts that it names;
 - these texts were on disk together: the latest beginning is before the earliest end, and before the image was read;
-- after the writers rest, the image is `ldi link`'s of what is there, within LIMIT seconds (1).
+- after the writers rest, the image is `ldi link`'s of what is there, within LIMIT seconds (1);
+- the image is this user's, and what the other user's links lead to stays as it was.
 
 Prints the figures and ends with 0 where all of it holds. Beside the time of an image that is late stands for how long
 the processes could run, and waited for a processor.
@@ -19,12 +22,16 @@ from __future__ import annotations
 import multiprocessing
 import os
 import random
+import signal
 import sys
+import threading
 import time
 from dataclasses import dataclass, field
 from multiprocessing.connection import Connection
 from pathlib import Path
 
+from client.tests.intruder import Intruder
+from client.tests.serving import signal_to
 from client.tests.watching import Folder, Watching, numbered, versions_in
 
 COUNT = 6
@@ -70,14 +77,19 @@ class Writer:
         self.version += 1
         data = numbered(number, self.version, COUNT)
         begins = time.monotonic()
-        self.chance.choice((self._by_rename, self._in_place, self._in_halves, self._half_closed))(number, data)
+        if self._path(number).is_fifo():
+            self._by_rename(number, data)
+        else:
+            self.chance.choice((self._by_rename, self._in_place, self._in_halves, self._half_closed))(number, data)
         self._dead(number, time.monotonic())
         self.born[number] = (self.version, begins)
 
     def _bad(self, number: int) -> None:
         data = numbered(number, 0, COUNT)
         data = self.chance.choice((b"", b"no object", data[: self.chance.randrange(len(data))], b"\0" * 700))
-        self.chance.choice((self._by_rename, self._in_place, self._gone))(number, data)
+        if self._path(number).is_fifo():
+            self._gone(number, data)
+        self.chance.choice((self._by_rename, self._in_place, self._gone, self._fifo))(number, data)
         self._dead(number, time.monotonic())
 
     def _dead(self, number: int, now: float) -> None:
@@ -116,6 +128,10 @@ class Writer:
     def _gone(self, number: int, data: bytes) -> None:
         self._path(number).unlink(missing_ok=True)
 
+    def _fifo(self, number: int, data: bytes) -> None:
+        self._gone(number, data)
+        os.mkfifo(self._path(number))
+
     def _pause(self) -> None:
         time.sleep(self.chance.choice((0.0, self.pace * self.chance.random(), self.pace)))
 
@@ -144,7 +160,10 @@ class Reader:
 
     def look(self) -> None:
         """Opens the image once."""
-        data = self.image.read_bytes()
+        try:
+            data = self.image.read_bytes()
+        except FileNotFoundError:  # as the folder is replaced
+            return
         self.opened += 1
         if data != self.last:
             self.last, self.since = data, time.monotonic()
@@ -221,8 +240,13 @@ class Soak:
     """Of each round, after how many seconds of rest the reader saw the image of the files for good."""
     wrong: list[str] = field(default_factory=list)
 
+    replaced: int = 0
+    stopped: int = 0
+
     def run(self, rounds: int) -> None:
         """So many rounds."""
+        self.chance = random.Random(self.seed)
+        self.intruder = Intruder(self.folder.path) if os.getuid() == 0 else None
         watching = Watching(self.folder)
         processes, ends = [], []
         self.waits = Waits(watching)
@@ -234,8 +258,17 @@ class Soak:
                 processes[-1].start()
                 ends.append(end)
             for number in range(rounds):
+                if self.chance.random() < 0.03:
+                    self._replace(watching)
+                stops = self._stop(watching) if self.chance.random() < 0.05 else None
                 self._round(number, ends[:-1], ends[-1])
+                if stops is not None:
+                    stops.join()
+                if self.intruder is not None:
+                    self.wrong += [f"round {number}: {line}" for line in self.intruder.found(self.folder / "image")]
         finally:
+            if self.intruder is not None:
+                self.intruder.end()
             for end in ends:
                 end.send(False)
             for process in processes:
@@ -243,6 +276,31 @@ class Soak:
                 process.kill()
             if watching.end() != 0 or watching.errors:
                 self.wrong.append(f"ldi-watch ended badly: {watching.errors}")
+
+    def _replace(self, watching: Watching) -> None:
+        """Puts a copy of the folder in its place, and waits until the watch has said so."""
+        self.replaced += 1
+        if self.intruder is not None:
+            self.intruder.rest()
+        self.folder.replace()
+        while "another folder" not in str(watching.next()):
+            pass
+        if self.intruder is not None:
+            self.intruder.watch(self.folder.path)
+
+    def _stop(self, watching: Watching) -> threading.Thread:
+        """Stops the session for a while."""
+        self.stopped += 1
+        session, waits = watching.session(), [self.chance.random() * 0.3 for _ in range(2)]
+
+        def stop() -> None:
+            for number, wait in zip((signal.SIGSTOP, signal.SIGCONT), waits):
+                time.sleep(wait)
+                signal_to(session, number)
+
+        thread = threading.Thread(target=stop)
+        thread.start()
+        return thread
 
     def _process(self, number: int, orders: Connection) -> multiprocessing.Process:
         """A writer, or after them the reader."""
@@ -330,7 +388,8 @@ def main(words: list[str]) -> int:
     started = time.monotonic()
     done = soak(rounds, limit, int(words[2]) if len(words) > 2 else 1)
     print(f"{rounds} rounds in {time.monotonic() - started:.0f} s: the image was opened {done.opened} times, "
-          f"{done.images} images were judged")
+          f"{done.images} images were judged; the folder was replaced {done.replaced} times, the session stopped "
+          f"{done.stopped} times")
     times = sorted(done.times)
     if times:
         print(f"at rest it was that of the files after {times[len(times) // 2]:.3f} s at the median, "
