@@ -9,7 +9,7 @@ mod script_inputs;
 mod tests;
 mod undefined;
 
-pub use archive::{Archive, ArchiveSymbol, BadArchive, Member, MemberIndex};
+pub use archive::{normalized, Archive, ArchiveSymbol, BadArchive, Member, MemberIndex};
 pub use names::{NameState, Names};
 pub use script_inputs::{ScriptInput, ScriptInputs};
 

@@ -1,12 +1,11 @@
 //! What the words ask for beside a link: version, help, formats, and with `--verbose` the script.
 
 use std::io::Write;
-use std::process::{Command as Process, Stdio};
 
 use bstr::ByteSlice;
 
 use crate::command::{help, Ask, Command};
-use crate::plan::{find_program, Environment, Scripts};
+use crate::plan::{own_version, Environment, Scripts};
 
 /// The release of GNU ld whose command line this is; the last word of the version, which builds ask for.
 const FOLLOWS: &str = "2.40";
@@ -47,10 +46,5 @@ fn write(
 
 /// `GNU ld (ldi VERSION) RELEASE`.
 pub(super) fn version(environment: &Environment) -> String {
-    let done = Process::new(find_program("ldi", environment)).arg("--version").stdin(Stdio::null()).output();
-    let own = done.ok().filter(|done| done.status.success()).and_then(|done| {
-        let last = done.stdout.fields().last()?;
-        Some(last.to_str_lossy().into_owned())
-    });
-    format!("GNU ld (ldi {}) {FOLLOWS}", own.as_deref().unwrap_or("unknown"))
+    format!("GNU ld (ldi {}) {FOLLOWS}", own_version(environment))
 }

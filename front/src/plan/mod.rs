@@ -20,7 +20,7 @@ use crate::mirror::{self, Held};
 use crate::objects::{Object, ObjectIndex};
 use crate::residual::{residual, Request, Residual};
 use crate::snapshot::Snapshot;
-pub use programs::{find_program, is_own, others, Environment, WITHIN};
+pub use programs::{find_program, is_own, others, own_version, Environment, WITHIN};
 pub use scripts::{Scripts, ScriptsFault};
 pub use settings::settings_of;
 

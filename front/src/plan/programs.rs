@@ -4,6 +4,9 @@ use std::collections::HashMap;
 use std::ffi::{OsStr, OsString};
 use std::os::unix::fs::PermissionsExt;
 use std::path::{Path, PathBuf};
+use std::process::{Command as Process, Stdio};
+
+use bstr::ByteSlice;
 
 /// Set for a linker that `ld.ldi` starts to ask it something: a `ld.ldi` that has it asks no other. So also where a
 /// script on PATH, which cannot be told from a linker, leads back to `ld.ldi`.
@@ -29,6 +32,14 @@ pub fn find_program(name: &str, environment: &Environment) -> OsString {
     let crates = folder.join("..").join("..").join(name).join("out").join(name);
     let found = [folder.join(name), crates].into_iter().find(|path| is_program(path));
     found.map_or_else(|| name.into(), PathBuf::into_os_string)
+}
+
+/// The version of `ldi`, which is that of the programs around it: the last word of `ldi --version`, or `unknown`.
+pub fn own_version(environment: &Environment) -> String {
+    let done = Process::new(find_program("ldi", environment)).arg("--version").stdin(Stdio::null()).output();
+    let own = done.ok().filter(|done| done.status.success());
+    let last = own.as_ref().and_then(|done| done.stdout.fields().last());
+    last.map_or_else(|| "unknown".to_owned(), |word| word.to_str_lossy().into_owned())
 }
 
 /// Whether a program is `ld.ldi`, also by a symbolic link of another name.

@@ -1,0 +1,125 @@
+//! A script of gdb from the map of a link: each object is loaded where its sections lie. gdb then has the object's source
+//! lines, static functions and types, which the image does not have.
+
+use std::fmt::Write as _;
+use std::os::unix::ffi::OsStrExt;
+use std::path::Path;
+
+use bstr::{BStr, BString, ByteSlice};
+
+use super::objects::{member_path, placed_objects, Objects, Placed};
+use crate::objects::{Elf, SectionFlags};
+use crate::report::link_map::LinkMap;
+use crate::snapshot::Bytes;
+
+/// Where sections are put that are not in the image: an address that no x86-64 has, so that gdb sets nothing there.
+const NOWHERE: u64 = 1 << 63;
+/// Each of them begins on a page of its own.
+const PAGE: u64 = 4096;
+/// A section that is put nowhere where it is not in the image: gdb would count its entries from there, and lose the callers
+/// of functions. Without it gdb finds them by the code of the functions.
+const UNWINDING: &str = ".eh_frame";
+
+/// A script, and what it leaves out.
+pub(super) struct Script {
+    pub(super) text: Vec<u8>,
+    pub(super) left_out: Vec<String>,
+}
+
+impl Script {
+    /// The script for a map. gdb cannot load members of archives from their archive: they are loaded from files in
+    /// `members`, or left out.
+    pub(super) fn of(map: &LinkMap, objects: &Objects<'_>, members: Option<&Path>) -> Script {
+        let head = "# by ldi-gdb: the objects of an image, each loaded where its sections lie\nset pagination off\n";
+        let mut script = Script { text: head.into(), left_out: Vec::new() };
+        for placed in placed_objects(map) {
+            let path = match (objects.is_member(placed.name), members) {
+                (true, None) => {
+                    script.leave_out(format!(
+                        "{}: a member of an archive; `ldi-gdb --members FOLDER` unpacks it",
+                        placed.name
+                    ));
+                    continue;
+                }
+                (true, Some(folder)) => member_path(placed.name, folder),
+                (false, _) => objects.path(placed.name),
+            };
+            match objects.read(placed.name) {
+                Ok(data) => script.load(path.as_os_str().as_bytes(), &placed, data),
+                Err(fault) => script.leave_out(format!("left out: {fault}")),
+            }
+        }
+        script
+    }
+
+    fn leave_out(&mut self, why: String) {
+        self.text.extend_from_slice(format!("# {why}\n").as_bytes());
+        self.left_out.push(why);
+    }
+
+    /// The command that loads an object's symbols where its sections lie.
+    fn load(&mut self, path: &[u8], placed: &Placed<'_>, data: Bytes) {
+        self.text.extend_from_slice(b"add-symbol-file ");
+        self.text.extend_from_slice(&quoted(path));
+        let inside = placed.pieces.iter().map(|piece| (piece.section.clone(), piece.address));
+        for (name, address) in inside.chain(left_out(placed, data)) {
+            self.text.extend_from_slice(b" -s ");
+            self.text.extend_from_slice(&quoted(&name));
+            let mut text = String::new();
+            let _ = write!(text, " {address:#x}");
+            self.text.extend_from_slice(text.as_bytes());
+        }
+        self.text.push(b'\n');
+    }
+}
+
+/// A word as gdb reads it: between quotes where it has other than plain bytes.
+fn quoted(word: &[u8]) -> Vec<u8> {
+    if !word.is_empty() && word.iter().all(|byte| byte.is_ascii_alphanumeric() || b"_./+@%:=,~-".contains(byte)) {
+        return word.to_vec();
+    }
+    let escaped = word.iter().flat_map(|byte| match byte {
+        b'"' | b'\\' => vec![b'\\', *byte],
+        _ => vec![*byte],
+    });
+    std::iter::once(b'"').chain(escaped).chain(std::iter::once(b'"')).collect()
+}
+
+/// The sections of an object that are not in the image, each at an address of its own where nothing is.
+fn left_out(placed: &Placed<'_>, data: Bytes) -> Vec<(BString, u64)> {
+    let elf = match Elf::parse(data) {
+        Ok(elf) => elf,
+        Err(_) => return Vec::new(),
+    };
+    let mut inside: Vec<(&BStr, u64)> = placed.pieces.iter().map(|it| (it.section.as_bstr(), it.size)).collect();
+    inside.sort_unstable();
+    let mut taken = vec![false; inside.len()];
+    let mut address = NOWHERE;
+    let mut result = Vec::new();
+    for section in elf.sections().filter(|section| section.flags.has(SectionFlags::ALLOC) && section.size > 0) {
+        let key = (section.name, section.size);
+        let first = inside.partition_point(|it| *it < key);
+        let same = inside.iter().skip(first).take_while(|it| **it == key).count();
+        let free = (first..first + same).find(|number| taken.get(*number) == Some(&false));
+        if let Some(slot) = free.and_then(|number| taken.get_mut(number)) {
+            *slot = true;
+        } else if section.name != UNWINDING {
+            result.push((section.name.to_owned(), address));
+            let pages = (section.size - 1) / PAGE + 1;
+            address = address.saturating_add(pages.saturating_mul(PAGE));
+        }
+    }
+    result
+}
+
+#[cfg(test)]
+mod tests {
+    use super::*;
+
+    #[test]
+    fn words_of_gdb() {
+        assert_eq!(quoted(b"/a/b-c.o"), b"/a/b-c.o");
+        assert_eq!(quoted(b"a b\"c"), b"\"a b\\\"c\"");
+        assert_eq!(quoted(b""), b"\"\"");
+    }
+}
