@@ -12,7 +12,8 @@ from pathlib import Path
 ROOT = Path(__file__).resolve().parents[2]
 LD_LDI = Path(os.environ.get("LD_LDI") or ROOT / "client" / "bin" / "ld.ldi")
 """The program that the tests of `ld.ldi` drive: $LD_LDI where it names another one."""
-LDI_GDB = ROOT / "client" / "bin" / "ldi-gdb"
+LDI_GDB = Path(os.environ.get("LDI_GDB") or ROOT / "client" / "bin" / "ldi-gdb")
+"""The same of `ldi-gdb`: $LDI_GDB."""
 EXAMPLE = ROOT / "examples" / "linux"
 FLAGS = ("-O2", "-ffreestanding", "-fno-pic", "-fno-stack-protector", "-ffunction-sections", "-fdata-sections")
 LIMIT = 120.0

@@ -8,7 +8,7 @@ from client.gdb.script import gdb_script
 from client.gdb.symbols import CannotAdd, with_local_names
 from client.object_file import ObjectFile
 from client.protocol import find_program
-from client.tests.linking import LDI_GDB, LinkTest, needs
+from client.tests.linking import LD_LDI, LDI_GDB, LinkTest, needs
 
 SPIN = """
 static volatile unsigned long total;
@@ -109,7 +109,7 @@ class GdbTest(ImageTest):
 
     def ld_path(self) -> str:
         """The path of `ld.ldi`."""
-        return str(LDI_GDB.with_name("ld.ldi"))
+        return str(LD_LDI)
 
     def test_lines(self) -> None:
         """An address as function, source line, object, section and offset."""
