@@ -166,13 +166,11 @@ impl Outline {
 
     fn assertion(&mut self, condition: &Expr, message: &Name, line: u32) {
         self.doubt(condition, line);
+        let mut seen: HashSet<&Name> = HashSet::new();
         let mut symbols: Vec<Name> = Vec::new();
-        condition.visit(&mut |expr| {
-            if let ExprKind::Symbol(name) = &expr.kind {
-                if !symbols.contains(name) {
-                    symbols.push(name.clone());
-                }
-            }
+        condition.visit(&mut |expr| match &expr.kind {
+            ExprKind::Symbol(name) if seen.insert(name) => symbols.push(name.clone()),
+            _ => {}
         });
         self.assertions.push(AssertText { line, message: message.clone(), symbols });
     }

@@ -1,7 +1,8 @@
 //! Messages for people.
 
 use std::fmt;
-use std::os::unix::io::AsRawFd;
+
+use rustix::fd::AsFd;
 
 use super::{Diagnostic, Severity};
 
@@ -20,7 +21,7 @@ pub enum Style {
 impl Style {
     /// The style for a stream that is open: in colour on a terminal that has colours, else one line each.
     #[must_use]
-    pub fn of(stream: &impl AsRawFd) -> Style {
+    pub fn of(stream: &impl AsFd) -> Style {
         if has_colours(stream) {
             Style::Coloured
         } else {
@@ -31,15 +32,10 @@ impl Style {
 
 /// Whether a stream is a terminal that has colours, and the environment forbids none (`NO_COLOR`, `TERM=dumb`).
 #[must_use]
-pub fn has_colours(stream: &impl AsRawFd) -> bool {
+pub fn has_colours(stream: &impl AsFd) -> bool {
     let is_allowed = std::env::var_os("NO_COLOR").map_or(true, |value| value.is_empty());
     let has_term = std::env::var_os("TERM").map_or(false, |term| !term.is_empty() && term != "dumb");
-    is_allowed && has_term && is_terminal(stream)
-}
-
-fn is_terminal(stream: &impl AsRawFd) -> bool {
-    let path = format!("/proc/self/fd/{}", stream.as_raw_fd());
-    std::fs::File::options().write(true).open(path).map_or(false, |file| rustix::termios::isatty(&file))
+    is_allowed && has_term && rustix::termios::isatty(stream)
 }
 
 /// How long the text of a line is at most where it stands in a message.
