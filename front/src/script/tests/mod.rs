@@ -4,6 +4,7 @@ mod constructs;
 mod places;
 mod random;
 mod refused;
+mod tokens;
 
 use std::path::Path;
 
