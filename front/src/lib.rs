@@ -13,6 +13,23 @@
 #![deny(unsafe_code)]
 #![warn(missing_docs)]
 
+/// Prints a line on standard error. Those of the standard library panic where it cannot be written, as on a full disk or
+/// where its reader has gone away.
+macro_rules! eprintln {
+    ($($words:tt)*) => {{
+        use std::io::Write;
+        let _ = writeln!(std::io::stderr(), $($words)*);
+    }};
+}
+
+/// Prints a line on standard output, in the same way.
+macro_rules! println {
+    ($($words:tt)*) => {{
+        use std::io::Write;
+        let _ = writeln!(std::io::stdout(), $($words)*);
+    }};
+}
+
 pub mod checker;
 pub mod command;
 pub mod finish;

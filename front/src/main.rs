@@ -1,6 +1,7 @@
 //! One program under four names: by `argv[0]`, or as `ldi-front NAME ..`.
 
 use std::ffi::{OsStr, OsString};
+use std::io::Write;
 use std::path::Path;
 use std::process::ExitCode;
 
@@ -22,7 +23,8 @@ fn main() -> ExitCode {
     match by_own_name.or_else(by_first_word) {
         Some((program, first)) => ExitCode::from(program(words.get(first..).unwrap_or_default())),
         None => {
-            eprintln!("usage: ldi-front ld.ldi|ldi-watch|ldi-adapt|ldi-gdb ARGUMENTS..");
+            let usage = "usage: ldi-front ld.ldi|ldi-watch|ldi-adapt|ldi-gdb ARGUMENTS..";
+            let _ = writeln!(std::io::stderr(), "{usage}");
             ExitCode::from(2)
         }
     }

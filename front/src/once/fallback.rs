@@ -51,6 +51,11 @@ impl<'a> Reasons<'a> {
     }
 }
 
+/// From now on no other linker is to link (`--no-fallback`).
+pub(super) fn forbid(environment: &mut Environment) {
+    environment.insert(VARIABLE.into(), NONE.into());
+}
+
 /// Why LDI_FALLBACK names no linker.
 #[derive(Debug, PartialEq, Eq, thiserror::Error)]
 enum BadFallback {

@@ -13,7 +13,7 @@ use std::os::unix::ffi::OsStrExt;
 
 use bstr::BString;
 
-use crate::command::{expand_words, read_command, Ask};
+use crate::command::{expand_words, read_command, Ask, Command};
 use crate::inputs::InputFault;
 use crate::plan::{Environment, PlanFault, Scripts, ScriptsFault};
 use crate::snapshot::Snapshot;
@@ -45,7 +45,14 @@ pub fn main(words: &[OsString]) -> u8 {
 fn run(words: &[OsString], environment: &Environment) -> Result<Status, LinkFault> {
     let own: Vec<BString> = words.iter().map(|word| BString::from(word.as_bytes())).collect();
     let expanded = expand_words(&own);
-    let command = match read_command(&expanded.words) {
+    let read = read_command(&expanded.words);
+    let is_forbidden = |command: &Command| command.is_without_fallback;
+    let mut own_environment = environment.clone();
+    if read.as_ref().map_or_else(|_| expanded.words.iter().any(|word| word == "--no-fallback"), is_forbidden) {
+        fallback::forbid(&mut own_environment);
+    }
+    let environment = &own_environment;
+    let command = match read {
         Ok(command) => command,
         Err(fault) => {
             let is_verbose = words.iter().any(|word| word == "--verbose");
