@@ -50,9 +50,16 @@ def prepare(one: Case) -> None:
 
 
 def by_ldi(words: list[str]) -> tuple[int, str]:
-    """The status of `ld.ldi`, and what it says."""
+    """The status of `ld.ldi`, and what it says; $LD_LDI names another program than that of this process."""
     said = io.StringIO()
     os.environ["LDI_FALLBACK"] = "none"  # another linker would link in place of this process
+    other = os.environ.get("LD_LDI")
+    if other:
+        done = subprocess.run([other, *words], capture_output=True, text=True, errors="replace", timeout=LIMIT,
+                              check=False, env={**os.environ, "LDI_SERVER": "0"})
+        if done.returncode < 0 or done.returncode > 4:
+            raise RuntimeError(f"status {done.returncode}: {done.stderr}")
+        return done.returncode, done.stdout + done.stderr
     kept = {number: signal.getsignal(number) for number in (signal.SIGTERM, signal.SIGHUP, signal.SIGINT)}
     try:
         with contextlib.redirect_stderr(said), contextlib.redirect_stdout(said):
