@@ -33,6 +33,8 @@ pub(super) struct Body<'a> {
     pub(super) has_bytes: bool,
     /// The symbol of its start, and whether it is written.
     start_symbol: Option<(Name, bool)>,
+    /// Whether input sections are not where GNU ld has them, as SUBALIGN says less than their alignments.
+    is_off: bool,
     /// The offset after the opening brace.
     open: u32,
     /// The fill that the profile has for all gaps.
@@ -48,6 +50,7 @@ impl<'a> Body<'a> {
             at: 0,
             has_bytes: false,
             start_symbol: None,
+            is_off: false,
             open: section.body.span.start + 1,
             fill: Vec::new(),
         }
@@ -75,7 +78,7 @@ impl<'a> Walk<'a> {
         self.rest(body, close);
         self.bounds(body, close);
         if let Some(place) = body.place {
-            if place.size > body.at && !place.is_gone {
+            if place.size > body.at && !place.is_gone && !body.is_off {
                 self.gap_to(body, place.size, None, close);
             }
         }
@@ -172,7 +175,7 @@ impl<'a> Walk<'a> {
     /// Lets `.` be what GNU ld has before a statement that uses it.
     fn sync_inside(&mut self, span: Span, body: &mut Body<'a>, is_needed: bool) {
         let wanted = match self.evaluated(span) {
-            Some(statement) if is_needed => statement.dot.wrapping_sub(body.start),
+            Some(statement) if is_needed && !body.is_off => statement.dot.wrapping_sub(body.start),
             _ => return,
         };
         if wanted > body.at && wanted < 1 << 48 {
@@ -192,7 +195,8 @@ impl<'a> Walk<'a> {
         let fill = gap.and_then(|gap| gap.fill.as_deref()).unwrap_or_default();
         body.at = to;
         self.result.has_moving_values = true;
-        match needs_bytes(fill, &body.fill, size) {
+        let has_bits = body.place.map_or(false, Placed::has_bytes);
+        match needs_bytes(fill, &body.fill, size) && has_bits {
             true if size <= GREATEST_GAP => {
                 body.has_bytes = true;
                 data_of(&filled(fill, size))
@@ -212,6 +216,17 @@ impl<'a> Walk<'a> {
             None => return,
         };
         let places: Vec<_> = sections.iter().filter_map(|id| evaluation.section(*id)).collect();
+        if places.iter().any(|one| one.offset % one.own_align.max(1) != 0) && !body.is_off {
+            body.is_off = true;
+            let why = "SUBALIGN: input sections have their own alignments, which are more";
+            self.note(NoteKind::Changed, span.start, format!("{}: {why}", body.name));
+        }
+        if body.is_off {
+            let last = places.last().map_or(body.at, |one| one.offset.wrapping_add(one.size));
+            body.at = last;
+            body.has_bytes |= places.iter().any(|one| one.size > 0 && has_bytes(one));
+            return;
+        }
         let mut end = body.at;
         let mut is_regular = true;
         for (index, one) in places.iter().enumerate() {
@@ -387,10 +402,11 @@ impl<'a> Walk<'a> {
             _ => (None, None),
         };
         self.sync_inside(span, body, true);
-        let to = after.map(|after| after.wrapping_sub(body.start));
+        let to = after.filter(|_| !body.is_off).map(|after| after.wrapping_sub(body.start));
         if let (Some(to), Some(gap)) = (to, gap) {
             let fill = gap.fill.as_deref().unwrap_or_default();
-            if needs_bytes(fill, &body.fill, gap.size) && gap.size <= GREATEST_GAP {
+            let has_bits = body.place.map_or(false, Placed::has_bytes);
+            if needs_bytes(fill, &body.fill, gap.size) && has_bits && gap.size <= GREATEST_GAP {
                 let text = self.gap_text(body, to, Some(gap));
                 return self.edits.replace(self.text, span, text);
             }

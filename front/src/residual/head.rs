@@ -10,10 +10,10 @@ use super::profile::is_name;
 use super::rules::Reasons;
 use super::top::whole_value;
 use super::walk::{At, Done, Memory, Settled, Walk};
-use crate::layout::evaluation::{InputSection, Placed};
+use crate::layout::evaluation::{InputSection, Placed, StatementKind};
 use crate::layout::Flags;
 use crate::script::tree::{
-    BinaryOperator, Expr, ExprKind, Fill, Function, Name, OutputSection, Query, SectionStatement, SectionType, Span,
+    Assignment, BinaryOperator, Expr, ExprKind, Fill, Function, Name, OutputSection, Query, SectionStatement, SectionType, Span,
 };
 
 /// The page of which no load address is asked more: up to here an alignment of the head says it.
@@ -111,7 +111,10 @@ impl<'a> Walk<'a> {
         }
         for statement in &section.body.node {
             match &statement.node {
-                SectionStatement::Input(_) if is_discarded => {}
+                SectionStatement::Input(node) if is_discarded => self.discarded(node, statement.span),
+                SectionStatement::Assign(assignment) if assignment.target.node != "." && is_discarded => {
+                    self.hoist_assignment(assignment, statement.span, span.start);
+                }
                 SectionStatement::Assign(assignment) if assignment.target.node != "." && !is_discarded => {
                     let e = whole_value(assignment);
                     if uses_dot(&e)
@@ -458,6 +461,29 @@ impl<'a> Walk<'a> {
 
     // --- /DISCARD/ ---
 
+    /// An assignment before the section that it stands in, as that has no place.
+    fn hoist_assignment(&mut self, assignment: &Assignment, span: Span, before: u32) {
+        self.edits.blank(self.text, span);
+        let name = &assignment.target.node;
+        let version = match self.versions.of_statement(name, span.start) {
+            Some((version, _)) if version.counts || self.request.evaluation.is_none() => version.clone(),
+            _ => return,
+        };
+        let needed = match self.evaluated(span).map(|statement| &statement.kind) {
+            Some(StatementKind::Assign { value, .. }) => value.map(|value| value.address),
+            _ => None,
+        };
+        let at = At { at: span.start, is_assert: false, dot: Some(self.dot) };
+        let settled = self.settle(&whole_value(assignment), at, needed, &mut |_, _| Vec::new());
+        let text = format!("{} = {}; ", version.emitted, self.written(&settled.e));
+        self.edits.insert(before, 10, text);
+        self.take(&settled.reasons);
+        if let Some(value) = needed.or_else(|| self.value_of(&settled.e, at)) {
+            self.symbols.insert(version.emitted, value);
+        }
+        self.note(NoteKind::Rewritten, span.start, "stands before /DISCARD/");
+    }
+
     fn discard(&mut self, section: &'a OutputSection, span: Span) {
         let end = section.body.span.start + 1;
         if self.squeezed(span.start, end) != b"/DISCARD/:{" {
@@ -467,13 +493,7 @@ impl<'a> Walk<'a> {
             match &statement.node {
                 SectionStatement::Input(node) => self.discarded(node, statement.span),
                 SectionStatement::Assign(assignment) if assignment.target.node != "." => {
-                    let at = At { at: statement.span.start, is_assert: false, dot: Some(self.dot) };
-                    let e = whole_value(assignment);
-                    let settled = self.settle_by_itself(&e, at);
-                    let text = format!("{} = {}; ", assignment.target.node, self.written(&settled.e));
-                    self.edits.insert(span.start, 10, text);
-                    self.edits.blank(self.text, statement.span);
-                    self.note(NoteKind::Rewritten, statement.span.start, "stands before /DISCARD/");
+                    self.hoist_assignment(assignment, statement.span, span.start);
                 }
                 SectionStatement::Assert(_) => {
                     let text = format!("{} ", self.slice(statement.span));

@@ -4,7 +4,7 @@ use bstr::ByteSlice;
 
 use super::head::is_linked;
 use super::note::NoteKind;
-use super::profile::{is_word, matches, word_of};
+use super::profile::{is_word, matches, word_of, word_of_name};
 use super::walk::Walk;
 use crate::layout::evaluation::StatementKind;
 use crate::layout::ids::SectionId;
@@ -34,6 +34,8 @@ struct Form {
     said: Vec<String>,
     /// Whether it may take something else, or in another order, than the statement of GNU ld's.
     is_in_doubt: bool,
+    /// Whether that is so for some names alone, which are looked at where they are known.
+    is_of_names: bool,
 }
 
 impl Form {
@@ -127,7 +129,7 @@ impl<'a> Walk<'a> {
         }
         let form = form_of(node, false, self.has_members());
         let is_in_doubt = form.is_in_doubt || self.has_doubtful_file(node);
-        if is_in_doubt && self.request.evaluation.is_some() {
+        if (is_in_doubt || form.is_of_names) && self.request.evaluation.is_some() {
             if !self.takes_the_same(&form, span, sections) {
                 let what = self.quoted(span);
                 self.note(NoteKind::Rewritten, span.start, format!("{what}: what it takes, one by one"));
@@ -154,12 +156,31 @@ impl<'a> Walk<'a> {
         if is_plain(node) && !node.is_kept {
             return;
         }
+        let what = self.quoted(span);
+        if !node.section_flags.is_empty() {
+            if let Some(StatementKind::Input { sections, .. }) = self.evaluated(span).map(|one| &one.kind) {
+                let text = self.named(sections);
+                self.edits.replace(self.text, span, text);
+                return self.note(NoteKind::Rewritten, span.start, format!("{what}: what it takes, one by one"));
+            }
+        }
         let form = form_of(node, true, self.has_members());
         let text = form.text(false);
-        let what = self.quoted(span);
         self.edits.replace(self.text, span, text.clone());
         let why = if form.said.is_empty() { format!("as {text}") } else { form.said.join("; ") };
         self.note(NoteKind::Rewritten, span.start, format!("{what}: {why}"));
+    }
+
+    /// Statements that take these input sections, each by its names.
+    fn named(&self, sections: &[SectionId]) -> String {
+        let one = |id: &SectionId| {
+            let evaluation = self.request.evaluation?;
+            let section = evaluation.section(*id).filter(|section| is_linked(section))?;
+            let object = self.request.objects.get(section.object.0 as usize)?;
+            let (object, name) = (word_of_name(object)?, word_of_name(evaluation.section_name(section))?);
+            Some(format!("{}({})", object.to_str_lossy(), name.to_str_lossy()))
+        };
+        sections.iter().filter_map(one).collect::<Vec<_>>().join(" ")
     }
 
     /// Whether a pattern of files may mean members of archives, whose names in the session are `lib.a(member.o)`.
@@ -372,6 +393,7 @@ fn sort_of(pattern: &Pattern, form: &mut Form) -> Option<ProfileSort> {
                 let is_fine = pattern.glob.starts_with(b".init_array.") || pattern.glob.starts_with(b".fini_array.");
                 form.say("by name, as priorities have five digits");
                 form.is_in_doubt |= !is_fine;
+                form.is_of_names = true;
                 found.push(ProfileSort::ByName);
             }
             Sort::None => form.say("SORT_NONE is no sort"),

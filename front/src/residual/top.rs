@@ -355,7 +355,7 @@ impl<'a> Walk<'a> {
             || is_taken
             || !settled.reasons.missing.is_empty()
             || settled.reasons.is_numeric
-            || self.symbols.contains_key(name)
+            || !self.idle_names.insert(name.clone())
             || !is_name(name);
         if cannot_stay {
             let what = self.quoted(span);
@@ -363,14 +363,11 @@ impl<'a> Walk<'a> {
             return self.edits.blank(self.text, span);
         }
         self.put_symbol(assignment, name, &mut settled, span, true, true);
-        // A second one of the name would be one too many.
-        self.symbols.insert(name.clone(), 0);
         let why = settled.reasons.said.join("; ");
         if !why.is_empty() {
             let what = self.quoted(span);
             self.note(NoteKind::Rewritten, span.start, format!("{what} {why}"));
         }
-        self.symbols.remove(name);
     }
 
     /// Writes an assignment of a symbol over that of the text, as little as is another.

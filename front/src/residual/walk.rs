@@ -80,6 +80,8 @@ pub(super) struct Walk<'a> {
     pub(super) foreign: BTreeMap<Name, u64>,
     /// The statements with the input sections that they take, by their order; made when it is asked for.
     pub(super) takers: Option<Vec<u32>>,
+    /// The names of PROVIDEs without effect that stay: a second one of a name would be one too many.
+    pub(super) idle_names: HashSet<Name>,
     /// The input sections that got KEEP.
     pub(super) kept_by_name: Vec<SectionId>,
     pub(super) result: Residual,
@@ -116,6 +118,7 @@ impl<'a> Walk<'a> {
             section_names: HashSet::new(),
             foreign: BTreeMap::new(),
             takers: None,
+            idle_names: HashSet::new(),
             kept_by_name: Vec::new(),
             result: Residual::default(),
         }
