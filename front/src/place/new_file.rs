@@ -2,11 +2,12 @@
 
 use super::beside::new_name;
 use super::writing::write_all;
-use rustix::fs::{cwd, flock, FlockOperation, Mode, OFlags, RenameFlags};
+use rustix::fs::{cwd, flock, linkat, AtFlags, FlockOperation, Mode, OFlags, RenameFlags};
 use std::fs::{self, File, OpenOptions};
 use std::io;
 use std::os::unix::ffi::OsStrExt;
 use std::os::unix::fs::{MetadataExt, OpenOptionsExt, PermissionsExt};
+use std::os::unix::io::AsRawFd;
 use std::path::{Path, PathBuf};
 
 /// The names that are tried: each is random, so that a second one is hardly ever needed.
@@ -23,11 +24,13 @@ pub enum Opened {
     InPlace(PathBuf),
 }
 
-/// A file beside its place, which it has not taken yet. It is removed when it is dropped.
+/// A file beside its place, which it has not taken yet. It is removed when it is dropped. Where the file system can, it
+/// has no name until it is whole (O_TMPFILE), so that a process that is killed leaves nothing.
 #[derive(Debug)]
 pub struct NewFile {
     target: PathBuf,
     beside: PathBuf,
+    is_named: bool,
     file: Option<File>,
     /// Has a lock that tells [`super::remove_left`] that the file is in use.
     reader: File,
@@ -58,7 +61,39 @@ impl NewFile {
         Ok(Opened::Beside(new))
     }
 
+    /// Makes it without a name; `None` where the file system cannot, or `/proc` is not there.
+    fn nameless(target: &Path, mode: Mode) -> Option<NewFile> {
+        let folder = target.parent().filter(|folder| !folder.as_os_str().is_empty()).unwrap_or_else(|| Path::new("."));
+        let mut options = OpenOptions::new();
+        options.write(true).mode(mode.bits()).custom_flags(OFlags::TMPFILE.bits() as i32);
+        let file = options.open(folder).ok()?;
+        let reader = File::open(path_of(&file)).ok()?;
+        flock(&reader, FlockOperation::NonBlockingLockShared).ok(); // a file system may have no locks
+        let (target, beside) = (target.to_owned(), new_name(target).ok()?);
+        Some(NewFile { target, beside, is_named: false, file: Some(file), reader, is_in_place: false })
+    }
+
+    /// Gives it its name beside its place, where it has none yet.
+    fn name(&mut self) -> io::Result<()> {
+        for _ in 0..MOST_NAMES {
+            if self.is_named {
+                return Ok(());
+            }
+            match linkat(cwd(), path_of(&self.reader), cwd(), &self.beside, AtFlags::SYMLINK_FOLLOW) {
+                Err(rustix::io::Errno::EXIST) => self.beside = new_name(&self.target)?,
+                linked => {
+                    linked?;
+                    self.is_named = true;
+                }
+            }
+        }
+        Ok(())
+    }
+
     fn make(target: PathBuf, mode: Mode) -> io::Result<NewFile> {
+        if let Some(new) = NewFile::nameless(&target, mode) {
+            return Ok(new);
+        }
         for _ in 0..MOST_NAMES {
             let beside = new_name(&target)?;
             let mut options = OpenOptions::new();
@@ -75,7 +110,8 @@ impl NewFile {
                     return Err(fault);
                 }
             };
-            let new = NewFile { target: target.clone(), beside, file: Some(file), reader, is_in_place: false };
+            let target = target.clone();
+            let new = NewFile { target, beside, is_named: true, file: Some(file), reader, is_in_place: false };
             flock(&new.reader, FlockOperation::NonBlockingLockShared).ok(); // a file system may have no locks
             if new.reader.metadata()?.nlink() > 0 {
                 return Ok(new);
@@ -84,7 +120,7 @@ impl NewFile {
         Err(io::Error::from(io::ErrorKind::AlreadyExists))
     }
 
-    /// Its name, until it is in place.
+    /// The name that it has beside its place, or gets when it is whole.
     pub fn path(&self) -> &Path {
         &self.beside
     }
@@ -121,25 +157,35 @@ impl NewFile {
     /// It cannot be put there, and then nothing is left of it.
     pub fn commit(mut self) -> io::Result<Option<PathBuf>> {
         self.close();
+        self.name()?;
         let old = put_in_place(&self.beside, &self.target)?;
         self.is_in_place = true;
         Ok(old)
     }
 
     /// Leaves the whole file beside its place, for another process to put it there; gives its name.
-    pub fn leave(mut self) -> PathBuf {
+    ///
+    /// # Errors
+    /// It cannot be named, and then nothing is left of it.
+    pub fn leave(mut self) -> io::Result<PathBuf> {
         self.close();
+        self.name()?;
         self.is_in_place = true;
-        self.beside.clone()
+        Ok(self.beside.clone())
     }
 }
 
 impl Drop for NewFile {
     fn drop(&mut self) {
-        if !self.is_in_place {
+        if self.is_named && !self.is_in_place {
             fs::remove_file(&self.beside).ok();
         }
     }
+}
+
+/// The path of an open file, by its descriptor.
+fn path_of(file: &File) -> PathBuf {
+    PathBuf::from(format!("/proc/self/fd/{}", file.as_raw_fd()))
 }
 
 /// Opens a new file to read it, and makes sure that it is the one that was made.

@@ -244,3 +244,32 @@ fn a_runtime_folder_that_others_can_enter_is_passed_over() {
     assert_ne!(runtime_folder(Some(folder.0.as_os_str())), Some(folder.0.join("ldi")));
     assert_ne!(runtime_folder(Some("relative".as_ref())), Some(PathBuf::from("relative/ldi")));
 }
+
+#[test]
+fn a_file_that_is_not_whole_has_no_name_where_the_system_can() {
+    let folder = Folder::new("nameless");
+    let path = folder.0.join("image");
+    if let Opened::Beside(mut new) = NewFile::open(&path, TEXT, false).unwrap() {
+        new.write(&[b"half"]).unwrap();
+        let is_nameless = folder.names().is_empty();
+        assert!(is_nameless || new.path().exists());
+        new.write(&[b" and half"]).unwrap();
+        let beside = new.leave().unwrap();
+        assert_eq!(fs::read(&beside).unwrap(), b"half and half");
+        assert_eq!(put_in_place(&beside, &path).unwrap(), None);
+    }
+    assert_eq!(folder.names(), ["image"]);
+}
+
+#[test]
+fn what_cannot_be_named_leaves_nothing() {
+    let folder = Folder::new("gone");
+    let inside = folder.0.join("inside");
+    fs::create_dir(&inside).unwrap();
+    if let Opened::Beside(mut new) = NewFile::open(&inside.join("image"), TEXT, false).unwrap() {
+        new.write(&[b"x"]).unwrap();
+        fs::rename(&inside, folder.0.join("other")).unwrap();
+        assert!(new.commit().is_err());
+    }
+    assert_eq!(folder.names(), ["other"]);
+}
