@@ -88,9 +88,10 @@ fn read_call(words: &[&str]) -> Result<Call, Failure> {
             "-z" => match next()?.split_once('=') {
                 Some(("max-page-size", size)) => call.max_page = Some(number(size)?),
                 Some(("common-page-size", size)) => call.common_page = Some(number(size)?),
-                Some(_) => {}
-                None => {}
+                _ => {}
             },
+            "-zseparate-code" | "-znoseparate-code" => call.settings.separate_code = name == "-zseparate-code",
+            "-zrelro" | "-znorelro" => call.settings.relro = name == "-zrelro",
             "--check" => call.image = Some(next()?.to_owned()),
             "--time" => call.times = next()?.parse()?,
             "-o" => {

@@ -262,11 +262,23 @@ def with_overlay(one: Case, seed: int) -> Case:
     return one
 
 
+def with_options(one: Case, seed: int) -> Case:
+    """A case with options that a layout goes by."""
+    random = Random(seed)
+    address = hex(random.randrange(0x800000, 0x900000, random.choice([1, 0x10, 0x1000])))
+    section = random.choice([".text", ".data", ".bss", ".rodata", ".new", "cmds"])
+    one.before += random.choice([
+        ["--sort-section=name"], ["--sort-section=alignment"], [f"-Ttext={address}"], [f"-Tdata={address}"],
+        [f"-Tbss={address}"], [f"--section-start={section}={address}"], ["-n"], ["-N"], ["--orphan-handling=discard"],
+        ["-znoseparate-code"], ["-znorelro"], [f"-Ttext-segment={address}"]])
+    return one
+
+
 REST_OF = re.compile(r"^  \.[a-z0-9]+ .*\*\(\.text \.text\.\*\)")
 
 
 def main(words: list[str]) -> int:
-    """`fuzz-layout COUNT [SEED] [--gc-sections] [--commons] [--orphans] [--overlays] [-v]`"""
+    """`fuzz-layout COUNT [SEED] [--gc-sections] [--commons] [--orphans] [--overlays] [--options] [-v]`"""
     given, words = words, [word for word in words if not word.startswith("-")]
     count, first = int(words[0]) if words else 300, int(words[1]) if len(words) > 1 else 0
     folder = os.environ.get("FUZZ_FOLDER", "/tmp/fuzz-layout")
@@ -283,6 +295,8 @@ def main(words: list[str]) -> int:
         one.script = re.sub(r"^(  ASSERT.*\)); $", r"\1", one.script, flags=re.M)  # none there for GNU ld 2.40
         if "--orphans" in given:
             one = without_rest(one, seed)
+        if "--options" in given:
+            one = with_options(one, seed)
         if "--overlays" in given:
             one = with_overlay(one, seed)
         came, said = compare(program, one, [word for word in given if word in ("-N", "-n")])

@@ -162,6 +162,9 @@ fn output(program: &mut Program, node: &OutputSection, span: Span, address: Opti
     if let (Some(_), Some(region)) = (&node.load_address, &node.load_region) {
         return refused(RefusedReason::BothLoads(node.name.node.clone()), Some(region.span));
     }
+    if let (true, Some(align)) = (node.is_aligned_with_input, &node.align) {
+        return refused(RefusedReason::BothAligns(node.name.node.clone()), Some(align.span));
+    }
     let fill = fill_of(program, node.fill.as_ref())?;
     let has_address = own_address.is_some() || address.is_some();
     let (region, load_region) = {

@@ -136,7 +136,9 @@ impl Link<'_> {
                 Some(id) => id,
                 None => {
                     let id = self.program.output(&name, None);
-                    if let Some(statement) = self.output(id).map(|output| output.statement) {
+                    if let Some(output) = self.output_mut(id) {
+                        output.moves_region = false;
+                        let statement = output.statement;
                         self.program.top.push(statement);
                         self.program.order.push(id);
                     }

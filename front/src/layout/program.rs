@@ -151,6 +151,8 @@ pub(crate) struct Output {
     pub subalign: Option<ExprId>,
     pub load: Option<ExprId>,
     pub region: RegionId,
+    /// Whether the region goes on behind it: not where `--section-start` makes the section.
+    pub moves_region: bool,
     pub load_region: Option<RegionId>,
     pub fill: FillBytes,
     pub segments: Vec<Name>,
@@ -340,6 +342,7 @@ impl Program {
             subalign: None,
             load: None,
             region,
+            moves_region: true,
             load_region: None,
             fill: None,
             segments: Vec::new(),

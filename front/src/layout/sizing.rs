@@ -238,8 +238,8 @@ impl Link<'_> {
         }
         let (flags, address, load) = place;
         let (region, other, with_input) = match self.output(id) {
-            None => return Ok(dot),
-            Some(output) => (output.region, output.load_region, output.is_aligned_with_input),
+            Some(output) if output.moves_region => (output.region, output.load_region, output.is_aligned_with_input),
+            _ => return Ok(dot),
         };
         if flags.has(Flags::ALLOC | Flags::LOAD) {
             self.end_region(id, region, dot, address, checks)?;

@@ -79,6 +79,9 @@ pub enum RefusedReason {
     /// An output section has AT and AT>.
     #[error("{0} has both a load address and a load region")]
     BothLoads(Name),
+    /// An output section has ALIGN and ALIGN_WITH_INPUT.
+    #[error("{0} has both ALIGN and ALIGN_WITH_INPUT")]
+    BothAligns(Name),
     /// A statement of `/DISCARD/` that makes it an output section.
     #[error("/DISCARD/ has other statements")]
     Discard,
