@@ -107,8 +107,9 @@ impl<'a> Reader<'a> {
     #[must_use]
     pub fn finish(mut self) -> Reading {
         self.parser.lexer.abandon();
-        let Parser { lexer, .. } = self.parser;
-        Reading { script: self.script, source: lexer.source, warnings: lexer.warnings }
+        let lexer::Lexer { mut source, warnings, .. } = self.parser.lexer;
+        warnings.iter().for_each(|warning| source.blank(warning.span));
+        Reading { script: self.script, source, warnings }
     }
 
     fn read(

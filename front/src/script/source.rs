@@ -99,7 +99,7 @@ pub struct Source {
 }
 
 impl Source {
-    /// The whole text.
+    /// The whole text; what was passed over with a warning is spaces.
     #[must_use]
     pub fn text(&self) -> &[u8] {
         &self.text
@@ -167,6 +167,13 @@ impl Source {
     /// The length of the text.
     pub(super) fn end(&self) -> u32 {
         u32::try_from(self.text.len()).unwrap_or(u32::MAX)
+    }
+
+    /// Puts spaces in the place of what was passed over.
+    pub(super) fn blank(&mut self, span: Span) {
+        if let Some(part) = self.text.get_mut(span.start as usize..span.end as usize) {
+            part.fill(b' ');
+        }
     }
 
     /// Ends a line of the text, which no file has so.

@@ -80,6 +80,7 @@ fn characters_that_begin_nothing_are_passed_over_with_a_warning() {
     let warnings: Vec<String> = reading.warnings.iter().map(ToString::to_string).collect();
     let wanted = ["script:1: ignoring invalid character `@`", "script:1: ignoring invalid character `\\001`"];
     assert_eq!(warnings, wanted);
+    assert_eq!(reading.source.text(), b"x = 1;   y  = 2;", "the text has spaces there");
 }
 
 #[test]
