@@ -16,6 +16,7 @@ use super::unwinding::{unwinding_of, Unwinding};
 use crate::objects::{Binding, Home, Object, ObjectIndex, Rank, SectionFlags, SectionIndex, SectionKind, SymbolIndex};
 use crate::script::tree::Name;
 use object::elf;
+use std::collections::HashSet;
 
 impl Link<'_> {
     /// Leaves out what nothing refers to.
@@ -113,7 +114,7 @@ impl<'a> Marked<'a> {
 
     /// `--gc-keep-exported` (elflink.c, `bfd_elf_gc_mark_dynamic_ref_symbol`).
     fn mark_exported(&mut self) {
-        let hidden: Vec<&[u8]> = self
+        let hidden: HashSet<&[u8]> = self
             .objects
             .iter()
             .flat_map(|object| object.globals())
@@ -123,7 +124,7 @@ impl<'a> Marked<'a> {
         let all: Vec<SectionId> = self
             .names
             .iter()
-            .filter(|(name, _)| !hidden.contains(name))
+            .filter(|(name, _)| !hidden.contains(*name))
             .filter_map(|(_, target)| match target {
                 Target::Section(section) => Some(*section),
                 Target::All(_) | Target::Nothing => None,

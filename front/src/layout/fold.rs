@@ -11,6 +11,11 @@ use super::stop::{not_evaluated, refused, NotEvaluatedReason, RefusedReason, Sto
 use super::symbols::SymbolKind;
 use crate::script::tree::{BinaryOperator, Name, Query, Span, UnaryOperator};
 
+/// How deep expressions are followed: one is at most `MAX_EXPR_DEPTH` deep, and LOADADDR asks for others.
+const DEEPEST: u32 = 1200;
+/// How often LOADADDR is followed in an AT that has LOADADDR again; a section may name itself.
+const DEEPEST_LOAD: u32 = 64;
+
 /// How far the link is (ldexp.h, `lang_phase_type`).
 #[derive(Clone, Copy, PartialEq, Eq, PartialOrd, Ord, Debug)]
 pub(crate) enum Phase {
@@ -93,10 +98,22 @@ impl Link<'_> {
     pub fn fold(&mut self, e: ExprId, at: Base, dot: u64) -> Result<Folded, Stop> {
         self.at = at;
         self.dot = dot;
+        self.depth = 0;
+        self.load_depth = 0;
         self.fold_node(e)
     }
 
     fn fold_node(&mut self, e: ExprId) -> Result<Folded, Stop> {
+        if self.depth >= DEEPEST {
+            return not_evaluated(NotEvaluatedReason::Depth, self.span(e));
+        }
+        self.depth += 1;
+        let found = self.fold_inner(e);
+        self.depth -= 1;
+        found
+    }
+
+    fn fold_inner(&mut self, e: ExprId) -> Result<Folded, Stop> {
         let found = match self.program.expressions.node(e) {
             Node::Number(value) => {
                 let base = if self.counts_absolute() { Base::Absolute } else { Base::Number };
@@ -289,7 +306,13 @@ impl Link<'_> {
             Query::Loadaddr if output.has_load => match output.load {
                 None => Ok(Folded::of(place.map_or(0, |place| place.load), Base::Absolute)),
                 Some(load) => {
-                    let found = self.fold_node(load)?;
+                    if self.load_depth >= DEEPEST_LOAD {
+                        return not_evaluated(NotEvaluatedReason::Depth, self.span(e));
+                    }
+                    self.load_depth += 1;
+                    let found = self.fold_node(load);
+                    self.load_depth -= 1;
+                    let found = found?;
                     Ok(if found.is_valid { self.absolute(found) } else { found })
                 }
             },

@@ -22,6 +22,9 @@ pub(crate) struct Link<'a> {
     /// The output section around the expression that is evaluated, and the location counter.
     pub at: Base,
     pub dot: u64,
+    /// How deep the expression is, and how many LOADADDR are followed.
+    pub depth: u32,
+    pub load_depth: u32,
     pub segment: DataSegment,
     /// Whether an assignment to `.` is evaluated.
     pub to_dot: bool,
@@ -49,6 +52,8 @@ impl<'a> Link<'a> {
             pass: 1,
             at: Base::Absolute,
             dot: 0,
+            depth: 0,
+            load_depth: 0,
             segment: DataSegment::default(),
             to_dot: false,
             assigned: None,

@@ -530,6 +530,14 @@ fn values_of_expressions_are_kept() {
 }
 
 #[test]
+fn a_load_address_that_asks_for_itself_ends() {
+    let script = "SECTIONS { .a : AT(LOADADDR(.b)) { *(.text) } .b : AT(LOADADDR(.a)) { *(.data) } x = LOADADDR(.a); }";
+    assert!(laid_with(script, &[plain()], &Settings::default()).is_err());
+    let deep = format!("x = {}1{};", "(~".repeat(80), ")".repeat(80));
+    assert!(laid_with(&deep, &[], &Settings::default()).is_ok());
+}
+
+#[test]
 fn nothing_at_all_is_laid_out() {
     assert_eq!(names(&laid("", &[])), Vec::<String>::new());
     let broken = Object::new("x".into(), Origin::of_file(Path::new("x")), b"\x7fELF\x02\x01".to_vec().into());
