@@ -1,7 +1,7 @@
 //! What a file is to become.
 
 use super::beside::new_name;
-use super::writing::write_all;
+use super::writing::{take_length_as_error, write_all};
 use rustix::fs::{cwd, flock, linkat, AtFlags, FlockOperation, Mode, OFlags, RenameFlags};
 use std::fs::{self, File, OpenOptions};
 use std::io;
@@ -47,6 +47,7 @@ impl NewFile {
         if path.as_os_str().as_bytes().ends_with(b"/") {
             return Err(io::Error::from_raw_os_error(libc::EISDIR));
         }
+        take_length_as_error();
         let target = resolved(path)?;
         let found = match fs::metadata(&target) {
             Ok(found) if !found.is_file() => return Ok(Opened::InPlace(target)),

@@ -2,13 +2,25 @@
 
 use super::Reader;
 use rustix::fs::OFlags;
+use signal_hook::consts::SIGXFSZ;
 use std::fs::{File, OpenOptions};
 use std::io::{self, IoSlice, Write};
 use std::os::unix::fs::OpenOptionsExt;
 use std::path::Path;
+use std::sync::atomic::AtomicBool;
+use std::sync::{Arc, Once};
 
 /// The pieces that are written at once; the system takes 1,024.
 const MOST_PIECES: usize = 1000;
+
+/// From now on a file that is longer than this process may write (RLIMIT_FSIZE) is an error, and not a signal that ends it.
+pub(super) fn take_length_as_error() {
+    static TAKEN: Once = Once::new();
+    TAKEN.call_once(|| {
+        // where it cannot be done, the signal ends the process, which leaves the old file
+        let _ = signal_hook::flag::register(SIGXFSZ, Arc::new(AtomicBool::new(false)));
+    });
+}
 
 /// Writes all bytes of the pieces, one after the other.
 ///

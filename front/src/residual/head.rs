@@ -13,7 +13,8 @@ use super::walk::{At, Done, Memory, Settled, Walk};
 use crate::layout::evaluation::{InputSection, Placed, StatementKind};
 use crate::layout::Flags;
 use crate::script::tree::{
-    Assignment, BinaryOperator, Expr, ExprKind, Fill, Function, Name, OutputSection, Query, SectionStatement, SectionType, Span,
+    Assignment, BinaryOperator, Expr, ExprKind, Fill, Function, Name, OutputSection, Query, SectionStatement,
+    SectionType, Span,
 };
 
 /// The page of which no load address is asked more: up to here an alignment of the head says it.
