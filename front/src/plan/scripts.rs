@@ -30,9 +30,6 @@ pub enum ScriptsFault {
     /// A script cannot be read.
     #[error("{0}")]
     Missing(String),
-    /// A `--defsym` is no assignment.
-    #[error("--defsym {0}: no NAME=EXPRESSION")]
-    Defsym(String),
 }
 
 /// The scripts of a link as they were read.
@@ -146,7 +143,7 @@ fn put_defsyms(
 ) -> Result<(), ScriptsFault> {
     for defsym in command.defsyms.iter().filter(|defsym| is_wanted(defsym)) {
         let text = [defsym.name.as_bytes(), b"=", &defsym.value].concat();
-        reader.defsym(&text).map_err(|_| ScriptsFault::Defsym(text.to_str_lossy().into_owned()))?;
+        reader.defsym(&text).map_err(ScriptsFault::NoScript)?;
     }
     Ok(())
 }
