@@ -128,6 +128,8 @@ def read_whole(
 
     Raises Written where somebody writes it, unless its device and inode are `asked`; by default that is not asked.
     """
+    if not stat.S_ISREG(os.stat(path).st_mode):
+        raise NotRegular("it is no regular file")  # opening it may do something
     descriptor = os.open(path, os.O_RDONLY | os.O_NONBLOCK | os.O_CLOEXEC)
     try:
         status = os.fstat(descriptor)

@@ -7,6 +7,7 @@ import signal
 import subprocess
 import threading
 import time
+from pathlib import Path
 
 from client.tests.outside.programs import LDI_WATCH, WORDS, ProjectTest, end
 
@@ -68,6 +69,24 @@ class PlaceTest(WatchTest):
         self.put("p/b.o", 7)
         self.wait(lambda: self.number() == 7, "it does not go on in the folder")
         self.assertFalse(any("another folder" in line for line in self.said))
+
+
+class FifoTest(WatchTest):
+    """An input that becomes a FIFO."""
+
+    def test_object(self) -> None:
+        """It is not opened, the image stays, and the object that comes later is linked."""
+        self.watch()
+        self.wait(lambda: self.number() == 1, "there is no image")
+        path = self.folder / "p" / "b.o"
+        path.unlink()
+        os.mkfifo(path)
+        writer = self.begin("sh", "-c", "exec sleep 100 > b.o")
+        time.sleep(2.5)
+        self.assertEqual(Path(f"/proc/{writer.pid}/comm").read_text(encoding="utf-8"), "sh\n", "the FIFO was opened")
+        self.assertEqual(self.number(), 1)
+        self.put("p/b.o", 2)
+        self.wait(lambda: self.number() == 2, "the object is not linked")
 
 
 class SignalTest(WatchTest):
