@@ -123,7 +123,7 @@ impl<'a> Walk<'a> {
     /// Writes an input statement of an output section; gives whether what is written takes what GNU ld's takes, in its
     /// order, as far as that is known.
     pub(super) fn input(&mut self, node: &'a InputStatement, span: Span, sections: &[SectionId]) -> bool {
-        let is_plain = is_plain(node);
+        let is_plain = is_plain(node) && !self.has_renamed_file(node);
         if is_plain && !self.has_doubtful_file(node) {
             return true;
         }
@@ -181,6 +181,13 @@ impl<'a> Walk<'a> {
             Some(format!("{}({})", object.to_str_lossy(), name.to_str_lossy()))
         };
         sections.iter().filter_map(one).collect::<Vec<_>>().join(" ")
+    }
+
+    /// Whether the file has another name than in the text, as it was found in another folder.
+    fn has_renamed_file(&self, node: &InputStatement) -> bool {
+        node.file.as_ref().map_or(false, |file| {
+            self.squeezed(file.span.start, file.span.end) != super::walk::squeezed(&file.node.glob)
+        })
     }
 
     /// Whether a pattern of files may mean members of archives, whose names in the session are `lib.a(member.o)`.
