@@ -1,6 +1,6 @@
 -- All rows, one after another.
 use Rattle.std.proofs.Common.{◌≡◌, ◌∙◌, sym, refl, ap, subst, ℕ, ◌+◌, ◌-◌, ◌<◌, ◌≤◌, zero, suc, List, [], ◌∷◌, ◌++◌}
-use Rattle.std.proofs.Common.{length, map, flat_map, take, drop, Option, Some, Bool, true, false, ◌&&◌, bytes_eq}
+use Rattle.std.proofs.Common.{length, map, flat_map, take, drop, Some, Bool, true, false, ◌&&◌, bytes_eq}
 use Rattle.std.proofs.Common.{arith, eq-eqb, slice_get}
 use Rattle.std.specs.List.{AllZip}
 use Rattle.std.specs.Option.{option_map}
@@ -27,8 +27,6 @@ use Rattle.place.proofs.Lists.{each_at, find_at}
 use Rattle.ldmodel_laws.proofs.EachOf.{zip_more}
 use Rattle.emit.proofs.Lists.{get_left, take_next}
 use Rattle.emit.proofs.Running.{drop_drop}
-use Rattle.emit.specs.Known.{Known}
-use Rattle.emit.specs.Moved.{IsCanvas}
 use Rattle.emit.specs.Output.{IsJoinedRow}
 use Rattle.emit.specs.Pieces.{AreRowsAt, AreSources, IsRowAt, IsSized}
 use Rattle.ldmodel_laws.proofs.EachOf.{later_of_map}
@@ -83,24 +81,21 @@ all_found s rows placed differ =
 
 -- ---- row by row
 
-module _ (p : Project) (stays : SectionKey → Bool) (origin : SectionKey → Option ℕ) (indexed_layout : IndexedLayout)
-    (r : Relocated) (rows : List (List Piece)) (starts : List ℕ) where
-  abbrev known_on : Option (Option (List ℕ)) → Known
-  known_on canvas = record { stays = stays; canvas = canvas }
-
+module _ (p : Project) (stays : SectionKey → Bool) (indexed_layout : IndexedLayout) (r : Relocated)
+    (rows : List (List Piece))
+    (starts : List ℕ) where
   -- the rows before a number are drawn, and the others begin at the addresses that are left
   pub record RowsSoFar (k at : ℕ) (ys : List (List ImagePiece)) : Type 0 where
     pub within : at ≤ length starts
-    pub drawn : (l : KnownLink) (canvas : Option (Option (List ℕ))) → l.project ≡ p
-        → AreSources l stays indexed_layout r → AreRowsAt p l.layout rows starts → IsCanvas origin l canvas
-        → AllZip (IsJoinedRow l.project l.layout (known_on canvas)) (take k l.layout.sections) ys
+    pub drawn : (l : KnownLink) → l.project ≡ p → AreSources l stays indexed_layout r → AreRowsAt p l.layout rows starts
+        → AllZip (IsJoinedRow l.project l.layout stays) (take k l.layout.sections) ys
     pub rest : (l : KnownLink) → AreRowsAt p l.layout rows starts
         → drop at starts ≡ flat_map starts_of (drop k l.layout.sections)
 
   pub no_rows : RowsSoFar 0 0 []
   no_rows = record {
     within = omega arith;
-    drawn = λ l canvas same sources h on. tt;
+    drawn = λ l same sources h. tt;
     rest = λ l h. h.begun;
   }
 
@@ -186,19 +181,20 @@ module _ (p : Project) (stays : SectionKey → Bool) (origin : SectionKey → Op
   pub one_row : (k at step : ℕ) (row : List Piece) (y : List ImagePiece) (old new : List (List ImagePiece))
       → slice_get rows k ≡ Some row → k < length rows → step ≤ length starts - at
       → (length row ≤ length starts - at → step ≡ length row)
-      → ((l : KnownLink) (q : PlacedOutput) (canvas : Option (Option (List ℕ))) → l.project ≡ p
-      → AreSources l stays indexed_layout r → IsRowAt p l.layout row (drop at starts) q → IsCanvas origin l canvas
-      → IsJoinedRow l.project l.layout (known_on canvas) q y) → new ≡ old ++ y ∷ []
+      → ((l : KnownLink) (q : PlacedOutput) → l.project ≡ p → AreSources l stays indexed_layout r
+      → IsRowAt p l.layout row (drop at starts) q → IsJoinedRow l.project l.layout stays q y) → new ≡ old ++ y ∷ []
       → RowsSoFar k at old → RowsSoFar (k + 1) (at + step) new
   one_row k at step row y old new e below few all make pushed so_far = record {
     within = omega (arith, few, so_far.within);
-    drawn = λ l canvas same sources h on.
+    drawn = λ l same sources h.
         let q = placed_at l k at row old e below h so_far in
-        let R = IsJoinedRow l.project l.layout (known_on canvas) in
-        subst (λ qs. AllZip R qs new) (sym (take_next l.layout.sections k q.section q.here))
-        (subst (λ zs. AllZip R (take k l.layout.sections ++ q.section ∷ []) zs) (sym pushed)
-        (zip_more R (take k l.layout.sections) old q.section y (so_far.drawn l canvas same sources h on)
-        (make l q.section canvas same sources (row_at l k at row h q) on)));
+        subst (λ qs. AllZip (IsJoinedRow l.project l.layout stays) qs new)
+        (sym (take_next l.layout.sections k q.section q.here))
+        (subst (λ zs. AllZip (IsJoinedRow l.project l.layout stays) (take k l.layout.sections ++ q.section ∷ []) zs)
+        (sym pushed)
+        (zip_more (IsJoinedRow l.project l.layout stays) (take k l.layout.sections) old q.section y
+        (so_far.drawn l same sources h)
+        (make l q.section same sources (row_at l k at row h q))));
     rest = λ l h.
         let q = placed_at l k at row old e below h so_far in
         let long : length (starts_of q.section) ≡ length row =
@@ -209,13 +205,12 @@ module _ (p : Project) (stays : SectionKey → Bool) (origin : SectionKey → Op
         ∙ drop_at (starts_of q.section) (flat_map starts_of (drop (k + 1) l.layout.sections)) (length row) long;
   }
 
-  pub all_rows : (l : KnownLink) (canvas : Option (Option (List ℕ))) (k at : ℕ) (ys : List (List ImagePiece))
-      → length rows ≤ k → l.project ≡ p → AreSources l stays indexed_layout r → AreRowsAt p l.layout rows starts
-      → IsCanvas origin l canvas → RowsSoFar k at ys
-      → AllZip (IsJoinedRow l.project l.layout (known_on canvas)) l.layout.sections ys
-  all_rows l canvas k at ys past same sources h on so_far =
+  pub all_rows : (l : KnownLink) (k at : ℕ) (ys : List (List ImagePiece)) → length rows ≤ k → l.project ≡ p
+      → AreSources l stays indexed_layout r → AreRowsAt p l.layout rows starts → RowsSoFar k at ys
+      → AllZip (IsJoinedRow l.project l.layout stays) l.layout.sections ys
+  all_rows l k at ys past same sources h so_far =
       let many : length l.layout.sections ≡ length rows =
       sym (length-map l.layout.sections entries_in) ∙ ap length h.placed in
-      subst (λ qs. AllZip (IsJoinedRow l.project l.layout (known_on canvas)) qs ys)
+      subst (λ qs. AllZip (IsJoinedRow l.project l.layout stays) qs ys)
       (take_all k l.layout.sections (omega (arith, past, many)))
-      (so_far.drawn l canvas same sources h on)
+      (so_far.drawn l same sources h)

@@ -1,6 +1,6 @@
 -- Output sections of the members of lists.
 use Rattle.std.proofs.Common.{◌≡◌, ◌∙◌, sym, refl, ap, subst, ℕ, ◌+◌, ◌<◌, ◌≤◌, List, [], ◌∷◌, ◌++◌, length, map, take}
-use Rattle.std.proofs.Common.{filter, Bool, true, false, cond, not, ◌==◌, None, Option, Some, arith, get_or, slice_get}
+use Rattle.std.proofs.Common.{filter, Bool, true, false, cond, not, ◌==◌, Some, arith, get_or, slice_get}
 use Rattle.std.proofs.Common.{append-nil}
 use Rattle.std.specs.List.{AllZip}
 use Rattle.std.specs.Option.{option_map}
@@ -11,11 +11,9 @@ use Rattle.std.proofs.lemmas.Option.{same_Some, slice_get-map}
 use Rattle.std.proofs.lemmas.Slice.Zip.{AllZip-long}
 use Rattle.emit_image.specs.InMemory.{IsSectionFilled}
 use Rattle.emit_image.specs.Joined.{IsJoinedSection}
-use Rattle.emit_image.specs.Moves.{IsMovedFrom}
 use Rattle.emit_image.specs.OfLink.{IsImageSection}
 use Rattle.emit_image.specs.declared.section.ImagePiece.{ImagePiece}
 use Rattle.emit_image.specs.declared.section.ImageSection.{ImageSection}
-use Rattle.ldmodel.specs.Each.{Each}
 use Rattle.ldmodel_laws.specs.ImageBytes.{AreNamed}
 use Rattle.place.proofs.Walking.{in_file_are}
 use Rattle.place.specs.Offsets.{IsOffset}
@@ -26,12 +24,12 @@ use Rattle.ldmodel.specs.Project.{Project}
 use Rattle.ldmodel.specs.Segments.{SectionInFile, nonempty, segments}
 use Rattle.ldmodel.specs.declared.placed.Placed.{Placed}
 use Rattle.ldmodel.specs.declared.placed.PlacedData.{PlacedData}
+use Rattle.ldmodel.specs.declared.sections.SectionKey.{SectionKey}
 use Rattle.ldscript.specs.statements.Numbering.{OutputSectionAt}
 use Rattle.ldmodel_laws.proofs.EachOf.{zip_more}
 use Rattle.emit.proofs.Lists.{at_zip, next_zip}
 use Rattle.emit.specs.DataRuns.{AreDataOf}
 use Rattle.emit.specs.Joined.{AreJoined, IsAt}
-use Rattle.emit.specs.Known.{AreAllMovedIn, AreMovedIn, Known}
 use Rattle.emit.specs.Output.{AreDrawn, AreDrawnOf, IsDrawn, IsOutput, IsJoinedRow, IsSectionKept}
 use Rattle.emit.specs.Output.{in_file_at, with_bytes}
 use Rattle.emit.specs.declared.output.OutputDrawing.{OutputDrawing}
@@ -48,15 +46,15 @@ same_at f g xs ys k x y e at_x at_y =
     let right : slice_get (map g ys) k ≡ Some (g y) = slice_get-map g ys k ∙ ap (option_map g) at_y in
     same_Some _ _ (sym right ∙ ap (λ l. slice_get l k) (sym e) ∙ left)
 
-module _ (p : Project) (s : Layout) (known : Known) (places : List Placed) (os : List OutputSectionAt)
+module _ (p : Project) (s : Layout) (stays : SectionKey → Bool) (places : List Placed) (os : List OutputSectionAt)
     (offsets : List ℕ) (rows : List (List ImagePiece)) (runs : List (List PlacedData)) where
   -- the output section of a number
   pub record Joint (k : ℕ) (place : Placed) : Type 0 where
     pub member : PlacedOutput
     pub taken : take (k + 1) s.sections ≡ take k s.sections ++ member ∷ []
-    pub is : IsAt p s known member k place os offsets rows runs
+    pub is : IsAt p s stays member k place os offsets rows runs
 
-  pub joint : (k : ℕ) (place : Placed) → AreJoined p s known places os offsets rows runs → k < length places
+  pub joint : (k : ℕ) (place : Placed) → AreJoined p s stays places os offsets rows runs → k < length places
       → get_or places k place ≡ place → Joint k place
   joint k place h l e =
       let z : AllZip (λ q pl. pl ≡ placed_of q) s.sections places =
@@ -77,7 +75,7 @@ module _ (p : Project) (s : Layout) (known : Known) (places : List Placed) (os :
               h.fills
               next.at at;
           offset = λ n at. at_zip (IsOffset s) s.sections offsets k q n h.begun next.at at;
-          row = λ ys at. at_zip (IsJoinedRow p s known) s.sections rows k q ys h.pieces next.at at;
+          row = λ ys at. at_zip (IsJoinedRow p s stays) s.sections rows k q ys h.pieces next.at at;
           data_commands = λ ds at. at_zip AreDataOf s.sections runs k q ds h.data_commands next.at at;
         };
       }
@@ -89,7 +87,7 @@ module _ (p : Project) (s : Layout) (known : Known) (places : List Placed) (os :
     pub row : k < length rows
     pub run : k < length runs
 
-  pub reached : (k : ℕ) → AreJoined p s known places os offsets rows runs → k < length places → Reached k
+  pub reached : (k : ℕ) → AreJoined p s stays places os offsets rows runs → k < length places → Reached k
   reached k h l =
       let long : length s.sections ≡ length places = sym (length-map s.sections placed_of) ∙ ap length h.placed in
       let names : length s.sections ≡ length os =
@@ -98,29 +96,29 @@ module _ (p : Project) (s : Layout) (known : Known) (places : List Placed) (os :
       record {
         section = omega (arith, l, long, names);
         offset = omega (arith, l, long, AllZip-long (IsOffset s) s.sections offsets h.begun);
-        row = omega (arith, l, long, AllZip-long (IsJoinedRow p s known) s.sections rows h.pieces);
+        row = omega (arith, l, long, AllZip-long (IsJoinedRow p s stays) s.sections rows h.pieces);
         run = omega (arith, l, long, AllZip-long AreDataOf s.sections runs h.data_commands);
       }
 
   -- one output section more
   pub one_joined : (k : ℕ) (place : Placed) (x : OutputDrawing) (old new : List OutputDrawing)
-      → AreJoined p s known places os offsets rows runs → k < length places → get_or places k place ≡ place
-      → ((q : PlacedOutput) → IsAt p s known q k place os offsets rows runs → IsOutput p s known q x)
+      → AreJoined p s stays places os offsets rows runs → k < length places → get_or places k place ≡ place
+      → ((q : PlacedOutput) → IsAt p s stays q k place os offsets rows runs → IsOutput p s stays q x)
       → new ≡ old ++ x ∷ []
-      → AllZip (IsOutput p s known) (take k s.sections) old
-      → AllZip (IsOutput p s known) (take (k + 1) s.sections) new
+      → AllZip (IsOutput p s stays) (take k s.sections) old
+      → AllZip (IsOutput p s stays) (take (k + 1) s.sections) new
   one_joined k place x old new h l e make pushed so_far =
       let j = joint k place h l e in
-      subst (λ qs. AllZip (IsOutput p s known) qs new) (sym j.taken)
-      (subst (λ xs. AllZip (IsOutput p s known) (take k s.sections ++ j.member ∷ []) xs) (sym pushed)
-      (zip_more (IsOutput p s known) (take k s.sections) old j.member x so_far (make j.member j.is)))
+      subst (λ qs. AllZip (IsOutput p s stays) qs new) (sym j.taken)
+      (subst (λ xs. AllZip (IsOutput p s stays) (take k s.sections ++ j.member ∷ []) xs) (sym pushed)
+      (zip_more (IsOutput p s stays) (take k s.sections) old j.member x so_far (make j.member j.is)))
 
-  pub all_joined : (k : ℕ) (xs : List OutputDrawing) → AreJoined p s known places os offsets rows runs
-      → length places ≤ k → AllZip (IsOutput p s known) (take k s.sections) xs
-      → AllZip (IsOutput p s known) s.sections xs
+  pub all_joined : (k : ℕ) (xs : List OutputDrawing) → AreJoined p s stays places os offsets rows runs
+      → length places ≤ k → AllZip (IsOutput p s stays) (take k s.sections) xs
+      → AllZip (IsOutput p s stays) s.sections xs
   all_joined k xs h past so_far =
       let long : length s.sections ≡ length places = sym (length-map s.sections placed_of) ∙ ap length h.placed in
-      subst (λ qs. AllZip (IsOutput p s known) qs xs) (take_all k s.sections (omega (arith, past, long))) so_far
+      subst (λ qs. AllZip (IsOutput p s stays) qs xs) (take_all k s.sections (omega (arith, past, long))) so_far
 
 -- ---- output sections with bytes in the file
 
@@ -145,10 +143,10 @@ with_one s q = go (q.size == 0)
     go true = refl
     go false = refl
 
-pub drawn_same : (p : Project) (s : Layout) (known : Known) (qs : List PlacedOutput) (q : PlacedOutput)
+pub drawn_same : (p : Project) (s : Layout) (stays : SectionKey → Bool) (qs : List PlacedOutput) (q : PlacedOutput)
     (ys : List ImageSection) (b c : Bool) → (q.size == 0) ≡ b → q.has_file_bytes ≡ c → one_of s q b c ≡ []
-    → AreDrawnOf p s known qs ys → AreDrawnOf p s known (qs ++ q ∷ []) ys
-drawn_same p s known qs q ys b c e f none h =
+    → AreDrawnOf p s stays qs ys → AreDrawnOf p s stays (qs ++ q ∷ []) ys
+drawn_same p s stays qs q ys b c e f none h =
     let one : with_bytes s (q ∷ []) ≡ [] =
     with_one s q ∙ ap (λ t. one_of s q t q.has_file_bytes) e ∙ ap (one_of s q b) f ∙ none in
     let same = with_append s qs (q ∷ []) ∙ ap (λ l. with_bytes s qs ++ l) one ∙ append-nil (with_bytes s qs) in
@@ -156,52 +154,39 @@ drawn_same p s known qs q ys b c e f none h =
       wholes = h.wholes;
       sections = subst (λ l. AllZip (IsImageSection p s) l h.wholes) (sym same) h.sections;
       filled = h.filled;
-      kept = subst (λ l. AllZip (IsSectionKept p known.stays) l h.wholes) (sym same) h.kept;
+      kept = subst (λ l. AllZip (IsSectionKept p stays) l h.wholes) (sym same) h.kept;
       joined = h.joined;
-      moved = h.moved;
     }
 
-moved_push : (canvas : Option (Option (List ℕ))) (old : List ImageSection) (y : ImageSection)
-    → AreAllMovedIn canvas old → AreMovedIn canvas y.pieces.now → AreAllMovedIn canvas (old ++ y ∷ [])
-moved_push None old y h own = tt
-moved_push (Some canvas) old y h own = go old h
-  where
-    go : (ys : List ImageSection) → Each (λ (y : ImageSection). Each (IsMovedFrom canvas) y.pieces.now) ys
-        → Each (λ (y : ImageSection). Each (IsMovedFrom canvas) y.pieces.now) (ys ++ y ∷ [])
-    go [] h = (own, tt)
-    go (z ∷ zs) h = (h.0, go zs h.1)
-
-pub drawn_more : (p : Project) (s : Layout) (known : Known) (qs : List PlacedOutput) (q : PlacedOutput)
+pub drawn_more : (p : Project) (s : Layout) (stays : SectionKey → Bool) (qs : List PlacedOutput) (q : PlacedOutput)
     (old new : List ImageSection) (y : ImageSection) → (q.size == 0) ≡ false → q.has_file_bytes ≡ true
-    → IsDrawn p s known q y → new ≡ old ++ y ∷ []
-    → AreDrawnOf p s known qs old → AreDrawnOf p s known (qs ++ q ∷ []) new
-drawn_more p s known qs q old new y e f is pushed h =
+    → IsDrawn p s stays q y → new ≡ old ++ y ∷ []
+    → AreDrawnOf p s stays qs old → AreDrawnOf p s stays (qs ++ q ∷ []) new
+drawn_more p s stays qs q old new y e f is pushed h =
     let one : with_bytes s (q ∷ []) ≡ in_file_at s q ∷ [] =
     with_one s q ∙ ap (λ t. one_of s q t q.has_file_bytes) e ∙ ap (one_of s q false) f in
     let more = with_append s qs (q ∷ []) ∙ ap (λ l. with_bytes s qs ++ l) one in
-    subst (AreDrawnOf p s known (qs ++ q ∷ [])) (sym pushed) (record {
+    subst (AreDrawnOf p s stays (qs ++ q ∷ [])) (sym pushed) (record {
       wholes = h.wholes ++ is.whole ∷ [];
       sections = subst (λ l. AllZip (IsImageSection p s) l (h.wholes ++ is.whole ∷ [])) (sym more)
           (zip_more (IsImageSection p s) (with_bytes s qs) h.wholes (in_file_at s q) is.whole h.sections is.section);
       filled = All-push IsSectionFilled h.wholes is.whole h.filled is.filled;
-      kept = subst (λ l. AllZip (IsSectionKept p known.stays) l (h.wholes ++ is.whole ∷ [])) (sym more)
-          (zip_more (IsSectionKept p known.stays) (with_bytes s qs) h.wholes (in_file_at s q) is.whole h.kept is.kept);
+      kept = subst (λ l. AllZip (IsSectionKept p stays) l (h.wholes ++ is.whole ∷ [])) (sym more)
+          (zip_more (IsSectionKept p stays) (with_bytes s qs) h.wholes (in_file_at s q) is.whole h.kept is.kept);
       joined = zip_more IsJoinedSection h.wholes old is.whole y h.joined is.joined;
-      moved = moved_push known.canvas old y h.moved is.moved;
     })
 
 -- all are drawn
-pub drawn_all : (p : Project) (s : Layout) (known : Known) (ys : List ImageSection) → AreNamed s.sections
-    → IsFileLayout s.sections (segments s.sections) → AreDrawnOf p s known s.sections ys → AreDrawn p s known ys
-drawn_all p s known ys named file h =
+pub drawn_all : (p : Project) (s : Layout) (stays : SectionKey → Bool) (ys : List ImageSection) → AreNamed s.sections
+    → IsFileLayout s.sections (segments s.sections) → AreDrawnOf p s stays s.sections ys → AreDrawn p s stays ys
+drawn_all p s stays ys named file h =
     let same = in_file_are s.sections (segments s.sections) named file.grouping.parts in
     record {
       wholes = h.wholes;
       sections = subst (λ l. AllZip (IsImageSection p s) (filter loads l) h.wholes) (sym same) h.sections;
       filled = h.filled;
-      kept = subst (λ l. AllZip (IsSectionKept p known.stays) (filter loads l) h.wholes) (sym same) h.kept;
+      kept = subst (λ l. AllZip (IsSectionKept p stays) (filter loads l) h.wholes) (sym same) h.kept;
       joined = h.joined;
-      moved = h.moved;
     }
 
 pub not_zero : (n : ℕ) → (n ≡ 0 → ⊥) → (n == 0) ≡ false

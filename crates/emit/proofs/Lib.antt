@@ -23,5 +23,4 @@ mod Sizing
 mod Staying
 mod OfSizes
 mod OfSymbols
-mod Originating
 pub mod Mapped

@@ -41,7 +41,6 @@ use Rattle.place.proofs.Lists.{find_at}
 use Rattle.ldmodel_laws.proofs.EachOf.{zip_more}
 use Rattle.emit.proofs.Lists.{take_next, zip_each, zip_right}
 use Rattle.emit.specs.Kept.{IsKeptBy}
-use Rattle.emit.specs.Known.{AreMovedIn, Known}
 use Rattle.emit.specs.Numbers.{HaveNumbers}
 use Rattle.emit.specs.Output.{IsJoinedRow, IsRow}
 use Rattle.emit.specs.Pieces.{IsDrawnPiece, IsPlacedAt, IsRowAt, IsRowPiece}
@@ -130,7 +129,6 @@ filled_zeros y e f = (
 abbrev pub AreZeros : ℕ → ℕ → ImagePiece → Type 0
 AreZeros size start y =
     (y.start ≡ start) × (y.size ≡ size) × (y.bytes.now ≡ []) × (y.fields.now ≡ []) × (y.stays ≡ false)
-    × (y.from ≡ None)
 
 module _ (p : Project) (s : Layout) (piece : Piece) (start : ℕ) (w : PlacedPiece) (at : IsPlacedAt p s piece start w)
   where
@@ -144,7 +142,6 @@ module _ (p : Project) (s : Layout) (piece : Piece) (start : ℕ) (w : PlacedPie
       };
       filled = filled_zeros y z.2 z.3;
       unstayed = z.4;
-      unmoved = z.5;
     }
 
     part_is : (part : Part) → piece.part ≡ part → w.piece.part ≡ part
@@ -185,8 +182,8 @@ module _ (p : Project) (s : Layout) (piece : Piece) (start : ℕ) (w : PlacedPie
       pub drawn_some : (x : LinkedSection) (y : ImagePiece) → section_numbered o number ≡ Some x → y.start ≡ start
           → y.size ≡ piece.size
           → ((i : ℕ) → patched_byte y.bytes.now y.fields.now i ≡ section_byte p s o start i x) → IsFilled y
-          → y.stays ≡ false → y.from ≡ None → IsDrawnPiece p s w y
-      drawn_some x y found begun long bytes filled stays unmoved = record {
+          → y.stays ≡ false → IsDrawnPiece p s w y
+      drawn_some x y found begun long bytes filled stays = record {
         piece = record {
           start = begun ∙ sym at.start_is;
           size = long ∙ sym (ap (λ (z : Piece). z.size) at.piece_is);
@@ -196,7 +193,6 @@ module _ (p : Project) (s : Layout) (piece : Piece) (start : ℕ) (w : PlacedPie
         };
         filled = filled;
         unstayed = stays;
-        unmoved = unmoved;
       }
 
       pub placed_is : (x : LinkedSection) → x.number.0 ≡ number.0 → o.name ≡ object_name p key
@@ -375,53 +371,44 @@ member (x ∷ xs) zero l = (x, refl)
 member (x ∷ xs) (suc k) l = member xs k (omega (arith, l))
 
 -- input sections that are drawn as these, of which those that stay may be joined
-pub record AreDrawnAs (p : Project) (s : Layout) (known : Known) (ws : List PlacedPiece)
+pub record AreDrawnAs (p : Project) (s : Layout) (stays : SectionKey → Bool) (ws : List PlacedPiece)
     (ys : List ImagePiece) : Type 0 where
   pub whole : List ImagePiece
-  pub pieces : AllZip (IsRowPiece p s known.stays) ws whole
+  pub pieces : AllZip (IsRowPiece p s stays) ws whole
   pub joined : StandFor whole ys
-  pub moved : AreMovedIn known.canvas ys
 
-pub no_entries : (p : Project) (s : Layout) (known : Known) → AreDrawnAs p s known [] []
-no_entries p s known = record { whole = []; pieces = tt; joined = stand_none; moved = none known.canvas }
-  where
-    none : (canvas : Option (Option (List ℕ))) → AreMovedIn canvas []
-    none None = tt
-    none (Some canvas) = tt
+pub no_entries : (p : Project) (s : Layout) (stays : SectionKey → Bool) → AreDrawnAs p s stays [] []
+no_entries p s stays = record { whole = []; pieces = tt; joined = stand_none }
 
 -- one entry more
-pub one_entry : (own p : Project) (s : Layout) (known : Known) (q : PlacedOutput) (row : List Piece)
+pub one_entry : (own p : Project) (s : Layout) (stays : SectionKey → Bool) (q : PlacedOutput) (row : List Piece)
     (starts : List ℕ) (k : ℕ)
     (piece : Piece) (start : ℕ) (old new : List ImagePiece) → IsRowAt own s row starts q
     → k < length row
     → slice_get row k ≡ Some piece → ((n : ℕ) → slice_get starts k ≡ Some n → start ≡ n)
     → ((w : PlacedPiece) (whole : List ImagePiece) → IsPlacedAt own s piece start w → StandFor whole old
-    → (y : ImagePiece) × IsRowPiece p s known.stays w y × StandFor (whole ++ y ∷ []) new)
-    → ((w : PlacedPiece) → IsPlacedAt own s piece start w → AreMovedIn known.canvas old → AreMovedIn known.canvas new)
-    → AreDrawnAs p s known (take k q.pieces) old → AreDrawnAs p s known (take (k + 1) q.pieces) new
-one_entry own p s known q row starts k piece start old new h l at_row at_start make move so_far =
+    → (y : ImagePiece) × IsRowPiece p s stays w y × StandFor (whole ++ y ∷ []) new)
+    → AreDrawnAs p s stays (take k q.pieces) old → AreDrawnAs p s stays (take (k + 1) q.pieces) new
+one_entry own p s stays q row starts k piece start old new h l at_row at_start make so_far =
     let m = member q.pieces k (omega (arith, l, h.long)) in
     let a = member starts k (omega (arith, l, h.enough)) in
     let here : slice_get starts k ≡ Some start = a.1 ∙ ap Some (sym (at_start a.0 a.1)) in
-    let placed = h.each k piece start m.0 m.1 at_row here in
-    let more = make m.0 so_far.whole placed so_far.joined in
-    subst (λ ws. AreDrawnAs p s known ws new) (sym (take_next q.pieces k m.0 m.1))
+    let more = make m.0 so_far.whole (h.each k piece start m.0 m.1 at_row here) so_far.joined in
+    subst (λ ws. AreDrawnAs p s stays ws new) (sym (take_next q.pieces k m.0 m.1))
     (record {
       whole = so_far.whole ++ more.0 ∷ [];
-      pieces = zip_more (IsRowPiece p s known.stays) (take k q.pieces) so_far.whole m.0 more.0 so_far.pieces more.1;
+      pieces = zip_more (IsRowPiece p s stays) (take k q.pieces) so_far.whole m.0 more.0 so_far.pieces more.1;
       joined = more.2;
-      moved = move m.0 placed so_far.moved;
     })
 
-pub all_entries : (own p : Project) (s : Layout) (known : Known) (q : PlacedOutput) (row : List Piece)
+pub all_entries : (own p : Project) (s : Layout) (stays : SectionKey → Bool) (q : PlacedOutput) (row : List Piece)
     (starts : List ℕ) (k : ℕ)
     (ys : List ImagePiece) → IsRowAt own s row starts q → length row ≤ k
-    → AreDrawnAs p s known (take k q.pieces) ys → IsJoinedRow p s known q ys
-all_entries own p s known q row starts k ys h past z = record {
+    → AreDrawnAs p s stays (take k q.pieces) ys → IsJoinedRow p s stays q ys
+all_entries own p s stays q row starts k ys h past z = record {
   whole = z.whole;
-  row = whole_row p s known.stays q z.whole
-      (subst (λ ws. AllZip (IsRowPiece p s known.stays) ws z.whole) (take_all k q.pieces (omega (arith, past, h.long)))
+  row = whole_row p s stays q z.whole
+      (subst (λ ws. AllZip (IsRowPiece p s stays) ws z.whole) (take_all k q.pieces (omega (arith, past, h.long)))
       z.pieces);
   joined = z.joined;
-  moved = z.moved;
 }

@@ -1,6 +1,6 @@
 -- Sections of objects as they are drawn.
 use Rattle.std.proofs.Common.{◌≡◌, ◌∙◌, sym, refl, ap, subst, ℕ, ◌≤◌, List, [], length, map, filter, Option}
-use Rattle.std.proofs.Common.{None, Some, get_or, slice_get, inl}
+use Rattle.std.proofs.Common.{Some, get_or, slice_get, inl}
 use Rattle.std.proofs.Common.{false}
 use Rattle.std.specs.List.{All, filter_map}
 use Rattle.std.specs.Option.{option_map}
@@ -27,7 +27,6 @@ use Rattle.emit_relocate.specs.Fields.{IsRun}
 use Rattle.emit_relocate.specs.Filled.{IsRunAt, IsRunOf}
 use Rattle.emit_relocate.specs.KnownLink.{KnownLink}
 use Rattle.emit.proofs.OfRows.{AreZeros, filled_zeros, zero_byte}
-use Rattle.emit.specs.Moved.{IsFielded}
 use Rattle.emit.specs.Pieces.{IsSectionPiece}
 
 -- the section of an object at a place
@@ -73,7 +72,6 @@ module _ (l : KnownLink) (o : NamedObject) (x : LinkedSection) (size start n : �
             ∙ sym (zero_byte x.bytes (fields_of l.project l.layout o x start) i bytes fields);
         filled = filled_zeros y z.2 z.3;
         unstayed = z.4;
-        unmoved = z.5;
       }
 
   run_at : (w : PlacedPiece) (a : Option PlacedPiece) (run : List Patch) → a ≡ Some w → w.start ≡ start
@@ -84,8 +82,8 @@ module _ (l : KnownLink) (o : NamedObject) (x : LinkedSection) (size start n : �
   pub full_piece : (w : PlacedPiece) → (x.kind ≡ Nobits → ⊥) → x.size ≡ size
       → placed_part l.layout o.name (InTable x.number) ≡ Some w → w.start ≡ start → y.start ≡ start → y.size ≡ size
       → y.bytes.now ≡ x.bytes → IsRunOf l (record { object = o; section = x }) y.fields.now → y.stays ≡ false
-      → y.from ≡ None → IsSectionPiece l o x size start y
-  full_piece w kind sized placed at begun long bytes run stays unmoved =
+      → IsSectionPiece l o x size start y
+  full_piece w kind sized placed at begun long bytes run stays =
       let is : IsRun l o x start y.fields.now =
       run_at w (placed_part l.layout o.name (InTable x.number)) y.fields.now placed at run in
       let whole : length x.bytes ≡ x.size = profile.bytes ∙ whole_in_file x.kind x.size kind in
@@ -101,16 +99,7 @@ module _ (l : KnownLink) (o : NamedObject) (x : LinkedSection) (size start n : �
           subst (λ m. AreInOrder 0 m y.fields.now) (sized ∙ sym long) (is.order x.size ends),
         );
         unstayed = stays;
-        unmoved = unmoved;
       }
-
-  pub fielded_piece : (w : PlacedPiece) → placed_part l.layout o.name (InTable x.number) ≡ Some w → w.start ≡ start
-      → y.bytes.now ≡ x.bytes → IsRunOf l (record { object = o; section = x }) y.fields.now
-      → IsFielded l o x start y
-  fielded_piece w placed at bytes run =
-      let is : IsRun l o x start y.fields.now =
-      run_at w (placed_part l.layout o.name (InTable x.number)) y.fields.now placed at run in
-      record { bytes = bytes; fields = is.same }
 
 pub section_among : (o : ObjectData) (i : ℕ) (x : LinkedSection) (ys : List Section) (d : Section)
     → ys ≡ map section_of o.sections → slice_get o.sections i ≡ Some x → get_or ys i d ≡ section_of x

@@ -1,5 +1,5 @@
 -- The drawing of a link.
-use Rattle.std.proofs.Common.{◌≡◌, ◌∙◌, refl, subst, sym, Option, Some, ℕ, ◌<◌, ◌≤◌, ◌^◌, List, [], ◌∷◌, arith}
+use Rattle.std.proofs.Common.{◌≡◌, ◌∙◌, refl, subst, sym, Bool, ℕ, ◌<◌, ◌≤◌, ◌^◌, List, [], ◌∷◌, arith}
 use Rattle.std.proofs.Common.{length}
 use Rattle.std.specs.Borrow.{Bor}
 use Rattle.std.specs.List.{All, AllZip}
@@ -7,18 +7,16 @@ use Rattle.emit_fields.specs.declared.patch.Patch.{Patch}
 use Rattle.emit_image.specs.Drawing.{IsDrawing, drawing_end, end_of_parts, end_of_sections}
 use Rattle.emit_image.specs.InMemory.{AreFilled, IsInMemory}
 use Rattle.emit_image.specs.Joined.{AreAlike, IsJoined, IsJoinedSection}
-use Rattle.emit_image.specs.Moves.{IsMovedFrom}
 use Rattle.emit_image.specs.OfLink.{IsDrawingOf, IsImagePart}
 use Rattle.emit_image.specs.Stretches.{EndsBy}
 use Rattle.emit_image.specs.declared.section.Drawing.{Drawing}
 use Rattle.emit_image.specs.declared.section.ImagePart.{ImagePart}
 use Rattle.emit_image.specs.declared.section.ImageSection.{ImageSection}
-use Rattle.ldmodel.specs.Each.{Each}
 use Rattle.ldmodel.specs.Layout.{Layout}
 use Rattle.ldmodel.specs.Project.{Project}
 use Rattle.ldmodel.specs.SectionHeaders.{FilePart, header_part, image_length, tail}
 use Rattle.ldmodel.specs.Segments.{nonempty}
-use Rattle.emit.specs.Known.{AreAllMovedIn, Known}
+use Rattle.ldmodel.specs.declared.sections.SectionKey.{SectionKey}
 use Rattle.emit.specs.Parts.{ArePartsOf}
 use Rattle.emit.specs.declared.parts.ImageParts.{ImageParts}
 
@@ -36,8 +34,8 @@ pub record IsMade (x : ImageParts) (d : Drawing) : Type 0 where
 below_64 : (n : ℕ) → n ≤ 2 ^ 28 → n < 2 ^ 64
 below_64 n h = omega (arith, h)
 
-module _ (p : Project) (s : Layout) (known : Known) (x : ImageParts) (d : Drawing) (made : IsMade x d)
-    (are : ArePartsOf p s known x) where
+module _ (p : Project) (s : Layout) (stays : SectionKey → Bool) (x : ImageParts) (d : Drawing) (made : IsMade x d)
+    (are : ArePartsOf p s stays x) where
   -- the drawing that has each input section
   abbrev pub whole : Drawing
   whole = record d { sections = record { ref_ptr = d.sections.ref_ptr; now = are.drawn.wholes } }
@@ -63,29 +61,21 @@ module _ (p : Project) (s : Layout) (known : Known) (x : ImageParts) (d : Drawin
       law whole drawing_of memory are.drawn.filled (below_64 (image_length p s) short)
 
 -- what ends by the image ends by the drawing of these parts
-pub ends_in : (p : Project) (s : Layout) (known : Known) (x : ImageParts) (headers : Bor (List ℕ))
+pub ends_in : (p : Project) (s : Layout) (stays : SectionKey → Bool) (x : ImageParts) (headers : Bor (List ℕ))
     (sections : Bor (List ImageSection)) (parts : List ImagePart) (patches : List Patch)
     → ((d : Drawing) → IsDrawingOf p s d → drawing_end d ≡ image_length p s)
     → ((w d : Drawing) → IsJoined w d → AreAlike w d) → headers.now ≡ x.headers.items
     → sections.now ≡ x.sections.items
     → AllZip IsImagePart (x.tail.symbols ∷ x.tail.symbol_names ∷ x.tail.header_names ∷ x.tail.headers ∷ []) parts
-    → ArePartsOf p s known x → All (EndsBy (image_length p s)) patches
+    → ArePartsOf p s stays x → All (EndsBy (image_length p s)) patches
     → All (EndsBy (end_of_parts (end_of_sections (length headers.now) sections.now) parts)) patches
-ends_in p s known x headers sections parts patches law like same_headers same_sections same_tail are h =
+ends_in p s stays x headers sections parts patches law like same_headers same_sections same_tail are h =
     let d : Drawing = record {
       headers = headers;
       sections = sections;
       tail = record { ref_ptr = headers.ref_ptr; now = parts };
     } in
     let made : IsMade x d = record { headers = same_headers; sections = same_sections; tail = same_tail } in
-    let w : Drawing = whole p s known x d made are in
-    let end = (like w d (drawing_joined p s known x d made are)).end ∙ law w (drawing_of p s known x d made are) in
+    let w : Drawing = whole p s stays x d made are in
+    let end = (like w d (drawing_joined p s stays x d made are)).end ∙ law w (drawing_of p s stays x d made are) in
     subst (λ n. All (EndsBy n) patches) (sym end) h
-
--- where the input sections are moved from
-pub moved_on : (p : Project) (s : Layout) (known : Known) (x : ImageParts) (sections : List ImageSection)
-    → sections ≡ x.sections.items → ArePartsOf p s known x → (canvas : Option (List ℕ)) → known.canvas ≡ Some canvas
-    → Each (λ (y : ImageSection). Each (IsMovedFrom canvas) y.pieces.now) sections
-moved_on p s known x sections same are canvas e =
-    subst (λ ys. Each (λ (y : ImageSection). Each (IsMovedFrom canvas) y.pieces.now) ys) (sym same)
-    (subst (λ m. AreAllMovedIn m x.sections.items) e are.drawn.moved)

@@ -13,7 +13,6 @@ use Rattle.place.specs.declared.indexed_layout.IndexedLayout.{IndexedLayout}
 use Rattle.emit_values.specs.LinkView.{known_link}
 use Rattle.emit_values.specs.Values.{AreValues}
 use Rattle.emit_values.specs.declared.values.Values.{Values}
-use Rattle.emit.specs.Known.{Known}
 use Rattle.emit.specs.Output.{IsOutput}
 use Rattle.emit.specs.Runs.{AreRunsUnless}
 use Rattle.emit.specs.declared.output.OutputDrawing.{OutputDrawing}
@@ -35,17 +34,17 @@ pub record IsDrawable (project : Project) (x : IndexedLayout) (v : Values) (r : 
   pub names : SymbolTableState
   pub is : IsDrawableAt project layout names x v r stays
 
--- the same, and these are its output sections, of whose input sections this is known
-pub record AreOutputs (project : Project) (x : IndexedLayout) (v : Values) (layout : Layout) (known : Known)
+-- the same, and these are its output sections, of which these input sections stay
+pub record AreOutputs (project : Project) (x : IndexedLayout) (v : Values) (layout : Layout) (stays : SectionKey → Bool)
     (xs : List OutputDrawing) : Type 0 where
   pub names : SymbolTableState
   pub indexed_layout : IsIndexedLayout project layout x
   pub values : AreValues project layout names v
   pub short : image_length project layout ≤ max_image_length
-  pub outputs : AllZip (IsOutput project layout known) layout.sections xs
+  pub outputs : AllZip (IsOutput project layout stays) layout.sections xs
 
 -- it has a layout with these output sections
 pub record HasOutputs (project : Project) (x : IndexedLayout) (v : Values) (xs : List OutputDrawing) : Type 0 where
   pub layout : Layout
-  pub known : Known
-  pub are : AreOutputs project x v layout known xs
+  pub stays : SectionKey → Bool
+  pub are : AreOutputs project x v layout stays xs

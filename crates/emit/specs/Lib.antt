@@ -13,8 +13,6 @@ pub mod DataRuns
 pub mod Drawable
 pub mod Joined
 pub mod Kept
-pub mod Known
-pub mod Moved
 pub mod Numbers
 pub mod Output
 pub mod Parts

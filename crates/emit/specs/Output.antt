@@ -15,7 +15,6 @@ use Rattle.emit_image.specs.declared.section.ImagePiece.{ImagePiece}
 use Rattle.emit_image.specs.declared.section.ImageSection.{ImageSection}
 use Rattle.place.specs.Offsets.{IsOffset}
 use Rattle.emit.specs.Kept.{IsKeptBy}
-use Rattle.emit.specs.Known.{AreAllMovedIn, AreMovedIn, Known}
 use Rattle.emit.specs.declared.output.OutputDrawing.{OutputDrawing}
 
 -- the input sections of an output section, each of which stays if its key does; bytes and fields fill each
@@ -26,16 +25,15 @@ pub record IsRow (project : Project) (layout : Layout) (stays : SectionKey → B
   pub filled : All IsFilled ys
   pub kept : AllZip (IsKeptBy project stays) output.pieces ys
 
--- the same, where those that stay may be joined, and others may be moved
-pub record IsJoinedRow (project : Project) (layout : Layout) (known : Known) (output : PlacedOutput)
+-- the same, where those that stay may be joined
+pub record IsJoinedRow (project : Project) (layout : Layout) (stays : SectionKey → Bool) (output : PlacedOutput)
     (ys : List ImagePiece) : Type 0 where
   pub whole : List ImagePiece
-  pub row : IsRow project layout known.stays output whole
+  pub row : IsRow project layout stays output whole
   pub joined : StandFor whole ys
-  pub moved : AreMovedIn known.canvas ys
 
 -- all that is drawn of an output section
-pub record IsOutput (project : Project) (layout : Layout) (known : Known) (output : PlacedOutput)
+pub record IsOutput (project : Project) (layout : Layout) (stays : SectionKey → Bool) (output : PlacedOutput)
     (x : OutputDrawing)
     : Type 0 where
   pub name : x.name.now ≡ output.name
@@ -44,7 +42,7 @@ pub record IsOutput (project : Project) (layout : Layout) (known : Known) (outpu
   pub fill : (i : ℕ) → slice_index x.fill.now (i % length x.fill.now) ≡ fill_byte output.fill i
   pub some_fill : 0 < length x.fill.now
   pub short_fill : length x.fill.now ≤ 8
-  pub row : IsJoinedRow project layout known output x.pieces.now
+  pub row : IsJoinedRow project layout stays output x.pieces.now
   pub data_commands : AllZip IsImageData output.data_commands x.data_commands.now
 
 -- each input section of an output section stays if its key does
@@ -56,35 +54,32 @@ abbrev pub in_file_at : Layout → PlacedOutput → SectionInFile
 in_file_at layout output = record { offset = file_offset (segments layout.sections) output; section = output }
 
 -- an output section as it is drawn, of whose input sections those that stay may be joined
-pub record IsDrawn (project : Project) (layout : Layout) (known : Known) (output : PlacedOutput)
+pub record IsDrawn (project : Project) (layout : Layout) (stays : SectionKey → Bool) (output : PlacedOutput)
     (y : ImageSection)
     : Type 0 where
   pub whole : ImageSection
   pub section : IsImageSection project layout (in_file_at layout output) whole
   pub filled : IsSectionFilled whole
-  pub kept : IsSectionKept project known.stays (in_file_at layout output) whole
+  pub kept : IsSectionKept project stays (in_file_at layout output) whole
   pub joined : IsJoinedSection whole y
-  pub moved : AreMovedIn known.canvas y.pieces.now
 
 -- those of some output sections that have bytes in the file
 abbrev pub with_bytes : Layout → List PlacedOutput → List SectionInFile
 with_bytes layout qs = filter (λ (x : SectionInFile). x.section.has_file_bytes) (map (in_file_at layout) (nonempty qs))
 
-pub record AreDrawnOf (project : Project) (layout : Layout) (known : Known) (qs : List PlacedOutput)
+pub record AreDrawnOf (project : Project) (layout : Layout) (stays : SectionKey → Bool) (qs : List PlacedOutput)
     (ys : List ImageSection) : Type 0 where
   pub wholes : List ImageSection
   pub sections : AllZip (IsImageSection project layout) (with_bytes layout qs) wholes
   pub filled : All IsSectionFilled wholes
-  pub kept : AllZip (IsSectionKept project known.stays) (with_bytes layout qs) wholes
+  pub kept : AllZip (IsSectionKept project stays) (with_bytes layout qs) wholes
   pub joined : AllZip IsJoinedSection wholes ys
-  pub moved : AreAllMovedIn known.canvas ys
 
 -- the output sections with bytes in the file, as they are drawn
-pub record AreDrawn (project : Project) (layout : Layout) (known : Known)
+pub record AreDrawn (project : Project) (layout : Layout) (stays : SectionKey → Bool)
     (ys : List ImageSection) : Type 0 where
   pub wholes : List ImageSection
   pub sections : AllZip (IsImageSection project layout) (loaded layout) wholes
   pub filled : All IsSectionFilled wholes
-  pub kept : AllZip (IsSectionKept project known.stays) (loaded layout) wholes
+  pub kept : AllZip (IsSectionKept project stays) (loaded layout) wholes
   pub joined : AllZip IsJoinedSection wholes ys
-  pub moved : AreAllMovedIn known.canvas ys

@@ -1,5 +1,5 @@
 -- Input sections as they are drawn.
-use Rattle.std.specs.Prelude.{◌≡◌, ◌≤◌, Bool, ℕ, List, None, Some, false, flat_map, length, map, slice_get}
+use Rattle.std.specs.Prelude.{◌≡◌, ◌≤◌, Bool, ℕ, List, Some, false, flat_map, length, map, slice_get}
 use Rattle.emit_fields.specs.Patches.{patched_byte}
 use Rattle.elfobj.specs.Sections.{LinkedSection}
 use Rattle.elfobj.specs.declared.section.SectionIndex.{SectionIndex}
@@ -39,14 +39,12 @@ pub record IsSectionPiece (link : KnownLink) (object : NamedObject) (section : L
       ≡ section_byte link.project link.layout object at i section
   pub filled : IsFilled y
   pub unstayed : y.stays ≡ false
-  pub unmoved : y.from ≡ None
 
 -- an input section in its place that is drawn anew
 pub record IsDrawnPiece (project : Project) (layout : Layout) (w : PlacedPiece) (y : ImagePiece) : Type 0 where
   pub piece : IsImagePiece project layout w y
   pub filled : IsFilled y
   pub unstayed : y.stays ≡ false
-  pub unmoved : y.from ≡ None
 
 -- an input section in its place, which stays if its key does
 pub record IsRowPiece (project : Project) (layout : Layout) (stays : SectionKey → Bool) (w : PlacedPiece)

@@ -1,6 +1,6 @@
 //! The image of a link.
 
-ghost use Rattle.std.specs.Prelude.{◌≡◌, ◌≤◌, ◌+◌, ◌-◌, ◌∷◌, [], All, IfOk, List, None, OnErr, OnOk, Some, false};
+ghost use Rattle.std.specs.Prelude.{◌≡◌, ◌≤◌, ◌+◌, ◌-◌, ◌∷◌, [], All, Bool, IfOk, List, None, OnErr, OnOk, false};
 ghost use Rattle.std.specs.Prelude.{ℕ, is_some};
 ghost use Rattle.elfobj.specs.Raised.{raised};
 ghost use Rattle.elfobj.specs.declared.meter.Count.TheVariants as counts;
@@ -21,8 +21,6 @@ ghost use Rattle.emit_relocate.specs.PreviousLinkInfo.{IsComplete};
 ghost use Rattle.emit_values.specs.LinkView.{known_link};
 ghost use Rattle.emit.specs.Drawable.{AreOutputs, HasOutputs, IsDrawable, IsDrawableAt};
 ghost use Rattle.emit.specs.Kept.{AreKept, HaveStayed, IsSound};
-ghost use Rattle.emit.specs.Known.{Known};
-ghost use Rattle.emit.specs.Moved.{HaveLain};
 
 use crate::output::{OutputDrawing, outputs};
 use crate::parts::drawing_parts;
@@ -38,9 +36,8 @@ use emit_image::tail::{TailPart, TailParts};
 use emit_relocate::previous_link_info::PreviousLinkInfo;
 use emit_values::values::Values;
 use ldmodel::memory::NoMemory;
-use ldmodel_laws::image::byte_of_piece;
 use ldmodel_laws::segments::sections_in_file;
-use ldmodel_laws::stayed::{pieces_in_image, stayed_in_both};
+use ldmodel_laws::stayed::stayed_in_both;
 use ldmodel_project::view::ProjectView;
 use place::indexed_layout::IndexedLayout;
 use std::alloc::Global;
@@ -69,7 +66,7 @@ fn image_parts(tail: &TailParts) -> [ImagePart<'_>; 4]
 }
 
 /// Draws these output sections, and what else the image of a link has, onto a canvas: all but what stays, in which the
-/// patches are written, and what is moved. Fails if memory runs out; then the canvas is as it was.
+/// patches are written. Fails if memory runs out; then the canvas is as it was.
 fn draw_outputs(
     alloc: Global,
     canvas: &mut Canvas,
@@ -83,24 +80,22 @@ fn draw_outputs(
     requires outputs { HasOutputs project.now indexed_layout.now values.now outputs.now }
     requires patches { (layout : Layout) → IsIndexedLayout project.now layout indexed_layout.now
         → All (EndsBy (image_length project.now layout)) patches.now }
-    ensures image { OnOk result ((layout : Layout) (known : Known)
-        → AreOutputs project.now indexed_layout.now values.now layout known outputs.now
-        → ((k : SectionKey) → known.stays k ≡ false) → known.canvas ≡ Some None
-        → canvas.new.bytes ≡ definition.image project.now layout) }
-    ensures redrawn { OnOk result ((old new : GoodLink) (known : Known) → new.project ≡ project.now
-        → AreOutputs project.now indexed_layout.now values.now new.layout known outputs.now → IsGood old
-        → IsGood new → HaveStayed old new known.stays → known.canvas ≡ Some (Some canvas.old.bytes)
-        → ArePatchesOf old new patches.now
+    ensures image { OnOk result ((layout : Layout) (stays : SectionKey → Bool)
+        → AreOutputs project.now indexed_layout.now values.now layout stays outputs.now
+        → ((k : SectionKey) → stays k ≡ false) → canvas.new.bytes ≡ definition.image project.now layout) }
+    ensures redrawn { OnOk result ((old new : GoodLink) (stays : SectionKey → Bool) → new.project ≡ project.now
+        → AreOutputs project.now indexed_layout.now values.now new.layout stays outputs.now → IsGood old
+        → IsGood new → HaveStayed old new stays → ArePatchesOf old new patches.now
         → canvas.old.bytes ≡ definition.image old.project old.layout
         → canvas.new.bytes ≡ definition.image new.project new.layout) }
-    ensures work { OnOk result ((old new : GoodLink) (known : Known) → new.project ≡ project.now
-        → AreOutputs project.now indexed_layout.now values.now new.layout known outputs.now → IsGood new
-        → AreKept old new known.stays → patch_bytes patches.now ≤ retargeted_bytes old new
+    ensures work { OnOk result ((old new : GoodLink) (stays : SectionKey → Bool) → new.project ≡ project.now
+        → AreOutputs project.now indexed_layout.now values.now new.layout stays outputs.now → IsGood new
+        → AreKept old new stays → patch_bytes patches.now ≤ retargeted_bytes old new
         → meter.new.bytes + bytes_stayed old new
         ≤ meter.old.bytes + (image_length new.project new.layout + retargeted_bytes old new)) }
-    ensures spent { OnOk result ((old new : GoodLink) (known : Known) → new.project ≡ project.now
-        → AreOutputs project.now indexed_layout.now values.now new.layout known outputs.now → IsGood new
-        → AreKept old new known.stays → HaveStayed old new known.stays → meter.new ≡ raised meter.old counts.Bytes
+    ensures spent { OnOk result ((old new : GoodLink) (stays : SectionKey → Bool) → new.project ≡ project.now
+        → AreOutputs project.now indexed_layout.now values.now new.layout stays outputs.now → IsGood new
+        → AreKept old new stays → HaveStayed old new stays → meter.new ≡ raised meter.old counts.Bytes
         (patch_bytes patches.now + (image_length new.project new.layout - bytes_stayed old new))) }
     ensures counted { OnOk result ((n : ℕ) × (meter.new ≡ raised meter.old counts.Bytes n)) }
     ensures unchanged { OnErr result (canvas.new.bytes ≡ canvas.old.bytes) }
@@ -119,18 +114,17 @@ fn draw_outputs(
         sections: &parts.sections,
         tail: &tail,
     };
-    redraw(alloc, canvas, &drawing, patches, meter)
+    redraw(canvas, &drawing, patches, meter)
 }
 
 /// Writes the image of a link without faults onto a canvas, and counts the bytes that it writes: all except those of
 /// the input sections of which `previous` says that they stayed. In these only the patches are written, at their
-/// offsets in the file. Input sections of which `previous` says where they lay are moved from there.
+/// offsets in the file.
 ///
-/// If nothing stays and nothing is moved, the canvas may hold anything before. Else it must hold the image of the
-/// previous link, `previous` may report only sections that stayed, and only places where sections lay, and the patches
-/// must be the fields in them whose symbol has another value. Then the canvas holds the image of the new link after the
-/// call. If `previous` reports all sections that stayed, the bytes outside of them and those of the patches are
-/// written, and no others.
+/// If nothing stays, the canvas may hold anything before. Else it must hold the image of the previous link, `previous`
+/// may report only sections that stayed, and the patches must be the fields in them whose symbol has another value.
+/// Then the canvas holds the image of the new link after the call. If `previous` reports all sections that stayed, the
+/// bytes outside of them and those of the patches are written, and no others.
 ///
 /// # Errors
 ///
@@ -153,13 +147,11 @@ pub fn draw_image<'a, E: PreviousLinkInfo>(
     ensures image { OnOk result ((layout : Layout) (table : SymbolTableState)
         → IsDrawableAt project.now layout table indexed_layout.now values.now relocated.now
         (λ key. is_some (E.range previous.now key)) → ((key : SectionKey) → E.range previous.now key ≡ None)
-        → ((key : SectionKey) → E.origin previous.now key ≡ None)
         → canvas.new.bytes ≡ definition.image project.now layout) }
     ensures redrawn { OnOk result ((old new : GoodLink) (table : SymbolTableState) → new.project ≡ project.now
         → IsDrawableAt project.now new.layout table indexed_layout.now values.now relocated.now
         (λ key. is_some (E.range previous.now key)) → IsGood old → IsGood new
         → IsSound (E.range previous.now) old (known_link new.project new.layout table)
-        → HaveLain (E.origin previous.now) old (known_link new.project new.layout table)
         → ArePatchesOf old new patches.now → canvas.old.bytes ≡ definition.image old.project old.layout
         → canvas.new.bytes ≡ definition.image new.project new.layout) }
     ensures work { OnOk result ((old new : GoodLink) (table : SymbolTableState) → new.project ≡ project.now
@@ -178,10 +170,6 @@ pub fn draw_image<'a, E: PreviousLinkInfo>(
     ensures counted { OnOk result ((n : ℕ) × (meter.new ≡ raised meter.old counts.Bytes n)) }
     ensures unchanged { OnErr result (canvas.new.bytes ≡ canvas.old.bytes) }
 {
-    // for the prover: bring in these laws
-    byte_of_piece();
-    pieces_in_image();
-    stayed_in_both();
     // the borrow checker wants its lifetime named
     let pieces: Vec<Vec<ImagePiece<'a>>> = image_pieces(
         alloc,

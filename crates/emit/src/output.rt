@@ -1,6 +1,6 @@
 //! Output sections with all that is drawn of them.
 
-ghost use Rattle.std.specs.Prelude.{◌≡◌, ◌<◌, ◌≤◌, ◌%◌, ℕ, IfNone, IfOk, IfSome, List, length};
+ghost use Rattle.std.specs.Prelude.{◌≡◌, ◌<◌, ◌≤◌, ◌%◌, Bool, ℕ, IfNone, IfOk, IfSome, List, length};
 ghost use Rattle.std.specs.Prelude.{map, slice_index};
 ghost use Rattle.std.specs.List.{AllZip};
 ghost use Rattle.std.specs.Vec.{vec_items};
@@ -8,9 +8,9 @@ ghost use Rattle.place.specs.LinkLayout.{IsLinkLayout};
 ghost use Rattle.ldmodel.specs.Image.{fill_byte};
 ghost use Rattle.ldmodel.specs.Layout.{Layout, PlacedOutput};
 ghost use Rattle.ldmodel.specs.Project.{Project};
+ghost use Rattle.ldmodel.specs.declared.sections.SectionKey.{SectionKey};
 ghost use Rattle.ldscript.specs.statements.Numbered.{shown_sections};
 ghost use Rattle.emit.specs.Joined.{AreJoined, IsAt};
-ghost use Rattle.emit.specs.Known.{Known};
 ghost use Rattle.emit.specs.Output.{IsJoinedRow, IsOutput};
 
 use crate::data_runs::data_runs;
@@ -66,11 +66,11 @@ fn output_at<'a>(
     pieces: &'a [Vec<ImagePiece<'a>>],
     runs: &[&'a [PlacedData]],
 ) -> Option<OutputDrawing<'a>>
-    ensures some { IfSome result (λ x. (project : Project) (layout : Layout) (known : Known)
+    ensures some { IfSome result (λ x. (project : Project) (layout : Layout) (stays : SectionKey → Bool)
         (output : PlacedOutput)
-        → IsAt project layout known output number placed.now (shown_sections sections.now) offsets.now
+        → IsAt project layout stays output number placed.now (shown_sections sections.now) offsets.now
         (map vec_items pieces.now)
-        (map (λ run. run.now) runs.now) → IsOutput project layout known output x) }
+        (map (λ run. run.now) runs.now) → IsOutput project layout stays output x) }
     ensures none { IfNone result (number < length sections.now → number < length offsets.now
         → number < length pieces.now → number < length runs.now → ⊥) }
 {
@@ -98,9 +98,9 @@ fn join<'a>(
     pieces: &'a [Vec<ImagePiece<'a>>],
     runs: &[&'a [PlacedData]],
 ) -> Result<Vec<OutputDrawing<'a>>, NoMemory>
-    ensures { IfOk result (λ v. (project : Project) (layout : Layout) (known : Known)
-        → AreJoined project layout known placed.now (shown_sections sections.now) offsets.now (map vec_items pieces.now)
-        (map (λ run. run.now) runs.now) → AllZip (IsOutput project layout known) layout.sections v.items) }
+    ensures { IfOk result (λ v. (project : Project) (layout : Layout) (stays : SectionKey → Bool)
+        → AreJoined project layout stays placed.now (shown_sections sections.now) offsets.now (map vec_items pieces.now)
+        (map (λ run. run.now) runs.now) → AllZip (IsOutput project layout stays) layout.sections v.items) }
 {
     let mut outputs = Vec::with_capacity(alloc, placed.len())?;
     for (number, place) in placed.iter().enumerate() {
@@ -123,10 +123,10 @@ pub(crate) fn outputs<'a>(
     link_layout: &'a LinkLayout,
     pieces: &'a [Vec<ImagePiece<'a>>],
 ) -> Result<Vec<OutputDrawing<'a>>, NoMemory>
-    ensures { IfOk result (λ v. (layout : Layout) (known : Known)
+    ensures { IfOk result (λ v. (layout : Layout) (stays : SectionKey → Bool)
         → IsLinkLayout project.now layout link_layout.now
-        → AllZip (IsJoinedRow project.now layout known) layout.sections (map vec_items pieces.now)
-        → AllZip (IsOutput project.now layout known) layout.sections v.items) }
+        → AllZip (IsJoinedRow project.now layout stays) layout.sections (map vec_items pieces.now)
+        → AllZip (IsOutput project.now layout stays) layout.sections v.items) }
 {
     // for the prover: bring in these laws
     layout_by_effects();

@@ -1,13 +1,13 @@
 //! The parts of a drawing, of the output sections of a link.
 
-ghost use Rattle.std.specs.Prelude.{◌≡◌, ◌++◌, ◌∷◌, [], IfOk, OnOk, List};
+ghost use Rattle.std.specs.Prelude.{◌≡◌, ◌++◌, ◌∷◌, [], Bool, IfOk, OnOk, List};
 ghost use Rattle.std.specs.List.{AllZip};
 ghost use Rattle.ldmodel_laws.specs.ImageBytes.{AreNamed};
 ghost use Rattle.ldmodel.specs.Layout.{Layout, PlacedOutput};
 ghost use Rattle.ldmodel.specs.Project.{Project};
+ghost use Rattle.ldmodel.specs.declared.sections.SectionKey.{SectionKey};
 ghost use Rattle.emit_image.specs.Tables.{IsTableSection};
 ghost use Rattle.emit.specs.Drawable.{AreOutputs};
-ghost use Rattle.emit.specs.Known.{Known};
 ghost use Rattle.emit.specs.Output.{AreDrawn, AreDrawnOf, IsDrawn, IsOutput};
 ghost use Rattle.emit.specs.Parts.{ArePartsOf};
 
@@ -30,8 +30,8 @@ const PAST_OFFSETS: u128 = 1 << 64;
 
 /// An output section, with what its header is made of.
 fn table_section<'a>(output: &OutputDrawing<'a>) -> TableSection<'a>
-    ensures { (project : Project) (layout : Layout) (known : Known) (q : PlacedOutput)
-        → IsOutput project layout known q output.now → IsTableSection layout q result }
+    ensures { (project : Project) (layout : Layout) (stays : SectionKey → Bool) (q : PlacedOutput)
+        → IsOutput project layout stays q output.now → IsTableSection layout q result }
 {
     TableSection {
         name: output.name,
@@ -45,8 +45,8 @@ fn table_sections<'a>(
     alloc: Global,
     outputs: &[OutputDrawing<'a>],
 ) -> Result<Vec<TableSection<'a>>, NoMemory>
-    ensures { IfOk result (λ v. (project : Project) (layout : Layout) (known : Known)
-        → AllZip (IsOutput project layout known) layout.sections outputs.now
+    ensures { IfOk result (λ v. (project : Project) (layout : Layout) (stays : SectionKey → Bool)
+        → AllZip (IsOutput project layout stays) layout.sections outputs.now
         → AllZip (IsTableSection layout) layout.sections v.items) }
 {
     let mut sections = Vec::with_capacity(alloc, outputs.len())?;
@@ -58,8 +58,8 @@ fn table_sections<'a>(
 
 /// An output section as it is drawn. Fails where it begins past any file.
 fn image_section<'a>(output: &OutputDrawing<'a>) -> Result<ImageSection<'a>, NoMemory>
-    ensures { IfOk result (λ y. (project : Project) (layout : Layout) (known : Known) (q : PlacedOutput)
-        → IsOutput project layout known q output.now → IsDrawn project layout known q y) }
+    ensures { IfOk result (λ y. (project : Project) (layout : Layout) (stays : SectionKey → Bool) (q : PlacedOutput)
+        → IsOutput project layout stays q output.now → IsDrawn project layout stays q y) }
 {
     match u64::try_from(output.offset) {
         // No file is longer than 2^64 bytes
@@ -80,10 +80,10 @@ fn add_section<'a>(
     sections: &mut Vec<ImageSection<'a>>,
     output: &OutputDrawing<'a>,
 ) -> Result<(), NoMemory>
-    ensures { OnOk result ((project : Project) (layout : Layout) (known : Known) (q : PlacedOutput)
-        (qs : List PlacedOutput) → IsOutput project layout known q output.now
-        → AreDrawnOf project layout known qs sections.old.items
-        → AreDrawnOf project layout known (qs ++ q ∷ []) sections.new.items) }
+    ensures { OnOk result ((project : Project) (layout : Layout) (stays : SectionKey → Bool) (q : PlacedOutput)
+        (qs : List PlacedOutput) → IsOutput project layout stays q output.now
+        → AreDrawnOf project layout stays qs sections.old.items
+        → AreDrawnOf project layout stays (qs ++ q ∷ []) sections.new.items) }
 {
     if output.placed.size == 0 || !output.placed.has_file_bytes {
         return Ok(());
@@ -98,9 +98,9 @@ fn image_sections<'a>(
     alloc: Global,
     outputs: &[OutputDrawing<'a>],
 ) -> Result<Vec<ImageSection<'a>>, NoMemory>
-    ensures { IfOk result (λ v. (project : Project) (layout : Layout) (known : Known)
+    ensures { IfOk result (λ v. (project : Project) (layout : Layout) (stays : SectionKey → Bool)
         → AreNamed layout.sections
-        → AllZip (IsOutput project layout known) layout.sections outputs.now → AreDrawn project layout known v.items) }
+        → AllZip (IsOutput project layout stays) layout.sections outputs.now → AreDrawn project layout stays v.items) }
 {
     // for the prover: brings in this law
     segments_by_neighbours();
@@ -134,9 +134,9 @@ pub(crate) fn drawing_parts<'a>(
     values: &Values<'_>,
     outputs: &[OutputDrawing<'a>],
 ) -> Result<ImageParts<'a>, NoMemory>
-    ensures { IfOk result (λ x. (layout : Layout) (known : Known)
-        → AreOutputs project.now indexed_layout.now values.now layout known outputs.now
-        → ArePartsOf project.now layout known x) }
+    ensures { IfOk result (λ x. (layout : Layout) (stays : SectionKey → Bool)
+        → AreOutputs project.now indexed_layout.now values.now layout stays outputs.now
+        → ArePartsOf project.now layout stays x) }
 {
     let segments = indexed_layout.link_layout.segments.as_slice();
     let symbols = symbol_tables(alloc, values)?;

@@ -1,7 +1,7 @@
 //! Input sections as they are drawn.
 
 ghost use Rattle.std.specs.Prelude.{◌≡◌, ◌≢◌, ◌<◌, ◌≤◌, ◌++◌, ◌∷◌, [], ℕ, All, Bool, IfNone, IfOk, IfSome, List};
-ghost use Rattle.std.specs.Prelude.{None, OnOk, Option, Some, ◌⊎◌, false};
+ghost use Rattle.std.specs.Prelude.{OnOk, Some, false};
 ghost use Rattle.std.specs.Prelude.{is_some, length, map, slice_get};
 ghost use Rattle.std.specs.List.{AllZip};
 ghost use Rattle.std.specs.Vec.{vec_items};
@@ -19,8 +19,6 @@ ghost use Rattle.symres.specs.SymbolTable.{SymbolTableState};
 ghost use Rattle.ldmodel_project.specs.ByPlace.{piece_in, rows_in};
 ghost use Rattle.emit_relocate.specs.KnownLink.{KnownLink};
 ghost use Rattle.emit_values.specs.LinkView.{known_link};
-ghost use Rattle.emit.specs.Known.{AreMovedIn};
-ghost use Rattle.emit.specs.Moved.{IsCanvas, IsFielded, IsSourceOf};
 ghost use Rattle.emit.specs.Output.{IsJoinedRow};
 ghost use Rattle.emit.specs.Pieces.{AreRowsAt, AreSources, IsDrawnPiece, IsPlacedAt, IsRowAt, IsRowPiece};
 ghost use Rattle.emit.specs.Pieces.{IsSectionPiece};
@@ -54,7 +52,7 @@ struct PieceAt<'a> {
 /// An input section of `size` zeros at an address.
 fn zeros<'a>(size: u64, start: u64) -> ImagePiece<'a>
     ensures { (result.start ≡ start) × (result.size ≡ size) × (result.bytes.now ≡ []) × (result.fields.now ≡ [])
-        × (result.stays ≡ false) × (result.from ≡ None) }
+        × (result.stays ≡ false) }
 {
     ImagePiece {
         start,
@@ -62,7 +60,6 @@ fn zeros<'a>(size: u64, start: u64) -> ImagePiece<'a>
         bytes: &[],
         fields: &[],
         stays: false,
-        from: None,
     }
 }
 
@@ -102,7 +99,7 @@ fn section_piece<'a>(
     start: u64,
 ) -> ImagePiece<'a>
     requires { index.0 < length object.now.sections }
-    ensures piece { (link : KnownLink) (stays : KeyOf → Bool) (o : NamedObject) (section : LinkedSection)
+    ensures { (link : KnownLink) (stays : KeyOf → Bool) (o : NamedObject) (section : LinkedSection)
         (w : PlacedPiece)
         → AreSources link stays indexed_layout.now relocated.now → slice_get link.project.objects key.0 ≡ Some o
         → o.object ≡ object.now
@@ -110,14 +107,6 @@ fn section_piece<'a>(
         → stays (record { object = key; part = part.InTable section.number }) ≡ false
         → placed_part link.layout o.name (part.InTable section.number) ≡ Some w → w.start ≡ start → section.size ≡ size
         → IsSectionPiece link o section size start result }
-    ensures fielded { (link : KnownLink) (stays : KeyOf → Bool) (o : NamedObject) (section : LinkedSection)
-        (w : PlacedPiece)
-        → AreSources link stays indexed_layout.now relocated.now → slice_get link.project.objects key.0 ≡ Some o
-        → o.object ≡ object.now
-        → slice_get o.object.sections index.0 ≡ Some section
-        → stays (record { object = key; part = part.InTable section.number }) ≡ false
-        → placed_part link.layout o.name (part.InTable section.number) ≡ Some w → w.start ≡ start
-        → (result.bytes.now ≡ []) ⊎ IsFielded link o section start result }
 {
     let section = section_at(object, index);
     // for the prover: brings in the invariant of `object`, of its sections
@@ -134,7 +123,6 @@ fn section_piece<'a>(
                 bytes,
                 fields,
                 stays: false,
-                from: None,
             },
         },
     }
@@ -150,16 +138,11 @@ fn drawn_piece<'a>(
     at: PieceAt<'_>,
     likely: &mut usize,
 ) -> ImagePiece<'a>
-    ensures drawn { (link : KnownLink) (stays : KeyOf → Bool) (w : PlacedPiece)
+    ensures { (link : KnownLink) (stays : KeyOf → Bool) (w : PlacedPiece)
         → link.project ≡ project.now → AreSources link stays indexed_layout.now relocated.now
         → stays at.entry.piece.now.section ≡ false
         → IsPlacedAt project.now link.layout (piece_in project.now at.entry.piece.now) at.entry.start w
         → IsDrawnPiece link.project link.layout w result }
-    ensures source { (link : KnownLink) (stays : KeyOf → Bool) (w : PlacedPiece)
-        → link.project ≡ project.now → AreSources link stays indexed_layout.now relocated.now
-        → stays at.entry.piece.now.section ≡ false
-        → IsPlacedAt project.now link.layout (piece_in project.now at.entry.piece.now) at.entry.start w
-        → IsSourceOf link at.entry.piece.now.section at.entry.start result }
 {
     // for the prover: brings in the invariant of `project`
     let _inputs = project.inputs();
@@ -212,8 +195,7 @@ fn has_stayed<E: PreviousLinkInfo>(previous: &E, piece: &Piece) -> bool
 }
 
 /// Adds an entry of a row at an address: one that stays is joined to the one before it, where that stays too and no gap
-/// lies between; one that lay elsewhere in the previous link is moved from there. `likely` is as in `drawn_piece`.
-/// Fails if memory runs out.
+/// lies between. `likely` is as in `drawn_piece`. Fails if memory runs out.
 fn add_entry<'a, E: PreviousLinkInfo>(
     pieces: &mut Vec<ImagePiece<'a>>,
     project: &'a ProjectView<'_>,
@@ -223,24 +205,18 @@ fn add_entry<'a, E: PreviousLinkInfo>(
     at: PieceAt<'_>,
     likely: &mut usize,
 ) -> Result<(), NoMemory>
-    ensures row { OnOk result ((link : KnownLink) (w : PlacedPiece) (whole : List Drawn) → link.project ≡ project.now
+    ensures { OnOk result ((link : KnownLink) (w : PlacedPiece) (whole : List Drawn) → link.project ≡ project.now
         → AreSources link (λ k. is_some (E.range previous.now k)) indexed_layout.now relocated.now
         → IsPlacedAt project.now link.layout (piece_in project.now at.entry.piece.now) at.entry.start w
         → StandFor whole pieces.old.items
         → (y : Drawn) × IsRowPiece link.project link.layout (λ k. is_some (E.range previous.now k)) w y
         × StandFor (whole ++ y ∷ []) pieces.new.items) }
-    ensures moved { OnOk result ((link : KnownLink) (w : PlacedPiece) (canvas : Option (Option (List ℕ)))
-        → link.project ≡ project.now
-        → AreSources link (λ k. is_some (E.range previous.now k)) indexed_layout.now relocated.now
-        → IsPlacedAt project.now link.layout (piece_in project.now at.entry.piece.now) at.entry.start w
-        → IsCanvas (E.origin previous.now) link canvas → AreMovedIn canvas pieces.old.items
-        → AreMovedIn canvas pieces.new.items) }
 {
     if has_stayed(previous, at.piece) {
         return add_kept(pieces, at.piece.size, at.start);
     }
     let drawn = drawn_piece(project, relocated, indexed_layout, at, likely);
-    add_drawn(pieces, drawn, previous.origin(at.piece.section))
+    add_drawn(pieces, drawn)
 }
 
 /// Adds an entry of a row at an address, as `add_entry` does, unless it is empty: nothing of it lies in the image.
@@ -254,18 +230,12 @@ fn add_unless_empty<'a, E: PreviousLinkInfo>(
     at: PieceAt<'_>,
     likely: &mut usize,
 ) -> Result<(), NoMemory>
-    ensures row { OnOk result ((link : KnownLink) (w : PlacedPiece) (whole : List Drawn) → link.project ≡ project.now
+    ensures { OnOk result ((link : KnownLink) (w : PlacedPiece) (whole : List Drawn) → link.project ≡ project.now
         → AreSources link (λ k. is_some (E.range previous.now k)) indexed_layout.now relocated.now
         → IsPlacedAt project.now link.layout (piece_in project.now at.entry.piece.now) at.entry.start w
         → StandFor whole pieces.old.items
         → (y : Drawn) × IsRowPiece link.project link.layout (λ k. is_some (E.range previous.now k)) w y
         × StandFor (whole ++ y ∷ []) pieces.new.items) }
-    ensures moved { OnOk result ((link : KnownLink) (w : PlacedPiece) (canvas : Option (Option (List ℕ)))
-        → link.project ≡ project.now
-        → AreSources link (λ k. is_some (E.range previous.now k)) indexed_layout.now relocated.now
-        → IsPlacedAt project.now link.layout (piece_in project.now at.entry.piece.now) at.entry.start w
-        → IsCanvas (E.origin previous.now) link canvas → AreMovedIn canvas pieces.old.items
-        → AreMovedIn canvas pieces.new.items) }
 {
     let piece = at.piece;
     if piece.size == 0 {
@@ -303,12 +273,10 @@ fn image_row<'a, E: PreviousLinkInfo>(
     row: &[Piece],
     starts: &[u64],
 ) -> Result<Vec<ImagePiece<'a>>, NoMemory>
-    ensures { IfOk result (λ v. (link : KnownLink) (output : PlacedOutput) (canvas : Option (Option (List ℕ)))
-        → link.project ≡ project.now
+    ensures { IfOk result (λ v. (link : KnownLink) (output : PlacedOutput) → link.project ≡ project.now
         → AreSources link (λ k. is_some (E.range previous.now k)) indexed_layout.now relocated.now
         → IsRowAt project.now link.layout (map (piece_in project.now) row.now) starts.now output
-        → IsCanvas (E.origin previous.now) link canvas → IsJoinedRow link.project link.layout
-        (record { stays = λ k. is_some (E.range previous.now k); canvas = canvas }) output v.items) }
+        → IsJoinedRow link.project link.layout (λ k. is_some (E.range previous.now k)) output v.items) }
 {
     let mut pieces = Vec::with_capacity(alloc, row.len())?;
     let mut likely: usize = 0;
@@ -344,11 +312,10 @@ fn image_rows<'a, E: PreviousLinkInfo>(
     previous: &E,
     starts: &[u64],
 ) -> Result<Vec<Vec<ImagePiece<'a>>>, NoMemory>
-    ensures { IfOk result (λ v. (link : KnownLink) (canvas : Option (Option (List ℕ))) → link.project ≡ project.now
+    ensures { IfOk result (λ v. (link : KnownLink) → link.project ≡ project.now
         → AreSources link (λ k. is_some (E.range previous.now k)) indexed_layout.now relocated.now
         → AreRowsAt project.now link.layout (rows_in project.now indexed_layout.now.rows.items) starts.now
-        → IsCanvas (E.origin previous.now) link canvas → AllZip (IsJoinedRow link.project link.layout
-        (record { stays = λ k. is_some (E.range previous.now k); canvas = canvas })) link.layout.sections
+        → AllZip (IsJoinedRow link.project link.layout (λ k. is_some (E.range previous.now k))) link.layout.sections
         (map vec_items v.items)) }
 {
     let mut pieces = Vec::with_capacity(alloc, indexed_layout.rows.len())?;
@@ -371,7 +338,7 @@ fn image_rows<'a, E: PreviousLinkInfo>(
 }
 
 /// The input sections of each output section, in their order; those that a previous link says have stayed stay, and are
-/// joined where no gap lies between; those that it says lay elsewhere are moved from there.
+/// joined where no gap lies between.
 ///
 /// # Errors
 ///
@@ -383,13 +350,11 @@ pub(crate) fn image_pieces<'a, E: PreviousLinkInfo>(
     relocated: &'a Relocated,
     previous: &E,
 ) -> Result<Vec<Vec<ImagePiece<'a>>>, NoMemory>
-    ensures { IfOk result (λ v. (layout : Layout) (table : SymbolTableState) (canvas : Option (Option (List ℕ)))
+    ensures { IfOk result (λ v. (layout : Layout) (table : SymbolTableState)
         → IsIndexedLayout project.now layout indexed_layout.now
         → AreRunsUnless (known_link project.now layout table) (λ k. is_some (E.range previous.now k))
         relocated.now.patches.items relocated.now.ends.items
-        → IsCanvas (E.origin previous.now) (known_link project.now layout table) canvas
-        → AllZip (IsJoinedRow project.now layout
-        (record { stays = λ k. is_some (E.range previous.now k); canvas = canvas })) layout.sections
+        → AllZip (IsJoinedRow project.now layout (λ k. is_some (E.range previous.now k))) layout.sections
         (map vec_items v.items)) }
 {
     // for the prover: bring in these laws

@@ -23,7 +23,7 @@ pub sections-end : (from : ℕ) (xs : List ImageSection) → AreSections from xs
 sections-end from [] h = omega arith
 sections-end from (y ∷ ys) h = let later = sections-end (file_end y) ys h.2 in omega (arith, h.0)
 
-pub sections-low : (from : ℕ) (xs : List ImageSection) (i : ℕ) (d : ImageSection) → AreSections from xs → i < length xs
+sections-low : (from : ℕ) (xs : List ImageSection) (i : ℕ) (d : ImageSection) → AreSections from xs → i < length xs
     → from ≤ (get_or xs i d).offset
 sections-low from [] i d h l = absurd (omega arith)
 sections-low from (y ∷ ys) zero d h l = h.0
@@ -61,7 +61,7 @@ parts-order from (y ∷ ys) (suc i) zero d e h l m = absurd (omega arith)
 parts-order from (y ∷ ys) (suc i) (suc j) d e h l m =
     parts-order (part_end y) ys i j d e h.2 (omega arith) (omega arith)
 
-pub not_below : (o n : ℕ) → n ≤ o → nat_lt o n ≡ false
+not_below : (o n : ℕ) → n ≤ o → nat_lt o n ≡ false
 not_below o n h = grind (arith, nat_tests)
 
 below : (o n : ℕ) → o < n → nat_lt o n ≡ true

@@ -77,7 +77,7 @@ pub pieces-end : (from end : ℕ) (xs : List ImagePiece) → ArePieces from end 
 pieces-end from end [] h = h
 pieces-end from end (y ∷ ys) h = let later = pieces-end (piece_end y) end ys h.1 in omega (arith, h.0)
 
-pub pieces-low : (from end : ℕ) (xs : List ImagePiece) (i : ℕ) (d : ImagePiece) → ArePieces from end xs → i < length xs
+pieces-low : (from end : ℕ) (xs : List ImagePiece) (i : ℕ) (d : ImagePiece) → ArePieces from end xs → i < length xs
     → from ≤ (get_or xs i d).start
 pieces-low from end [] i d h l = absurd (omega arith)
 pieces-low from end (y ∷ ys) zero d h l = h.0

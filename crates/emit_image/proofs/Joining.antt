@@ -1,8 +1,8 @@
--- Input sections that stay, joined to those before them, and others that are moved.
+-- Input sections that stay, joined to those before them.
 use Rattle.std.proofs.Common.{◌≡◌, ◌∙◌, ◌+◌, ◌-◌, ◌<◌, ◌≤◌, ◌⊎◌, inl, inr, ℕ, zero, suc, List, [], ◌∷◌, ◌++◌, length}
 use Rattle.std.proofs.Common.{map, filter, find, get_or, max, Option, Some, None, Bool, true, false, cond, not, ap, sym}
 use Rattle.std.proofs.Common.{refl, subst, take, arith}
-use Rattle.std.specs.Prelude.{nat_le, slice_set, ◌==◌, ◌||◌, ◌&&◌, is_some, sum_by}
+use Rattle.std.specs.Prelude.{nat_le, slice_set, ◌==◌, ◌||◌}
 use Rattle.std.specs.List.{All}
 use Rattle.std.specs.Option.{option_map, option_or}
 use Rattle.std.proofs.lemmas.Bool.{cases_lt, true≢false}
@@ -10,7 +10,7 @@ use Rattle.std.proofs.lemmas.Bool.Decides.{nat_tests}
 use Rattle.std.proofs.lemmas.List.{map-append}
 use Rattle.std.proofs.lemmas.List.Elements.{filter-append}
 use Rattle.std.proofs.lemmas.List.Folds.{find-append}
-use Rattle.std.proofs.lemmas.List.Sums.{fold-append, sum_by_push}
+use Rattle.std.proofs.lemmas.List.Sums.{fold-append}
 use Rattle.emit_fields.specs.Patches.{AreInOrder, patched_byte}
 use Rattle.emit_fields.specs.declared.patch.Patch.{Patch}
 use Rattle.ldmodel.specs.Each.{Each}
@@ -18,9 +18,7 @@ use Rattle.ldmodel.specs.Image.{covers}
 use Rattle.ldmodel.specs.declared.placed.PlacedData.{PlacedData}
 use Rattle.emit_image.specs.Drawing.{AreApart, ArePieces, IsFilled, covers_piece, data_end, is_full, last_end}
 use Rattle.emit_image.specs.Drawing.{piece_end}
-use Rattle.emit_image.specs.Joined.{IsBare, IsKeptAt, IsWhole, StandFor, piece_ends, piece_spot, rest_size, rests}
-use Rattle.emit_image.specs.Joined.{spot_in}
-use Rattle.emit_image.specs.Moves.{IsMovedFrom, IsSource}
+use Rattle.emit_image.specs.Joined.{IsBare, IsKeptAt, StandFor, piece_ends, piece_spot, spot_in}
 use Rattle.emit_image.specs.Stretches.{Spot}
 use Rattle.emit_image.specs.declared.section.ImagePiece.{ImagePiece}
 use Rattle.emit_image.proofs.Found.{covered, not_covered}
@@ -97,40 +95,10 @@ no_spot : (a b : Option Spot) → option_or a b ≡ None → (a ≡ None) × (b 
 no_spot None b e = (refl, e)
 no_spot (Some z) b e = absurd (let none : ⊥ = cc in none)
 
--- ---- what is moved
-
-abbrev pub IsUnmoved : ImagePiece → Type 0
-IsUnmoved x = x.from ≡ None
-
-pub unmoved_whole : (x : ImagePiece) → x.from ≡ None → IsWhole x
-unmoved_whole x e m = absurd (true≢false (sym m ∙ ap is_some e))
-
--- one that is not moved stays in its place where it stays
-pub rests_unmoved : (x : ImagePiece) → x.from ≡ None → rests x ≡ x.stays
-rests_unmoved x e = ap (λ m. x.stays && not (is_some m)) e ∙ and_true x.stays
-  where
-    and_true : (b : Bool) → (b && true) ≡ b
-    and_true true = refl
-    and_true false = refl
-
-rest_kept : (start size : ℕ) (x : ImagePiece) → IsKeptAt start size x → rest_size x ≡ size
-rest_kept start size x h =
-    ap (λ b. cond b x.size 0) (rests_unmoved x h.from ∙ h.stays) ∙ h.size_is
-
-more_rested : (whole ys : List ImagePiece) (x y : ImagePiece) → sum_by rest_size ys ≡ sum_by rest_size whole
-    → rest_size y ≡ rest_size x → sum_by rest_size (ys ++ y ∷ []) ≡ sum_by rest_size (whole ++ x ∷ [])
-more_rested whole ys x y h e =
-    let left = sum_by_push rest_size ys y in
-    let right = sum_by_push rest_size whole x in
-    omega (arith, left, right, h, e)
-
 -- ---- nothing yet, and one more that is not joined
 
 pub stand_none : StandFor [] []
 stand_none = record {
-  unmoved = tt;
-  moved = tt;
-  rested = refl;
   bare = tt;
   spots = λ at. refl;
   ends = λ at from none. refl;
@@ -139,17 +107,14 @@ stand_none = record {
   apart = λ ds h. h;
 }
 
-pub stand_more : (whole ys : List ImagePiece) (x : ImagePiece) → StandFor whole ys → IsBare x → x.from ≡ None
+pub stand_more : (whole ys : List ImagePiece) (x : ImagePiece) → StandFor whole ys → IsBare x
     → StandFor (whole ++ x ∷ []) (ys ++ x ∷ [])
-stand_more whole ys x h bare none = record {
-  unmoved = each_more IsUnmoved whole x h.unmoved none;
-  moved = each_more IsWhole ys x h.moved (unmoved_whole x none);
-  rested = more_rested whole ys x x h.rested refl;
+stand_more whole ys x h bare = record {
   bare = each_more IsBare ys x h.bare bare;
   spots = λ at.
       spots_more ys x at ∙ ap (λ a. option_or a (spot_in (x ∷ []) at)) (h.spots at) ∙ sym (spots_more whole x at);
-  ends = λ at from bare_at.
-      let before = no_spot (spot_in whole at) (spot_in (x ∷ []) at) (sym (spots_more whole x at) ∙ bare_at) in
+  ends = λ at from none.
+      let before = no_spot (spot_in whole at) (spot_in (x ∷ []) at) (sym (spots_more whole x at) ∙ none) in
       last_more ys x at from ∙ ap (λ n. last_end at n (piece_ends (x ∷ []))) (h.ends at from before.0)
       ∙ sym (last_more whole x at from);
   order = λ from end order.
@@ -164,95 +129,6 @@ stand_more whole ys x h bare none = record {
       are_apart (ys ++ x ∷ []) ds
       (each_more (Apart ds) ys x (each_apart ys ds (h.apart ds (are_apart whole ds parts.0))) parts.1);
 }
-
--- one that is drawn, but moved in the other list
-module _ (whole ys : List ImagePiece) (x : ImagePiece) (place : ℕ) (h : StandFor whole ys) (drawn : x.stays ≡ false)
-    (none : x.from ≡ None) (full : length x.bytes.now ≡ x.size) where
-  abbrev pub moved_one : ImagePiece
-  moved_one = record x { stays = true; from = Some place }
-
-  rests_no : rests x ≡ false
-  rests_no = rests_unmoved x none ∙ drawn
-
-  same_spot : (at : ℕ) → spot_in (moved_one ∷ []) at ≡ spot_in (x ∷ []) at
-  same_spot at = go (covers x.start x.size at)
-    where
-      go : (b : Bool) → option_map (piece_spot at) (cond b (Some moved_one) None)
-          ≡ option_map (piece_spot at) (cond b (Some x) None)
-      go true =
-          ap (λ (s : Bool). Some (record { byte = patched_byte x.bytes.now x.fields.now (at - x.start); stays = s }))
-          (sym rests_no)
-      go false = refl
-
-  same_end : (at n : ℕ) → last_end at n (piece_ends (moved_one ∷ [])) ≡ last_end at n (piece_ends (x ∷ []))
-  same_end at n = go (is_full x)
-    where
-      go : (b : Bool) → last_end at n (map piece_end (cond b (moved_one ∷ []) []))
-          ≡ last_end at n (map piece_end (cond b (x ∷ []) []))
-      go true = refl
-      go false = refl
-
-  pub stand_moved : StandFor (whole ++ x ∷ []) (ys ++ moved_one ∷ [])
-  stand_moved = record {
-    unmoved = each_more IsUnmoved whole x h.unmoved none;
-    moved = each_more IsWhole ys moved_one h.moved (λ _. (refl, full));
-    rested = more_rested whole ys x moved_one h.rested (ap (λ b. cond b x.size 0) (sym rests_no));
-    bare = each_more IsBare ys moved_one h.bare (λ e. absurd (true≢false (sym e)));
-    spots = λ at.
-        spots_more ys moved_one at ∙ ap (option_or (spot_in ys at)) (same_spot at)
-        ∙ ap (λ a. option_or a (spot_in (x ∷ []) at)) (h.spots at) ∙ sym (spots_more whole x at);
-    ends = λ at from bare.
-        let before = no_spot (spot_in whole at) (spot_in (x ∷ []) at) (sym (spots_more whole x at) ∙ bare) in
-        last_more ys moved_one at from ∙ same_end at (last_end at from (piece_ends ys))
-        ∙ ap (λ n. last_end at n (piece_ends (x ∷ []))) (h.ends at from before.0)
-        ∙ sym (last_more whole x at from);
-    order = λ from end order.
-        let parts = pieces_parts from end whole x order in
-        pieces_more from end ys moved_one (h.order from x.start parts.0) parts.1;
-    filled = λ filled.
-        let parts = each_parts IsFilled whole x (each_of IsFilled (whole ++ x ∷ []) filled) in
-        all_of IsFilled (ys ++ moved_one ∷ [])
-        (each_more IsFilled ys moved_one (each_of IsFilled ys (h.filled (all_of IsFilled whole parts.0))) parts.1);
-    apart = λ ds apart.
-        let parts = each_parts (Apart ds) whole x (each_apart (whole ++ x ∷ []) ds apart) in
-        are_apart (ys ++ moved_one ∷ []) ds
-        (each_more (Apart ds) ys moved_one (each_apart ys ds (h.apart ds (are_apart whole ds parts.0))) parts.1);
-  }
-
-pub stand_drawn : (whole ys : List ImagePiece) (x y : ImagePiece) (from : Option ℕ) → StandFor whole ys
-    → x.stays ≡ false → x.from ≡ None
-    → (y ≡ x) ⊎ ((y ≡ record x { stays = true; from = from }) × (is_some from ≡ true) × (length x.bytes.now ≡ x.size))
-    → StandFor (whole ++ x ∷ []) (ys ++ y ∷ [])
-stand_drawn whole ys x y from h drawn none (inl same) =
-    subst (λ z. StandFor (whole ++ x ∷ []) (ys ++ z ∷ [])) (sym same)
-    (stand_more whole ys x h (λ e. absurd (true≢false (sym e ∙ rests_unmoved x none ∙ drawn))) none)
-stand_drawn whole ys x y None h drawn none (inr is) = absurd (true≢false (sym is.1))
-stand_drawn whole ys x y (Some place) h drawn none (inr is) =
-    subst (λ z. StandFor (whole ++ x ∷ []) (ys ++ z ∷ [])) (sym is.0) (stand_moved whole ys x place h drawn none is.2)
-
--- ---- where those are moved from that are added
-
-pub moved_more : (canvas : Option (List ℕ)) (ys : List ImagePiece) (y : ImagePiece) → Each (IsMovedFrom canvas) ys
-    → IsMovedFrom canvas y → Each (IsMovedFrom canvas) (ys ++ y ∷ [])
-moved_more canvas ys y h own = each_more (IsMovedFrom canvas) ys y h own
-
-pub no_source : (canvas : Option (List ℕ)) (y : ImagePiece) → y.from ≡ None → IsMovedFrom canvas y
-no_source None y e = e
-no_source (Some canvas) y e = λ place is. absurd (let none : ⊥ = cc in none)
-
-pub moved_drawn : (canvas : Option (List ℕ)) (ys : List ImagePiece) (x y : ImagePiece) (from : Option ℕ)
-    → Each (IsMovedFrom canvas) ys → IsMovedFrom canvas x → IsSource canvas from x.bytes.now x.fields.now
-    → (y ≡ x) ⊎ ((y ≡ record x { stays = true; from = from }) × (is_some from ≡ true) × (length x.bytes.now ≡ x.size))
-    → Each (IsMovedFrom canvas) (ys ++ y ∷ [])
-moved_drawn canvas ys x y from h own source (inl same) =
-    moved_more canvas ys y h (subst (IsMovedFrom canvas) (sym same) own)
-moved_drawn canvas ys x y from h own source (inr is) =
-    moved_more canvas ys y h (subst (IsMovedFrom canvas) (sym is.0) (at canvas source))
-  where
-    at : (canvas : Option (List ℕ)) → IsSource canvas from x.bytes.now x.fields.now
-        → IsMovedFrom canvas (record x { stays = true; from = from })
-    at None source = source
-    at (Some canvas) source = source
 
 -- ---- one more that is empty, and not in the list
 
@@ -274,21 +150,9 @@ or_none : (a : Option Spot) → option_or a None ≡ a
 or_none None = refl
 or_none (Some z) = refl
 
-no_rest : (x : ImagePiece) → x.size ≡ 0 → rest_size x ≡ 0
-no_rest x none = go (rests x)
-  where
-    go : (b : Bool) → cond b x.size 0 ≡ 0
-    go true = none
-    go false = refl
-
-pub stand_empty : (whole ys : List ImagePiece) (x : ImagePiece) → StandFor whole ys → x.size ≡ 0 → x.from ≡ None
+pub stand_empty : (whole ys : List ImagePiece) (x : ImagePiece) → StandFor whole ys → x.size ≡ 0
     → StandFor (whole ++ x ∷ []) ys
-stand_empty whole ys x h none unmoved = record {
-  unmoved = each_more IsUnmoved whole x h.unmoved unmoved;
-  moved = h.moved;
-  rested = (let sum = sum_by_push rest_size whole x in
-      let own = no_rest x none in
-      omega (arith, sum, own, h.rested));
+stand_empty whole ys x h none = record {
   bare = h.bare;
   spots = λ at.
       h.spots at
@@ -318,8 +182,8 @@ bare_byte bytes fields i e f = ap (λ b. patched_byte b fields i) e ∙ ap (λ r
 spot_of : (at start size : ℕ) (x : ImagePiece) → IsKeptAt start size x → piece_spot at x ≡ kept_spot
 spot_of at start size x h =
     let spot : ℕ → Bool → Spot = λ n b. record { byte = n; stays = b } in
-    ap (λ n. spot n (rests x)) (bare_byte x.bytes.now x.fields.now (at - x.start) h.bytes h.fields)
-    ∙ ap (spot 0) (rests_unmoved x h.from ∙ h.stays)
+    ap (λ n. spot n x.stays) (bare_byte x.bytes.now x.fields.now (at - x.start) h.bytes h.fields)
+    ∙ ap (spot 0) h.stays
 
 one_spot : (at start size : ℕ) (x : ImagePiece) → IsKeptAt start size x → spot_in (x ∷ []) at
     ≡ cond (covers start size at) (Some kept_spot) None
@@ -526,15 +390,6 @@ module _ (whole ys : List ImagePiece) (y x z : ImagePiece) (s a b : ℕ) (h : St
 
   pub stand_joined : StandFor (whole ++ x ∷ []) (ys ++ z ∷ [])
   stand_joined = record {
-    unmoved = each_more IsUnmoved whole x h.unmoved next.from;
-    moved = each_more IsWhole ys z (each_parts IsWhole ys y h.moved).0 (unmoved_whole z both.from);
-    rested = (let before = sum_by_push rest_size ys y in
-        let after = sum_by_push rest_size ys z in
-        let all = sum_by_push rest_size whole x in
-        let first = rest_kept s a y last in
-        let second = rest_kept (s + a) b x next in
-        let joined = rest_kept s (a + b) z both in
-        omega (arith, before, after, all, first, second, joined, h.rested));
     bare = each_more IsBare ys z (each_parts IsBare ys y h.bare).0 (λ _. (both.bytes, both.fields));
     spots = spots_joined;
     ends = ends_same;
@@ -560,33 +415,20 @@ set_last (x ∷ xs) (suc k) z l = ap (λ r. x ∷ r) (set_last xs k z (omega (ar
 
 -- the last of a list, joined with one that stays after it
 pub joined_last : (whole items : List ImagePiece) (k : ℕ) (y x z : ImagePiece) → StandFor whole items
-    → length items ≡ k + 1 → get_or items k y ≡ y → y.stays ≡ true → y.from ≡ None
-    → IsKeptAt (y.start + y.size) x.size x
+    → length items ≡ k + 1 → get_or items k y ≡ y → y.stays ≡ true → IsKeptAt (y.start + y.size) x.size x
     → z.start ≡ y.start → z.size ≡ y.size + x.size → z.bytes.now ≡ y.bytes.now → z.fields.now ≡ y.fields.now
-    → z.stays ≡ y.stays → z.from ≡ y.from → StandFor (whole ++ x ∷ []) (slice_set items k z)
-joined_last whole items k y x z h long at stays none next start size bytes fields same from =
+    → z.stays ≡ y.stays → StandFor (whole ++ x ∷ []) (slice_set items k z)
+joined_last whole items k y x z h long at stays next start size bytes fields same =
     let ys : List ImagePiece = take k items in
     let is : items ≡ ys ++ y ∷ [] = split_last items k y long ∙ ap (λ v. ys ++ v ∷ []) at in
     let own : StandFor whole (ys ++ y ∷ []) = subst (StandFor whole) is h in
-    let bare = (each_parts IsBare ys y own.bare).1 (rests_unmoved y none ∙ stays) in
+    let bare = (each_parts IsBare ys y own.bare).1 stays in
     subst (StandFor (whole ++ x ∷ [])) (sym (set_last items k z long))
     (stand_joined whole ys y x z y.start y.size x.size own
-    (record { start_is = refl; size_is = refl; bytes = bare.0; fields = bare.1; stays = stays; from = none })
-    next (record {
+    (record { start_is = refl; size_is = refl; bytes = bare.0; fields = bare.1; stays = stays }) next (record {
       start_is = start;
       size_is = size;
       bytes = bytes ∙ bare.0;
       fields = fields ∙ bare.1;
       stays = same ∙ stays;
-      from = from ∙ none;
     }))
-
-pub moved_last : (canvas : Option (List ℕ)) (items : List ImagePiece) (k : ℕ) (y z : ImagePiece)
-    → Each (IsMovedFrom canvas) items → length items ≡ k + 1 → get_or items k y ≡ y → z.from ≡ None
-    → Each (IsMovedFrom canvas) (slice_set items k z)
-moved_last canvas items k y z h long at none =
-    let ys : List ImagePiece = take k items in
-    let is : items ≡ ys ++ y ∷ [] = split_last items k y long ∙ ap (λ v. ys ++ v ∷ []) at in
-    subst (Each (IsMovedFrom canvas)) (sym (set_last items k z long))
-    (moved_more canvas ys z (each_parts (IsMovedFrom canvas) ys y (subst (Each (IsMovedFrom canvas)) is h)).0
-    (no_source canvas z none))

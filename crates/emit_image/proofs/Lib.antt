@@ -23,5 +23,3 @@ mod Spending
 pub mod Standing
 pub mod Together
 pub mod Unstayed
-pub mod Shifting
-pub mod Moving

@@ -97,10 +97,12 @@ abbrev pub kept_bytes : ImageSection → ℕ
 kept_bytes y = sum_by kept_size y.pieces.now
 
 module _ (y : ImageSection) (orderly : IsOrderly y) where
-  pub piece_found : (v : ImagePiece) (at : ℕ) → Contains y.pieces.now v → v.start ≤ at → at < piece_end v
-      → find (covers_piece at) y.pieces.now ≡ Some v
-  piece_found v at c low high =
+  piece_spot : (v : ImagePiece) (at : ℕ) → Contains y.pieces.now v → v.start ≤ at → at < piece_end v
+      → (section_spot y at).stays ≡ v.stays
+  unfolding section_spot
+  piece_spot v at c low high =
       let k : ℕ = c.0 in
+      let found : find (covers_piece at) y.pieces.now ≡ Some v =
       find-at (covers_piece at) y.pieces.now k v c.1 (λ i w l n.
       not_covered ((get_or y.pieces.now i w).start) ((get_or y.pieces.now i w).size) at (λ some.
       inl (let before : piece_end (get_or y.pieces.now i w) ≤ (get_or y.pieces.now k v).start =
@@ -108,13 +110,8 @@ module _ (y : ImageSection) (orderly : IsOrderly y) where
       let is : (get_or y.pieces.now k v).start ≡ v.start = ap (λ (t : ImagePiece). t.start) c.2 in
       omega (arith, before, is, low))))
       (subst (λ (t : ImagePiece). covers_piece at t ≡ true) (sym c.2) (covered v.start v.size at low high))
-      ∙ ap Some c.2
-
-  piece_spot : (v : ImagePiece) (at : ℕ) → Contains y.pieces.now v → v.start ≤ at → at < piece_end v
-      → (section_spot y at).stays ≡ v.stays
-  unfolding section_spot
-  piece_spot v at c low high =
-      ap (λ m. (spot_among y at m (find (covers_data at) y.data_commands.now)).stays) (piece_found v at c low high)
+      ∙ ap Some c.2 in
+      ap (λ m. (spot_among y at m (find (covers_data at) y.data_commands.now)).stays) found
 
   module _ (f : ℕ → Spot) (same : (o : ℕ) → y.offset ≤ o → o < y.offset + y.size → f o ≡ section_image y o) where
     abbrev place : ℕ → ℕ
@@ -162,22 +159,19 @@ module _ (d : Drawing) (h : IsDrawing d) where
   abbrev front : ℕ
   front = length d.headers.now
 
-  pub section_found : (y : ImageSection) (o : ℕ) → Contains d.sections.now y → y.offset ≤ o → o < y.offset + y.size
-      → find (covers_section o) d.sections.now ≡ Some y
-  section_found y o c low high =
+  in_place : (y : ImageSection) (o : ℕ) → Contains d.sections.now y → front ≤ o → y.offset ≤ o
+      → o < y.offset + y.size → drawing_spot d o ≡ section_image y o
+  in_place y o c past low high =
       let k : ℕ = c.0 in
-      find-at (covers_section o) d.sections.now k y c.1 (λ i w l n.
+      in_section d o y past
+      (find-at (covers_section o) d.sections.now k y c.1 (λ i w l n.
       not_covered ((get_or d.sections.now i w).offset) ((get_or d.sections.now i w).size) o (λ some.
       inl (let before : (get_or d.sections.now i w).offset + (get_or d.sections.now i w).size
       ≤ (get_or d.sections.now k y).offset = sections-order front d.sections.now i k w y h.sections l c.1 in
       let is : (get_or d.sections.now k y).offset ≡ y.offset = ap (λ (t : ImageSection). t.offset) c.2 in
       omega (arith, before, is, low))))
       (subst (λ (t : ImageSection). covers_section o t ≡ true) (sym c.2) (covered y.offset y.size o low high))
-      ∙ ap Some c.2
-
-  in_place : (y : ImageSection) (o : ℕ) → Contains d.sections.now y → front ≤ o → y.offset ≤ o
-      → o < y.offset + y.size → drawing_spot d o ≡ section_image y o
-  in_place y o c past low high = in_section d o y past (section_found y o c low high)
+      ∙ ap Some c.2)
 
   sections_spared : (from : ℕ) (ys : List ImageSection) → front ≤ from
       → ((y : ImageSection) → Contains ys y → Contains d.sections.now y) → AreSections from ys
@@ -194,8 +188,7 @@ module _ (d : Drawing) (h : IsDrawing d) where
       (sum_by kept_bytes ys)
       (spared_after (drawing_spot d) from y.offset (y.offset + y.size) (kept_bytes y) a.0 own) rest)
 
-  pub drawing_spared : count_unstayed (drawing_spot d) (drawing_end d) + sum_by kept_bytes d.sections.now
-      ≤ drawing_end d
+  drawing_spared : count_unstayed (drawing_spot d) (drawing_end d) + sum_by kept_bytes d.sections.now ≤ drawing_end d
   drawing_spared =
       let sections = sections_spared front d.sections.now (omega arith) (λ y c. c) h.sections in
       let tail = spared_none (drawing_spot d) (end_of_sections front d.sections.now) (drawing_end d)
@@ -217,12 +210,12 @@ sum_filter {X} g test (x ∷ xs) =
     go true e = sum_by-cons g x (filter test xs) ∙ ap (λ n. g x + n) e
     go false e = omega (arith, e)
 
-pub sum_map : {X Y : Type 0} (g : Y → ℕ) (f : X → Y) (xs : List X) → sum_by g (map f xs) ≡ sum_by (λ x. g (f x)) xs
+sum_map : {X Y : Type 0} (g : Y → ℕ) (f : X → Y) (xs : List X) → sum_by g (map f xs) ≡ sum_by (λ x. g (f x)) xs
 sum_map g f [] = refl
 sum_map g f (x ∷ xs) =
     sum_by-cons g (f x) (map f xs) ∙ ap (λ n. g (f x) + n) (sum_map g f xs) ∙ sym (sum_by-cons (λ z. g (f z)) x xs)
 
-pub sum_joined : {X Y : Type 0} (g : Y → ℕ) (f : X → List Y) (xs : List X) → sum_by g (flat_map f xs)
+sum_joined : {X Y : Type 0} (g : Y → ℕ) (f : X → List Y) (xs : List X) → sum_by g (flat_map f xs)
     ≡ sum_by (λ x. sum_by g (f x)) xs
 sum_joined g f [] = refl
 sum_joined g f (x ∷ xs) =

@@ -30,11 +30,3 @@ run f from (suc n) b h =
     ∙ ap (λ (m : ℕ). m + unless b 1) rest
     ∙ (let m = one_more b n in let t : count_unstayed f from + unless b n + unless b 1
     ≡ count_unstayed f from + unless b (suc n) = omega (arith, m) in t)
-
--- all bytes, where none stays
-pub count_all : (f : ℕ → Spot) (n : ℕ) → ((o : ℕ) → (f o).stays ≡ false) → count_unstayed f n ≡ n
-count_all f zero h = refl
-count_all f (suc n) h =
-    let rest = count_all f n h in
-    ap (λ (b : Bool). count_unstayed f n + cond b 0 1) (h n)
-    ∙ (let t : count_unstayed f n + 1 ≡ suc n = omega (arith, rest) in t)

@@ -1,32 +1,20 @@
--- Drawings in which input sections that stay, with no gap between them, are joined to one, and others are moved: what
--- they have in common with the drawings that have each input section, and draw those that are moved.
-use Rattle.std.specs.Prelude.{◌≡◌, ◌+◌, ◌<◌, ℕ, List, [], Option, None, Bool, ◌&&◌, find, filter, map, true, false, not}
-use Rattle.std.specs.Prelude.{if◌then◌else◌, length, sum_by}
+-- Drawings in which input sections that stay, with no gap between them, are joined to one: what they have in common with
+-- the drawings that have each input section.
+use Rattle.std.specs.Prelude.{◌≡◌, ℕ, List, [], Option, None, find, filter, map, true}
 use Rattle.std.specs.List.{All, AllZip}
 use Rattle.std.specs.Option.{option_map}
 use Rattle.ldmodel.specs.Each.{Each}
 use Rattle.ldmodel.specs.declared.placed.PlacedData.{PlacedData}
 use Rattle.emit_image.specs.Drawing.{AreApart, ArePieces, IsFilled, covers_piece, drawing_end, drawing_spot, is_full}
-use Rattle.emit_image.specs.Drawing.{IsDrawing, last_end, piece_byte, piece_end}
-use Rattle.emit_image.specs.Drawn.{count_unstayed}
-use Rattle.emit_image.specs.Moves.{IsBeside, is_moved, move_size, moved_bytes, moves_in}
-use Rattle.emit_fields.specs.Patches.{patched_byte}
+use Rattle.emit_image.specs.Drawing.{last_end, piece_byte, piece_end}
 use Rattle.emit_image.specs.Stretches.{Spot}
-use Rattle.emit_image.specs.declared.moves.Move.{Move}
 use Rattle.emit_image.specs.declared.section.Drawing.{Drawing}
 use Rattle.emit_image.specs.declared.section.ImagePiece.{ImagePiece}
 use Rattle.emit_image.specs.declared.section.ImageSection.{ImageSection}
 
--- an input section stays in its place
-abbrev pub rests : ImagePiece → Bool
-rests y = y.stays && not (is_moved y)
-
-abbrev pub rest_size : ImagePiece → ℕ
-rest_size y = if rests y then y.size else 0
-
--- what lies at an address in an input section; one that is moved counts as drawn
+-- what lies at an address in an input section
 abbrev pub piece_spot : ℕ → ImagePiece → Spot
-piece_spot at y = record { byte = piece_byte at y; stays = rests y }
+piece_spot at y = record { byte = piece_byte at y; stays = y.stays }
 
 -- what lies at an address among input sections, if anything does
 abbrev pub spot_in : List ImagePiece → ℕ → Option Spot
@@ -36,13 +24,9 @@ spot_in ys at = option_map (piece_spot at) (find (covers_piece at) ys)
 abbrev pub piece_ends : List ImagePiece → List ℕ
 piece_ends ys = map piece_end (filter is_full ys)
 
--- an input section that stays in its place has no bytes and no fields of its own
+-- an input section that stays has no bytes and no fields of its own
 abbrev pub IsBare : ImagePiece → Type 0
-IsBare y = rests y ≡ true → (y.bytes.now ≡ []) × (y.fields.now ≡ [])
-
--- one that is moved is not drawn, and has its bytes
-abbrev pub IsWhole : ImagePiece → Type 0
-IsWhole y = is_moved y ≡ true → (y.stays ≡ true) × (length y.bytes.now ≡ y.size)
+IsBare y = y.stays ≡ true → (y.bytes.now ≡ []) × (y.fields.now ≡ [])
 
 -- an input section of this number of bytes at an address, which stays
 pub record IsKeptAt (start size : ℕ) (y : ImagePiece) : Type 0 where
@@ -51,15 +35,11 @@ pub record IsKeptAt (start size : ℕ) (y : ImagePiece) : Type 0 where
   pub bytes : y.bytes.now ≡ []
   pub fields : y.fields.now ≡ []
   pub stays : y.stays ≡ true
-  pub from : y.from ≡ None
 
 -- these input sections stand for those of a whole list: at each address the same lies among them, a gap begins where it
--- begins there, as much stays in its place, and they stand in order and apart from data commands where those do
+-- begins there, and they stand in order and apart from data commands where those do
 pub record StandFor (whole ys : List ImagePiece) : Type 0 where
-  pub unmoved : Each (λ (y : ImagePiece). y.from ≡ None) whole
-  pub moved : Each IsWhole ys
   pub bare : Each IsBare ys
-  pub rested : sum_by rest_size ys ≡ sum_by rest_size whole
   pub spots : (at : ℕ) → spot_in ys at ≡ spot_in whole at
   pub ends : (at from : ℕ) → spot_in whole at ≡ None
       → last_end at from (piece_ends ys) ≡ last_end at from (piece_ends whole)
@@ -82,14 +62,7 @@ pub record IsJoined (whole drawing : Drawing) : Type 0 where
   pub sections : AllZip IsJoinedSection whole.sections.now drawing.sections.now
   pub tail : drawing.tail.now ≡ whole.tail.now
 
--- drawings of the same bytes, of which the same stay in their place: the whole one draws what the other moves
+-- drawings of the same bytes, of which the same stay
 pub record AreAlike (whole drawing : Drawing) : Type 0 where
   pub end : drawing_end drawing ≡ drawing_end whole
-  pub spots : (o : ℕ) → Each (IsBeside o) (moves_in drawing) → drawing_spot drawing o ≡ drawing_spot whole o
-  pub moved : IsDrawing drawing
-      → Each (λ (m : Move). (i : ℕ) → i < move_size m
-      → (drawing_spot whole (m.to + i) ≡ record { byte = patched_byte m.bytes.now m.fields.now i; stays = false })
-      × ((drawing_spot drawing (m.to + i)).stays ≡ true)) (moves_in drawing)
-  pub count : IsDrawing whole → IsDrawing drawing
-      → count_unstayed (drawing_spot drawing) (drawing_end drawing) + moved_bytes (moves_in drawing)
-      ≡ count_unstayed (drawing_spot whole) (drawing_end whole)
+  pub spots : (o : ℕ) → drawing_spot drawing o ≡ drawing_spot whole o

@@ -10,4 +10,3 @@ pub mod OfLink
 pub mod Drawn
 pub mod Reached
 pub mod Stretches
-pub mod Moves

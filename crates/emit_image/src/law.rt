@@ -64,11 +64,12 @@ pub fn placement_is_in_memory()
     layout_by_effects();
 }
 
-/// A drawing in which input sections that stay are joined, and others are moved, has the same bytes, of which the same
-/// stay in their place, and stands in order too.
+/// A drawing in which input sections that stay are joined has the same bytes, of which the same stay, and stands in
+/// order too; and a drawing in which none are joined is alike to itself.
 pub fn joined_is_whole()
     ensures stands { (whole drawing : Drawing) → IsJoined whole drawing → IsDrawing whole → IsDrawing drawing }
     ensures alike { (whole drawing : Drawing) → IsJoined whole drawing → AreAlike whole drawing }
+    ensures own { (drawing : Drawing) → AreAlike drawing drawing }
 {}
 
 /// What is kept of the image of an old link is right for a new one, where only input sections that stayed are kept, and

@@ -5,14 +5,12 @@
 //!   `strings`, `sections`, `number`: the tail;
 //! - `section`: what is drawn; `row`: sections that stayed side by side as one;
 //! - `redraw`: anew, or over the image of a previous link, of which what stayed is kept; `commit`: the patches, and
-//!   then what does not stay, by `paint_drawing` over `paint_section` over `paint`, `patched`; `moves`, `shift`: what
-//!   is moved on the canvas before; `law`.
+//!   then what does not stay, by `paint_drawing` over `paint_section` over `paint`, `patched`; `law`.
 #![tactic(auto)]
 
 mod commit;
 pub mod headers;
 pub mod law;
-mod moves;
 mod number;
 pub mod paint;
 mod paint_drawing;
@@ -22,7 +20,6 @@ pub mod redraw;
 pub mod row;
 pub mod section;
 pub mod sections;
-mod shift;
 pub mod strings;
 pub mod symbols;
 mod table_entries;

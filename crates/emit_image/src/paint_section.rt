@@ -38,7 +38,7 @@ fn copy_of(cursor: SectionCursor) -> SectionCursor
 }
 
 /// Where an address of an output section lies in the file.
-pub(crate) fn place(x: &ImageSection<'_>, at: u64) -> usize
+fn place(x: &ImageSection<'_>, at: u64) -> usize
     requires orderly { IsOrderly x.now }
     requires low { x.now.start ≤ at }
     requires high { at ≤ x.now.start + x.now.size }

@@ -41,7 +41,7 @@ fn put(whole: &mut [u8; BUFFER_SIZE], at: usize, bytes: &[u8])
 }
 
 /// Puts the bytes of the fields that lie in a section, and its own between them, over the first of `whole`.
-pub(crate) fn put_together(whole: &mut [u8; BUFFER_SIZE], bytes: &[u8], patches: &[Patch])
+fn put_together(whole: &mut [u8; BUFFER_SIZE], bytes: &[u8], patches: &[Patch])
     requires few { length bytes.now ≤ 4096 }
     requires order { AreInOrder 0 (length bytes.now) patches.now }
     ensures { (i : ℕ) → i < length bytes.now → slice_index whole.new i ≡ patched_byte bytes.now patches.now i }

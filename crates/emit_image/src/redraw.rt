@@ -1,6 +1,6 @@
 //! The image of a link, over what the canvas holds of the image of a previous one.
 
-ghost use Rattle.std.specs.Prelude.{◌≡◌, ◌≤◌, ◌+◌, ◌-◌, All, None, OnErr, OnOk, Some};
+ghost use Rattle.std.specs.Prelude.{◌≡◌, ◌≤◌, ◌+◌, ◌-◌, All, OnErr, OnOk};
 ghost use Rattle.elfobj.specs.Raised.{raised};
 ghost use Rattle.elfobj.specs.declared.meter.Count.TheVariants as counts;
 ghost use Rattle.ldmodel_laws.specs.Untouched.{IsGood};
@@ -13,7 +13,6 @@ ghost use Rattle.ldmodel.specs.WorkBound.{bytes_stayed, retargeted_bytes};
 ghost use Rattle.emit_image.specs.Drawing.{IsDrawing, drawing_end, drawing_spot};
 ghost use Rattle.emit_image.specs.Joined.{AreAlike};
 ghost use Rattle.emit_image.specs.Kept.{EachPiece, HasStayed, IsKept, IsRedrawing};
-ghost use Rattle.emit_image.specs.Moves.{AreMovedFrom, moved_bytes, moves_in};
 ghost use Rattle.emit_image.specs.OfLink.{AreUnstayed, IsDrawingOf};
 ghost use Rattle.emit_image.specs.Drawn.{count_unstayed};
 ghost use Rattle.emit_image.specs.Stretches.{EndsBy, patch_bytes};
@@ -21,15 +20,12 @@ ghost use Rattle.emit_image.specs.declared.section.Drawing.{Drawing as DrawingOf
 
 use crate::commit::write_image;
 use crate::law::{drawing_is_image, kept_is_image, kept_is_not_drawn, kept_is_what_stayed};
-use crate::moves::moves_of;
 use crate::paint_drawing::image_end;
 use crate::section::Drawing;
-use crate::shift::shift;
 use elfobj::Meter;
 use emit_fields::canvas::Canvas;
 use emit_fields::patch::Patch;
 use ldmodel::memory::NoMemory;
-use std::alloc::Global;
 
 /// The lengths that room is made for are multiples of this one.
 const STEP: usize = 1 << 20;
@@ -57,23 +53,21 @@ fn make_room(canvas: &mut Canvas, length: usize) -> Result<(), NoMemory>
 }
 
 /// Writes the image of a drawing onto a canvas, except for the bytes that stay; in these only the patches are written,
-/// at their offsets in the file. First input sections that lie elsewhere on the canvas are moved to their places. Room
-/// for all of it is taken before anything is written, so that this can be the last call of an edit that may fail.
+/// at their offsets in the file. Room for all of it is taken before anything is written, so that this can be the last
+/// call of an edit that may fail.
 ///
-/// In a drawing, neighbours that stay may be joined into one entry, and input sections may be moved. `whole` is the
-/// same drawing with nothing joined, in which all that is moved is drawn; the clauses speak about it.
+/// In a drawing, neighbours that stay may be joined into one entry. `whole` is the same drawing with nothing joined,
+/// about which the clauses speak.
 ///
-/// If nothing stays and nothing is moved, the canvas may hold anything before. Else it must hold the image of the old
-/// link, each input section that is moved must lie where it is moved from, but for its fields, only input sections that
-/// stayed may be kept, and the patches must be the fields in them whose symbol has another value: then the canvas holds
-/// the image of the new link. If exactly the sections that stayed are kept, exactly the bytes outside of them and those
-/// of these fields are written.
+/// If nothing stays, the canvas may hold anything before. Else it must hold the image of the old link, only input
+/// sections that stayed may be kept, and the patches must be the fields in them whose symbol has another value: then
+/// the canvas holds the image of the new link. If exactly the sections that stayed are kept, exactly the bytes outside
+/// of them and those of these fields are written.
 ///
 /// # Errors
 ///
 /// If memory runs out. Then the canvas is as it was.
 pub fn redraw(
-    alloc: Global,
     canvas: &mut Canvas,
     drawing: &Drawing<'_>,
     patches: &[Patch],
@@ -82,11 +76,9 @@ pub fn redraw(
     requires drawing { IsDrawing drawing.now }
     requires patches { All (EndsBy (drawing_end drawing.now)) patches.now }
     ensures image { OnOk result ((project : Project) (layout : Layout) (whole : DrawingOf) → AreAlike whole drawing.now
-        → AreMovedFrom None drawing.now → AreUnstayed whole → IsDrawingOf project layout whole
-        → canvas.new.bytes ≡ image project layout) }
+        → AreUnstayed whole → IsDrawingOf project layout whole → canvas.new.bytes ≡ image project layout) }
     ensures redrawn { OnOk result ((old new : GoodLink) (whole : DrawingOf) → AreAlike whole drawing.now
-        → AreMovedFrom (Some canvas.old.bytes) drawing.now → IsGood old → IsGood new
-        → IsRedrawing old new whole patches.now
+        → IsGood old → IsGood new → IsRedrawing old new whole patches.now
         → canvas.old.bytes ≡ image old.project old.layout → canvas.new.bytes ≡ image new.project new.layout) }
     ensures work { OnOk result ((old new : GoodLink) (whole : DrawingOf) → AreAlike whole drawing.now
         → IsDrawing whole → IsGood new → IsDrawingOf new.project new.layout whole
@@ -98,8 +90,8 @@ pub fn redraw(
         → EachPiece (IsKept old new) new.layout whole → EachPiece (HasStayed old new) new.layout whole
         → meter.new ≡ raised meter.old counts.Bytes
         (patch_bytes patches.now + (image_length new.project new.layout - bytes_stayed old new))) }
-    ensures counted { OnOk result (meter.new ≡ raised meter.old counts.Bytes (moved_bytes (moves_in drawing.now)
-        + (patch_bytes patches.now + count_unstayed (drawing_spot drawing.now) (drawing_end drawing.now)))) }
+    ensures counted { OnOk result (meter.new ≡ raised meter.old counts.Bytes
+        (patch_bytes patches.now + count_unstayed (drawing_spot drawing.now) (drawing_end drawing.now))) }
     ensures unchanged { OnErr result (canvas.new.bytes ≡ canvas.old.bytes) }
 {
     // for the prover: bring in these laws
@@ -108,10 +100,7 @@ pub fn redraw(
     kept_is_not_drawn();
     kept_is_what_stayed();
     let end = image_end(drawing);
-    let moves = moves_of(alloc, drawing)?;
     make_room(canvas, end)?;
-    let limit = canvas.len().max(end);
-    shift(canvas, limit, &moves, meter);
     write_image(canvas, drawing, end, patches, meter);
     Ok(())
 }

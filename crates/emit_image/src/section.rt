@@ -12,14 +12,10 @@ pub struct ImagePiece<'a> {
     pub size: u64,
     /// The bytes; none if they are all 0, as in NOBITS and in a common block.
     pub bytes: &'a [u8],
-    /// The fields over these bytes, in the order of their offsets; none if the input section stays in its place.
+    /// The fields over these bytes, in the order of their offsets; none if the input section stays.
     pub fields: &'a [Patch],
-    /// Whether it is not drawn: because its bytes are on the canvas already, in their place, but for the patches of the
-    /// plan; or because it is moved.
+    /// Whether its bytes are on the canvas already, but for the patches of the plan.
     pub stays: bool,
-    /// Where its bytes, but for its fields, lie on the canvas, if it is moved from there; none if it is drawn or stays
-    /// in its place.
-    pub from: Option<usize>,
 }
 
 /// An output section that has bytes in the file.

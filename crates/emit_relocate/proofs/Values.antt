@@ -82,32 +82,6 @@ module _ (l : KnownLink) where
       ≡ Some name → value_of (value_under values k) ≡ name_value l.project l.layout name
   under values k name all e = found (slice_get values k.0) (name_value l.project l.layout name) (all k.0 name e)
 
-  module _ (object : ObjectPlace) (index : SymbolIndex) (symbol : Symbol) (o : NamedObject) (x : NamedSymbol)
-      (h : IsSymbolOf l object index symbol o x) where
-    name_is : name_of_object l object ≡ o.name
-    name_is = ap (λ (a : Option NamedObject). option_map_or (λ (y : NamedObject). y.name) a []) h.object_is
-
-    pub is_there : symbol_at l.project (l.number object.0) index.0 ≡ Some x
-    is_there = ap (λ (a : Option NamedObject).
-        option_and_then (λ (y : NamedObject). slice_get y.object.symbols index.0) a) h.object_is ∙ h.entry_is
-
-    -- the value of a local symbol is its own
-    pub local_value : (v : SymbolValue) → is_local symbol.binding ≡ true → v
-        ≡ own_value l.layout (name_of_object l object) symbol.place symbol.value → v
-        ≡ referenced_value l.project l.layout o x
-    unfolding referenced_value
-    local_value v b e = rw (h.symbol_is, b) (e ∙ ap (λ n. own_value l.layout n symbol.place symbol.value) name_is)
-
-    -- that of another is its name's
-    pub named_value : (values : List code.SymbolValue) (k : NameKey) (v : SymbolValue) → AreNameValues l values
-        → is_local symbol.binding ≡ false → IsNameOf l object index k
-        → v ≡ or_weak (is_weak_binding symbol.binding) (value_of (value_under values k)) → v
-        ≡ referenced_value l.project l.layout o x
-    unfolding referenced_value
-    named_value values k v all b named e =
-        let name = named x is_there (ap (λ (y : Symbol). is_local y.binding) h.symbol_is ∙ b) in
-        rw (h.symbol_is, b) (e ∙ ap (or_weak (is_weak_binding symbol.binding)) (under values k x.name all name))
-
   -- the numbers of targets
   module _ (n : ℕ) (t : Target) where
     named : (a : Option (List ℕ)) (values : List code.SymbolValue) (k : NameKey) → AreNameValues l values → l.name k.0

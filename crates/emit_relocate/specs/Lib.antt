@@ -9,4 +9,3 @@ pub mod Filled
 pub mod Changes
 pub mod Patched
 pub mod Links
-pub mod Origin

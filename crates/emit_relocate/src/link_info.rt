@@ -3,10 +3,9 @@
 ghost use Rattle.std.specs.Prelude.{◌≡◌, ◌<◌, ℕ, List, Some, option_copied};
 ghost use Rattle.std.specs.Option.{option_map};
 ghost use Rattle.ldmodel.specs.Layout.{script_value};
-ghost use Rattle.emit_relocate.specs.KnownLink.{IsCaseOf, IsNameOf, IsScriptValueOf, KnownLink, object_of, start_of};
+ghost use Rattle.emit_relocate.specs.KnownLink.{IsCaseOf, IsScriptValueOf, KnownLink, object_of, start_of};
 
 use elfobj::Object;
-use elfobj::relocation::SymbolIndex;
 use ldmodel::names::{Case, NameKey, ObjectPlace};
 use ldmodel::sections::SectionKey;
 
@@ -24,10 +23,6 @@ pub trait LinkInfo {
     /// Where an input section starts, if it is in the output.
     fn start(&self, section: SectionKey) -> Option<u64>
         ensures { (link : KnownLink) → knows self.now link → result ≡ start_of link section };
-
-    /// The key of the name of a symbol that isn't local.
-    fn name_key(&self, object: ObjectPlace, symbol: SymbolIndex) -> NameKey
-        ensures { (link : KnownLink) → knows self.now link → IsNameOf link object symbol result };
 
     /// A number that is greater than each key of a name.
     fn name_limit(&self) -> usize

@@ -1,12 +1,11 @@
 //! What a linker knows of a previous link when it evaluates relocations of a new one.
 
-ghost use Rattle.std.specs.Prelude.{◌≡◌, ℕ, Option, IfSome, None, Some, false, is_some, length};
+ghost use Rattle.std.specs.Prelude.{◌≡◌, Option, IfSome, Some, false, is_some, length};
 ghost use Rattle.ldmodel.specs.Project.{NamedObject};
 ghost use Rattle.ldmodel.specs.Stayed.{GoodLink};
 ghost use Rattle.ldmodel.specs.declared.sections.SectionKey.{SectionKey};
 ghost use Rattle.emit_relocate.specs.PreviousLinkInfo.{HasSameValues, HasStayedAt, IsKept};
 ghost use Rattle.emit_relocate.specs.KnownLink.{KnownLink, named_object};
-ghost use Rattle.emit_relocate.specs.Origin.{HasLainAt};
 ghost use Rattle.emit_relocate.specs.SymbolValues.{AreValuesOf};
 ghost use Rattle.emit_relocate.specs.declared.previous_link_info.FileRange.{FileRange};
 
@@ -32,9 +31,6 @@ pub trait PreviousLinkInfo {
     /// Which input sections stayed, as far as is known, and where their bytes stand in the file.
     ghost range: { Self → SectionKey → Option FileRange };
 
-    /// Where in the file the bytes of input sections began in the previous link, as far as is known.
-    ghost origin: { Self → SectionKey → Option ℕ };
-
     /// The bytes in the file of an input section that stayed; an empty range if its output section has no file bytes.
     /// Nothing is said of a section that is not in the output.
     fn stayed(&self, section: SectionKey) -> Option<FileRange>
@@ -48,13 +44,6 @@ pub trait PreviousLinkInfo {
         ensures sound { (old : GoodLink) (link : KnownLink) → knows self.now old link
             → IfSome (range self.now section) (HasStayedAt old link section) };
 
-    /// Where in the file the bytes of a section of an object began in the previous link, if that had the same object,
-    /// with as many bytes of the section in its image, and this is known.
-    fn origin(&self, section: SectionKey) -> Option<usize>
-        ensures is { result ≡ origin self.now section }
-        ensures sound { (old : GoodLink) (link : KnownLink) → knows self.now old link
-            → IfSome (origin self.now section) (HasLainAt old link section) };
-
     /// Whether a symbol of this object, of which a section stayed, may have another value than in the previous link. If
     /// the answer is no, none has.
     fn is_dirty(&self, object: ObjectPlace) -> bool
@@ -67,37 +56,4 @@ pub trait PreviousLinkInfo {
         ensures { (old : GoodLink) (link : KnownLink) (named : NamedObject) → knows self.now old link
             → IsKept (range self.now) object → named_object link object ≡ Some named
             → length named.object.symbols ≡ count → AreValuesOf old.project old.layout named result.now };
-}
-
-/// No previous link: nothing stayed.
-#[derive(Clone, Copy, Debug)]
-pub struct NoPreviousLink;
-
-impl PreviousLinkInfo for NoPreviousLink {
-    // it says that nothing is known to have stayed, which is true of any two links
-    ghost knows = { λ _ _ _. Unit {0} };
-
-    ghost range = { λ _ _. None };
-
-    ghost origin = { λ _ _. None };
-
-    fn stayed(&self, _section: SectionKey) -> Option<FileRange> {
-        None
-    }
-
-    fn has_stayed(&self, _section: SectionKey) -> bool {
-        false
-    }
-
-    fn origin(&self, _section: SectionKey) -> Option<usize> {
-        None
-    }
-
-    fn is_dirty(&self, _object: ObjectPlace) -> bool {
-        false
-    }
-
-    fn values(&self, _object: ObjectPlace, _count: usize) -> &[SymbolValue] {
-        &[]
-    }
 }

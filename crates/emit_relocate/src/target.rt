@@ -1,19 +1,19 @@
-//! What relocations name, and the values of what they name.
+//! What the value of a relocation's symbol depends on, and its number: under these `Index` has relocations, for callers
+//! without a table of the values of symbols.
 
 ghost use Rattle.std.specs.Prelude.{◌≡◌, Some};
 ghost use Rattle.elfobj.specs.Symbols.{NamedSymbol};
-ghost use Rattle.ldmodel.specs.Names.{is_local, is_weak_binding};
+ghost use Rattle.elfobj.specs.declared.relocation.SymbolIndex.{SymbolIndex};
+ghost use Rattle.ldmodel.specs.Names.{is_local};
 ghost use Rattle.ldmodel.specs.Project.{NamedObject};
 ghost use Rattle.ldmodel.specs.SymbolValues.{number_or_0};
-ghost use Rattle.ldmodel.specs.Targets.{referenced_value, target_number, target_of};
+ghost use Rattle.ldmodel.specs.Targets.{target_number, target_of};
 ghost use Rattle.ldmodel.specs.Targets as model;
-ghost use Rattle.emit_relocate.specs.KnownLink.{AreNameValues, IsSymbolOf, KnownLink, named_target, value_under};
-ghost use Rattle.emit_relocate.specs.Values.{value_of};
+ghost use Rattle.emit_relocate.specs.KnownLink.{AreNameValues, IsNameOf, IsSymbolOf, KnownLink, named_target};
+ghost use Rattle.emit_relocate.specs.KnownLink.{value_under};
 
 use crate::link_info::LinkInfo;
-use crate::symbol::own_value;
 use crate::value::SymbolValue;
-use elfobj::relocation::SymbolIndex;
 use elfobj::symbol::{Binding, Symbol, SymbolPlace};
 use ldmodel::names::{NameKey, ObjectPlace};
 use ldmodel::sections::{Part, SectionKey};
@@ -26,26 +26,16 @@ fn is_local(binding: Binding) -> bool
     matches!(binding, Binding::Local)
 }
 
-/// Whether a reference needs no definition.
-fn is_weak(binding: Binding) -> bool
-    ensures { result ≡ is_weak_binding binding }
-{
-    matches!(binding, Binding::Weak)
-}
-
-/// What the value of a symbol of an object depends on: its name; the section that a local one lies in; or nothing.
-pub fn target_of<L: LinkInfo>(
-    link: &L,
-    object: ObjectPlace,
-    index: SymbolIndex,
-    symbol: &Symbol,
-) -> Target
-    ensures { (known : KnownLink) → L.knows link.now known → (named : NamedObject) (referenced : NamedSymbol)
+/// What the value of a symbol of an object depends on: its name, unless it is local; the section that a local one lies
+/// in; or nothing. `name` is the key of its name if it is not local.
+pub fn target_of(object: ObjectPlace, symbol: &Symbol, name: NameKey) -> Target
+    ensures { (known : KnownLink) (index : SymbolIndex) → IsNameOf known object index name
+        → (named : NamedObject) (referenced : NamedSymbol)
         → IsSymbolOf known object index symbol.now named referenced
         → named_target known result ≡ Some (target_of named referenced) }
 {
     if !is_local(symbol.binding) {
-        return Target::Name(link.name_key(object, index));
+        return Target::Name(name);
     }
     match symbol.place {
         SymbolPlace::Section(section) => Target::Section(object, section),
@@ -79,24 +69,4 @@ pub fn target_number<L: LinkInfo>(link: &L, values: &[SymbolValue], target: Targ
         }
         Target::Fixed => 0,
     }
-}
-
-/// S, the value of a symbol that a relocation of its object names. `values` are the values of all names.
-pub fn referenced_value<L: LinkInfo>(
-    link: &L,
-    values: &[SymbolValue],
-    object: ObjectPlace,
-    index: SymbolIndex,
-    symbol: &Symbol,
-) -> SymbolValue
-    ensures { (known : KnownLink) → L.knows link.now known → AreNameValues known values.now
-        → (named : NamedObject) (referenced : NamedSymbol)
-        → IsSymbolOf known object index symbol.now named referenced
-        → value_of result ≡ referenced_value known.project known.layout named referenced }
-{
-    if is_local(symbol.binding) {
-        return own_value(link, object, symbol);
-    }
-    let value = value_under(values, link.name_key(object, index));
-    value.or_weak(is_weak(symbol.binding))
 }

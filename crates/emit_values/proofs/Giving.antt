@@ -27,7 +27,7 @@ use Rattle.symres.specs.table.State.{AreDistinct, IsNamed, slot}
 use Rattle.emit_values.specs.GivenTable.{HasPlaces, IsGivenTable, IsPut}
 use Rattle.emit_values.specs.ScriptValues.{AreScriptValues, value_in}
 use Rattle.emit_values.specs.declared.script_values.ScriptValues.{ScriptValues}
-use Rattle.emit_values.proofs.Seeing.{case_within}
+use Rattle.emit_values.proofs.Cased.{case_within}
 
 pub take_more : {X : Type 0} (xs : List X) (i : ℕ) (x : X) → i < length xs → get_or xs i x ≡ x
     → take (i + 1) xs ≡ take i xs ++ x ∷ []

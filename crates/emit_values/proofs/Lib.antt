@@ -1,5 +1,5 @@
 -- Lemmas of the crate.
-pub mod Seeing
+pub mod Cased
 pub mod Rows
 pub mod Objects
 pub mod Giving

@@ -1,5 +1,4 @@
 -- What the values of a link need besides the definitions of ldmodel.
-pub mod Seen
 pub mod ScriptValues
 pub mod Given
 pub mod GivenTable

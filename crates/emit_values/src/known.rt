@@ -3,38 +3,20 @@
 ghost use Rattle.std.specs.Prelude.{◌≡◌, ◌<◌, ℕ, List, Some, option_copied};
 ghost use Rattle.std.specs.Option.{option_map};
 ghost use Rattle.ldmodel.specs.Layout.{Layout, PlacedPiece};
-ghost use Rattle.ldmodel.specs.Live.{symbol_at};
 ghost use Rattle.ldmodel.specs.NameFaults.{object_name};
 ghost use Rattle.ldmodel.specs.Project.{Project};
 ghost use Rattle.ldmodel.specs.SymbolValues.{placed_part};
 ghost use Rattle.place.specs.IndexedLayout.{IsIndexedLayout};
-ghost use Rattle.emit_relocate.specs.KnownLink.{IsCaseOf, IsNameOf, IsScriptValueOf, KnownLink, object_of, start_of};
+ghost use Rattle.emit_relocate.specs.KnownLink.{IsCaseOf, IsScriptValueOf, KnownLink, object_of, start_of};
 ghost use Rattle.emit_values.specs.LinkView.{IsLinkView};
-ghost use Rattle.emit_values.specs.Seen.{is_seen};
 
 use crate::link_view::LinkView;
 use crate::name_row::start_at;
 use elfobj::Object;
-use elfobj::relocation::SymbolIndex;
 use emit_relocate::link_info::LinkInfo;
 use ldmodel::names::{Case, NameKey, ObjectPlace};
 use ldmodel::sections::SectionKey;
-use ldmodel_project::view::ProjectView;
 use place::indexed_layout::IndexedLayout;
-use symres::declaring::declares;
-
-/// Whether there is a symbol that isn't local.
-fn sees(project: &ProjectView<'_>, object: ObjectPlace, symbol: SymbolIndex) -> bool
-    ensures { result ≡ is_seen (symbol_at project.now object.0 symbol.0) }
-{
-    let Some(found) = project.object(object) else {
-        return false;
-    };
-    let Some(entry) = found.symbols().get(symbol.0 as usize) else {
-        return false;
-    };
-    declares(entry.binding)
-}
 
 /// Where an input section starts, if it is in the output.
 fn start_in(indexed_layout: &IndexedLayout, section: SectionKey) -> Option<u64>
@@ -54,13 +36,6 @@ impl<'a, 'p> LinkInfo for LinkView<'a, 'p> {
 
     fn start(&self, section: SectionKey) -> Option<u64> {
         start_in(self.indexed_layout, section)
-    }
-
-    fn name_key(&self, object: ObjectPlace, symbol: SymbolIndex) -> NameKey {
-        if !sees(self.project, object, symbol) {
-            return NameKey(0);
-        }
-        self.symbol_table.key_of(object, symbol)
     }
 
     fn name_limit(&self) -> usize {

@@ -4,7 +4,6 @@ ghost use Rattle.std.specs.Prelude.{◌≡◌, IfOk};
 ghost use Rattle.ldmodel.specs.Layout.{Layout};
 ghost use Rattle.symres.specs.SymbolTable.{IsSymbolTable};
 ghost use Rattle.place.specs.IndexedLayout.{IsIndexedLayout};
-ghost use Rattle.emit_values.specs.Seen.{AreSeen};
 
 use crate::given::GivenValues;
 use crate::given_table::given_table;
@@ -22,7 +21,6 @@ pub struct LinkView<'a, 'p> {
     pub(crate) indexed_layout: &'a IndexedLayout,
     // what the script gives the name of each key
     pub(crate) given: Vec<Option<u64>>,
-    ghost seen: { AreSeen project.now symbol_table.now },
 }
 
 impl<'a, 'p> LinkView<'a, 'p> {

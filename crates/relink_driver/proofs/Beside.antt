@@ -5,13 +5,11 @@ use Rattle.std.specs.List.{All}
 use Rattle.emit.specs.fields.declared.patch.Patch.{Patch}
 use Rattle.emit.specs.image.Kept.{ArePatchesOf}
 use Rattle.emit.specs.image.Stretches.{EndsBy}
-use Rattle.relink_driver.specs.StayedSections.{AreStayedSections, IsPreviousOf, PreviousState, previous_of, origin_of}
-use Rattle.relink_driver.specs.StayedSections.{range_of}
+use Rattle.relink_driver.specs.StayedSections.{AreStayedSections, IsPreviousOf, PreviousState, previous_of, range_of}
 use Rattle.relink_driver.specs.declared.stayed_sections.PreviousView.{PreviousView}
 use Rattle.relink_driver.specs.declared.stayed_sections.StayedSections.{StayedSections}
 use Rattle.emit.specs.Drawable.{IsDrawableAt}
 use Rattle.emit.specs.Kept.{IsSound}
-use Rattle.emit.specs.Moved.{HaveLain}
 use Rattle.ldmodel_laws.specs.Untouched.{IsGood}
 use Rattle.place.specs.LinkLayout.{IsLinkLayout}
 use Rattle.place.specs.declared.link_layout.LinkLayout.{LinkLayout}
@@ -95,12 +93,8 @@ AreComplete y =
 abbrev pub NoneStays : StayedSections → Type 0
 NoneStays y = y.previous ≡ None → (k : SectionKey) → range_of y k ≡ None
 
-abbrev pub NoneLay : StayedSections → Type 0
-NoneLay y = y.previous ≡ None → (k : SectionKey) → origin_of y k ≡ None
-
 pub known_beside : (p : Project) (l : LinkLayout) (y : StayedSections) (w : LinkView) (v : Values) (t : SymbolValues)
-    (r : Relocated) (before after : Counts) (is : IsShort p l w v) → before.fields < 2 ^ 64
-    → AreBeside p is.placed.known.layout y
+    (r : Relocated) (before after : Counts) (is : IsShort p l w v) → before.fields < 2 ^ 64 → AreBeside p is.placed.known.layout y
     → AreSymbolValues p is.placed.known.layout t → AreNamesDistinct p.objects
     → ((s : Layout) (a : SymbolTableState) (old : GoodLink) → placement p.script (rows p) (provided p) ≡ Ok s
     → IsLinkView (known_link p s a) w → AreValues p s a v → AreSymbolValues p s t
@@ -151,26 +145,24 @@ known_beside p l y w v t r before after is small tables worth names relocated co
 pub drawn_image : (p : Project) (s : Layout) (a : SymbolTableState) (y : StayedSections) (r : Relocated)
     (old_bytes bytes : List
     ℕ)
-    → IfSome (previous_of y.previous) (HasPreviousImage p old_bytes) → NoneStays y → NoneLay y
+    → IfSome (previous_of y.previous) (HasPreviousImage p old_bytes) → NoneStays y
     → ((old : GoodLink) → IfSome (previous_of y.previous) (IsPreviousOf old p)
-    → IsSound (range_of y) old (known_link p s a) × HaveLain (origin_of y) old (known_link p s a))
+    → IsSound (range_of y) old (known_link p s a))
     → ArePatches p s y r
-    → (((k : SectionKey) → range_of y k ≡ None) → ((k : SectionKey) → origin_of y k ≡ None)
-    → bytes ≡ image p s)
+    → (((k : SectionKey) → range_of y k ≡ None) → bytes ≡ image p s)
     → ((old : GoodLink) → IsGood old → IsSound (range_of y) old (known_link p s a)
-    → HaveLain (origin_of y) old (known_link p s a) → ArePatchesOf old (new_link p s) r.retargeted.items
-    → old_bytes ≡ image old.project old.layout
+    → ArePatchesOf old (new_link p s) r.retargeted.items → old_bytes ≡ image old.project old.layout
     → bytes ≡ image p s)
     → bytes ≡ image p s
-drawn_image p s a y r old_bytes bytes has none nowhere sound patches anew over = go y.previous refl has
+drawn_image p s a y r old_bytes bytes has none sound patches anew over = go y.previous refl has
   where
     go : (previous : Option PreviousView) → y.previous ≡ previous
         → IfSome (previous_of previous) (HasPreviousImage p old_bytes) → bytes ≡ image p s
-    go None e h = anew (none e) (nowhere e)
+    go None e h = anew (none e)
     go (Some x) e h =
         let is : IfSome (previous_of y.previous) (IsPreviousOf h.old p) =
         subst (λ (z : Option PreviousView). IfSome (previous_of z) (IsPreviousOf h.old p)) (sym e) h.is in
-        over h.old h.is.table.good (sound h.old is).0 (sound h.old is).1
+        over h.old h.is.table.good (sound h.old is)
         (patches.patches h.old is (subst (λ (z : Option PreviousView). IsSome z) (sym e) refl)) h.image
 
 -- a project has one placement

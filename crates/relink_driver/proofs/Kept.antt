@@ -38,7 +38,7 @@ counted {X} test (y ∷ ys) x c e = go (first_or_later y ys x c) (λ in_rest. co
     go (inr in_rest) rest = let split = sum_by-cons (λ (z : X). cond {A = ℕ} (test z) 1 0) y ys in
         omega (arith, split, rest in_rest)
 
-pub found_by_name : (name : List ℕ) (objects : List NamedObject) (o : NamedObject)
+found_by_name : (name : List ℕ) (objects : List NamedObject) (o : NamedObject)
     → count_by (has_name name) objects ≤ 1 → Contains objects o → has_name name o ≡ true
     → find (has_name name) objects ≡ Some o
 found_by_name name [] o few c h = absurd (none_in_nil o c)

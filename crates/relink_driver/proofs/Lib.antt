@@ -3,7 +3,6 @@ mod Inside
 mod Kept
 mod Standings
 mod Ranges
-mod Originating
 mod Columns
 mod Fixed
 mod Seen

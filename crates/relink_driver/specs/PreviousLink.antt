@@ -1,5 +1,5 @@
 -- A previous link as the new one sees it, and which input sections of the new one stayed where it has them.
-use Rattle.std.specs.Prelude.{ℕ, Bool, ◌==◌, List, Option, Some, None, option_and_then, if◌then◌else◌, slice_index_or}
+use Rattle.std.specs.Prelude.{ℕ, Bool, List, Option, Some, None, option_and_then, if◌then◌else◌, slice_index_or}
 use Rattle.std.specs.Option.{option_map}
 use Rattle.elfobj.specs.Object.{ObjectData}
 use Rattle.ldmodel.specs.declared.names.ObjectPlace.{ObjectPlace}
@@ -9,8 +9,7 @@ use Rattle.place.specs.IndexedLayout.{place_in}
 use Rattle.place.specs.declared.indexed_layout.IndexedLayout.{IndexedLayout}
 use Rattle.place.specs.declared.indexed_layout.SectionAddress.{SectionAddress}
 use Rattle.emit.specs.relocate.declared.previous_link_info.FileRange.{FileRange}
-use Rattle.place.specs.declared.link_layout.LinkLayout.{LinkLayout}
-use Rattle.relink_driver.specs.SectionLocation.{same_location, location_in, range_at}
+use Rattle.relink_driver.specs.SectionLocation.{same_location, location_in}
 use Rattle.relink_driver.specs.declared.link_snapshot.LinkSnapshot.{LinkSnapshot}
 use Rattle.relink_driver.specs.declared.section_location.SectionLocation.{SectionLocation}
 use Rattle.relink_driver.specs.declared.stayed_sections.PreviousView.{PreviousView}
@@ -78,14 +77,3 @@ kept_at (Some before) (Some now) = if same_location before now then Some now.ran
 unfoldable pub kept_range : Option PreviousState → IndexedLayout → SectionKey → Option FileRange
 kept_range None now k = None
 kept_range (Some x) now k = kept_at (previous_location x k) (location_in now k)
-
--- where the bytes of an input section begin in the file, if it has some there
-abbrev pub begin_of : Option FileRange → Option ℕ
-begin_of None = None
-begin_of (Some r) = if r.length == 0 then None else Some r.offset
-
--- where those of one began that was at an address, if it takes as many bytes at another
-abbrev pub begun_at : LinkLayout → Option SectionAddress → Option SectionAddress → Option ℕ
-begun_at l None now = None
-begun_at l (Some before) None = None
-begun_at l (Some before) (Some now) = if before.size == now.size then begin_of (range_at l before) else None

@@ -1,5 +1,5 @@
 -- Which input sections of a link stayed where a previous link has them.
-use Rattle.std.specs.Prelude.{◌≡◌, ◌≤◌, ℕ, true, Option, Some, IfSome, length, slice_get}
+use Rattle.std.specs.Prelude.{◌≡◌, ◌≤◌, true, Option, Some, IfSome, length, slice_get}
 use Rattle.ldmodel.specs.Edits.{AreNamesDistinct}
 use Rattle.ldmodel.specs.Link.{max_image_length}
 use Rattle.ldmodel.specs.Project.{NamedObject, Project}
@@ -18,14 +18,10 @@ pub use Rattle.relink_driver.specs.PreviousLink.{PreviousState, ReplacedObjectSt
 pub use Rattle.relink_driver.specs.PreviousLink.{previous_address, previous_of, previous_state}
 pub use Rattle.relink_driver.specs.PreviousLink.{replaced_state, standing_from}
 unfoldable pub use Rattle.relink_driver.specs.PreviousLink.{kept_range, previous_location}
-use Rattle.relink_driver.specs.StayedColumn.{origin_in}
 use Rattle.relink_driver.specs.declared.stayed_sections.StayedSections.{StayedSections}
 
 abbrev pub range_of : StayedSections → SectionKey → Option FileRange
 range_of s k = kept_range (previous_of s.previous) s.indexed_layout.now k
-
-abbrev pub origin_of : StayedSections → SectionKey → Option ℕ
-origin_of s k = origin_in (previous_of s.previous) s.indexed_layout.now k
 
 -- this object of the previous project was replaced by that of the new one which has its name
 pub record IsReplaced (project q : Project) (r : ReplacedObjectState) : Type 0 where

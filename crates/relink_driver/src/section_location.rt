@@ -2,7 +2,6 @@
 
 ghost use Rattle.std.specs.Prelude.{◌≡◌};
 ghost use Rattle.relink_driver.specs.SectionLocation.{range_at, range_from, location_in, location_of};
-ghost use Rattle.relink_driver.specs.PreviousLink.{begin_of, begun_at};
 ghost use Rattle.relink_driver.specs.StayedSections.{kept_at};
 
 use emit::relocate::previous_link_info::FileRange;
@@ -78,35 +77,6 @@ pub(crate) fn find_location(
 {
     let address = indexed_layout.find(section)?;
     location_at(&indexed_layout.link_layout, address)
-}
-
-/// Where in the file the bytes begin, if there are some.
-fn begin_of(range: Option<FileRange>) -> Option<usize>
-    ensures { result ≡ begin_of range }
-{
-    let range = range?;
-    if range.length == 0 {
-        return None;
-    }
-    Some(range.offset as usize)
-}
-
-/// Where in the file the bytes of an input section began that was at `before`, if it takes as many bytes at `now`, and
-/// has some in the file.
-#[inline(always)]
-pub(crate) fn begun_at(
-    link_layout: &LinkLayout,
-    before: Option<SectionAddress>,
-    now: Option<SectionAddress>,
-) -> Option<usize>
-    ensures { result ≡ begun_at link_layout.now before now }
-{
-    let before = before?;
-    let now = now?;
-    if before.size != now.size {
-        return None;
-    }
-    begin_of(range_at(link_layout, before))
 }
 
 /// The bytes in the file of an input section that is at `now` and was at `before` in the previous link, if it stayed.

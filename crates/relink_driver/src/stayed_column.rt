@@ -1,15 +1,13 @@
-//! Where the previous link has the sections of the objects of a link: found once, for all of them.
+//! Which sections of the objects of a link stayed where the previous link has them: found once, for all of them.
 
 ghost use Rattle.std.specs.Prelude.{◌≡◌, ◌&&◌, IfOk, None, OnOk, Some, is_some, false, slice_index_or};
 ghost use Rattle.relink_driver.specs.FixedOutputs.{AreFixedOutputs, same_address};
 ghost use Rattle.relink_driver.specs.PreviousLink.{previous_of, previous_state};
-ghost use Rattle.relink_driver.specs.StayedColumn as column;
-ghost use Rattle.relink_driver.specs.StayedColumn.{IsRowAdded, IsStayedColumn, elsewhere, entry_in, entry_of, is_here};
-ghost use Rattle.relink_driver.specs.StayedColumn.{kept_between, origin_number};
-ghost use Rattle.relink_driver.specs.declared.stayed_column.SectionOrigin.TheVariants.{Unknown};
+ghost use Rattle.relink_driver.specs.StayedColumn.{IsRowAdded, IsStayedColumn, flag_of, kept_between, kept_number};
+ghost use Rattle.relink_driver.specs.StayedColumn.{stays_in};
 
 use crate::fixed_outputs::fixed_outputs;
-use crate::section_location::{begun_at, range_if_stayed};
+use crate::section_location::range_if_stayed;
 use crate::stayed_sections::PreviousView;
 use elfobj::section::SectionIndex;
 use ldmodel::memory::NoMemory;
@@ -19,34 +17,23 @@ use place::LinkLayout;
 use place::indexed_layout::{IndexedLayout, SectionAddress};
 use std::alloc::Global;
 
-/// Where the previous link has a section of an object.
+/// Where the flags of an object lie.
 #[derive(Clone, Copy)]
-pub(crate) enum SectionOrigin {
-    /// Where it lies now: it stayed.
-    Here,
-    /// Its bytes began at this offset of the file.
-    Elsewhere(u32),
-    /// Nothing is known: it is not there, or has no bytes in the file, or another number of them.
-    Unknown,
-}
-
-/// Where the origins of an object's sections lie.
-#[derive(Clone, Copy)]
-struct OriginRow {
+struct FlagRow {
     /// The first one.
     begin: usize,
     /// How many there are: those of the header numbers up to that of the last linked section, or none.
     count: usize,
 }
 
-/// For each section of each object of a link where the previous link has it, by the object's place and the section's
-/// header number.
+/// For each section of each object of a link whether it stayed where the previous link has it, by the object's place
+/// and the section's header number.
 #[derive(Drop)]
 pub(crate) struct StayedColumn {
-    /// Under the place of each object where its origins lie.
-    rows: Vec<OriginRow>,
-    /// The origins, one object after another.
-    origins: Vec<SectionOrigin>,
+    /// Under the place of each object where its flags lie.
+    rows: Vec<FlagRow>,
+    /// The flags, one object after another.
+    flags: Vec<bool>,
 }
 
 /// Whether two addresses are the same.
@@ -122,38 +109,6 @@ fn is_stayed(
     has_same_place(previous, before, link_layout, now, fixed)
 }
 
-/// Where the previous link had an input section that did not stay.
-fn origin_at(from: Option<usize>) -> SectionOrigin
-    ensures { result ≡ column.origin_at from }
-{
-    let Some(from) = from else {
-        return SectionOrigin::Unknown;
-    };
-    match u32::try_from(from) {
-        Ok(from) => SectionOrigin::Elsewhere(from),
-        // No image is so long
-        Err(_too_great) => SectionOrigin::Unknown,
-    }
-}
-
-/// Where the previous link has an input section that is at `now` and was at `before`.
-#[inline(always)]
-fn origin_between(
-    previous: &LinkLayout,
-    before: Option<SectionAddress>,
-    link_layout: &LinkLayout,
-    now: Option<SectionAddress>,
-    fixed: &[bool],
-) -> SectionOrigin
-    requires fixed { AreFixedOutputs previous.now link_layout.now fixed.now }
-    ensures { result ≡ column.origin_between previous.now before link_layout.now now }
-{
-    if is_stayed(previous, before, link_layout, now, fixed) {
-        return SectionOrigin::Here;
-    }
-    origin_at(begun_at(previous, before, now))
-}
-
 /// The address of a section by its header number; none past the end of the list.
 #[inline(always)]
 fn address_at(addresses: &[Option<SectionAddress>], number: usize) -> Option<SectionAddress>
@@ -162,43 +117,42 @@ fn address_at(addresses: &[Option<SectionAddress>], number: usize) -> Option<Sec
     addresses.get(number).copied().unwrap_or(None)
 }
 
-/// Adds the origins of the sections of an object, which are at `now` and were at `before`. Fails where memory runs out.
-fn add_origins(
+/// Adds the flags of the sections of an object, which are at `now` and were at `before`. Fails where memory runs out.
+fn add_flags(
     previous: &LinkLayout,
     before: &[Option<SectionAddress>],
     link_layout: &LinkLayout,
     now: &[Option<SectionAddress>],
     fixed: &[bool],
-    origins: &mut Vec<SectionOrigin>,
+    flags: &mut Vec<bool>,
 ) -> Result<(), NoMemory>
     requires fixed { AreFixedOutputs previous.now link_layout.now fixed.now }
-    ensures { OnOk result (IsRowAdded Unknown (λ k.
-        column.origin_between previous.now (slice_index_or before.now k None) link_layout.now
-        (slice_index_or now.now k None)) origins.old.items origins.new.items) }
+    ensures { OnOk result (IsRowAdded (λ k. is_some (kept_between previous.now (slice_index_or before.now k None)
+        link_layout.now (slice_index_or now.now k None))) flags.old.items flags.new.items) }
 {
     let count = now.len();
-    origins.reserve(count)?;
+    flags.reserve(count)?;
     for number in 0..count {
         let stood = address_at(before, number);
         let lies = address_at(now, number);
-        origins.push_reserved(origin_between(previous, stood, link_layout, lies, fixed));
+        flags.push_reserved(is_stayed(previous, stood, link_layout, lies, fixed));
     }
     Ok(())
 }
 
-/// Adds the origins of the sections of an object; none where the previous link does not have it. Fails where memory
-/// runs out.
+/// Adds the flags of the sections of an object; none where the previous link does not have it. Fails where memory runs
+/// out.
 fn add_object(
     previous: &PreviousView<'_>,
     indexed_layout: &IndexedLayout,
     object: ObjectPlace,
     fixed: &[bool],
-    origins: &mut Vec<SectionOrigin>,
+    flags: &mut Vec<bool>,
 ) -> Result<(), NoMemory>
     requires fixed { AreFixedOutputs previous.now.snapshot.now.indexed_layout.link_layout
         indexed_layout.now.link_layout fixed.now }
-    ensures { OnOk result (IsRowAdded Unknown (origin_number (previous_state previous.now) indexed_layout.now object.0)
-        origins.old.items origins.new.items) }
+    ensures { OnOk result (IsRowAdded (kept_number (previous_state previous.now) indexed_layout.now object.0)
+        flags.old.items flags.new.items) }
 {
     let Some(from) = previous.place(object) else {
         return Ok(());
@@ -206,13 +160,13 @@ fn add_object(
     let stood = &previous.snapshot.indexed_layout;
     let before = stood.addresses_of(ObjectPlace(from));
     let now = indexed_layout.addresses_of(object);
-    add_origins(
+    add_flags(
         &stood.link_layout,
         before,
         &indexed_layout.link_layout,
         now,
         fixed,
-        origins,
+        flags,
     )?;
     Ok(())
 }
@@ -229,25 +183,24 @@ fn column_beside(
     let stood = &previous.snapshot.indexed_layout;
     let fixed = fixed_outputs(alloc, &stood.link_layout, &indexed_layout.link_layout)?;
     let mut rows = Vec::with_capacity(alloc, objects)?;
-    let mut origins = Vec::new(alloc);
+    let mut flags = Vec::new(alloc);
     for place in 0..objects {
-        let begin = origins.len();
+        let begin = flags.len();
         add_object(
             previous,
             indexed_layout,
             ObjectPlace(place),
             &fixed,
-            &mut origins,
+            &mut flags,
         )?;
-        let count = origins.len() - begin;
-        rows.push(OriginRow { begin, count })?;
+        let count = flags.len() - begin;
+        rows.push(FlagRow { begin, count })?;
     }
-    Ok(StayedColumn { rows, origins })
+    Ok(StayedColumn { rows, flags })
 }
 
 impl StayedColumn {
-    /// Where the previous link has the sections of the objects of the link of this layout. Without a previous link
-    /// nothing is known.
+    /// Which sections of the objects of the link of this layout stayed. Without a previous link none has.
     ///
     /// # Errors
     ///
@@ -262,62 +215,34 @@ impl StayedColumn {
         match previous {
             None => Ok(StayedColumn {
                 rows: Vec::new(alloc),
-                origins: Vec::new(alloc),
+                flags: Vec::new(alloc),
             }),
             Some(previous) => column_beside(alloc, &previous, indexed_layout),
         }
     }
 
-    /// The origin at a place in the row of an object.
+    /// The flag at a place in the row of an object.
     #[inline(always)]
-    fn entry(&self, row: OriginRow, number: usize) -> SectionOrigin
-        ensures { result ≡ entry_of self.now.origins.items row number }
+    fn flag(&self, row: FlagRow, number: usize) -> bool
+        ensures { result ≡ flag_of self.now.flags.items row number }
     {
         if number >= row.count {
-            return SectionOrigin::Unknown;
+            return false;
         }
         match row.begin.checked_add(number) {
-            None => SectionOrigin::Unknown,
-            Some(at) => self
-                .origins
-                .get(at)
-                .copied()
-                .unwrap_or(SectionOrigin::Unknown),
-        }
-    }
-
-    /// The origin of a section of an object.
-    #[inline(always)]
-    fn find(&self, object: ObjectPlace, section: SectionIndex) -> SectionOrigin
-        ensures { result ≡ entry_in self.now object.0 section.0 }
-    {
-        match self.rows.get(object.0) {
-            None => SectionOrigin::Unknown,
-            Some(row) => self.entry(*row, usize::from(section.0)),
+            None => false,
+            Some(at) => self.flags.get(at).copied().unwrap_or(false),
         }
     }
 
     /// Whether a section of an object stayed.
     #[inline(always)]
     pub(crate) fn has_stayed(&self, object: ObjectPlace, section: SectionIndex) -> bool
-        ensures { result ≡ is_here (entry_in self.now object.0 section.0) }
+        ensures { result ≡ stays_in self.now object.0 section.0 }
     {
-        match self.find(object, section) {
-            SectionOrigin::Here => true,
-            SectionOrigin::Elsewhere(_) => false,
-            SectionOrigin::Unknown => false,
-        }
-    }
-
-    /// Where in the file the bytes of a section of an object began in the previous link, if it did not stay.
-    #[inline(always)]
-    pub(crate) fn origin(&self, object: ObjectPlace, section: SectionIndex) -> Option<usize>
-        ensures { result ≡ elsewhere (entry_in self.now object.0 section.0) }
-    {
-        match self.find(object, section) {
-            SectionOrigin::Here => None,
-            SectionOrigin::Elsewhere(from) => Some(from as usize),
-            SectionOrigin::Unknown => None,
+        match self.rows.get(object.0) {
+            None => false,
+            Some(row) => self.flag(*row, usize::from(section.0)),
         }
     }
 }

@@ -3,7 +3,6 @@
 ghost use Rattle.std.specs.Prelude.{◌≡◌, ℕ, IsSome, None, Option, Some, is_some, length, slice_get, slice_index_or};
 ghost use Rattle.std.specs.Prelude.{true};
 ghost use Rattle.emit.specs.Kept.{IsSound};
-ghost use Rattle.emit.specs.Moved.{HaveLain};
 ghost use Rattle.ldmodel.specs.Layout.{Layout};
 ghost use Rattle.ldmodel.specs.Project.{NamedObject, Project};
 ghost use Rattle.ldmodel.specs.Stayed.{GoodLink};
@@ -104,7 +103,7 @@ pub struct StayedSections<'a> {
 }
 
 impl<'a> StayedSections<'a> {
-    ghost use Rattle.relink_driver.specs.StayedSections.{AreStayedSections, origin_of, range_of};
+    ghost use Rattle.relink_driver.specs.StayedSections.{AreStayedSections, range_of};
 
     /// Whether an object is dirty; one past the end of the list is.
     fn dirty_bit(&self, object: ObjectPlace) -> bool
@@ -125,17 +124,6 @@ impl<'a> StayedSections<'a> {
         range_if_stayed(layout_before, before, &self.indexed_layout.link_layout, now)
     }
 
-    /// Where the bytes of a section of an object began in the file in the previous link, if it did not stay.
-    #[inline(always)]
-    fn find_origin(&self, section: SectionKey) -> Option<usize>
-        ensures { result ≡ origin_of self.now section }
-    {
-        match section.part {
-            Part::InTable(number) => self.column.origin(section.object, number),
-            Part::InCommon(_) => None,
-        }
-    }
-
     /// Whether an input section stayed. For a section of an object this is read from the column.
     #[inline(always)]
     fn is_known(&self, section: SectionKey) -> bool
@@ -147,8 +135,8 @@ impl<'a> StayedSections<'a> {
         }
     }
 
-    /// A law: `find_range` finds only input sections that stayed and, if there is a previous link, all of them; and
-    /// `find_origin` finds only places where input sections lay. The call does nothing.
+    /// A law: `find_range` finds only input sections that stayed and, if there is a previous link, all of them. The
+    /// call does nothing.
     pub fn is_complete(&self)
         ensures complete { (old : GoodLink) (link : KnownLink) → AreStayedSections self.now old link
             → IsSome self.now.previous
@@ -156,10 +144,6 @@ impl<'a> StayedSections<'a> {
         ensures sound { (old : GoodLink) (link : KnownLink) → AreStayedSections self.now old link
             → IsSound (range_of self.now) old link }
         ensures none { self.now.previous ≡ None → (key : SectionKey) → range_of self.now key ≡ None }
-        ensures lain { (old : GoodLink) (link : KnownLink) → AreStayedSections self.now old link
-            → HaveLain (origin_of self.now) old link }
-        ensures nowhere { self.now.previous ≡ None
-            → (key : SectionKey) → origin_of self.now key ≡ None }
     {
         // for the prover: brings in the laws of output sections in the file
         sections_in_file();
@@ -168,13 +152,11 @@ impl<'a> StayedSections<'a> {
 }
 
 impl<'a> PreviousLinkInfo for StayedSections<'a> {
-    ghost use Rattle.relink_driver.specs.StayedSections.{AreStayedSections, origin_of, range_of};
+    ghost use Rattle.relink_driver.specs.StayedSections.{AreStayedSections, range_of};
 
     ghost knows = { AreStayedSections };
 
     ghost range = { range_of };
-
-    ghost origin = { origin_of };
 
     fn stayed(&self, section: SectionKey) -> Option<FileRange> {
         if !self.is_known(section) {
@@ -187,10 +169,6 @@ impl<'a> PreviousLinkInfo for StayedSections<'a> {
     #[inline(always)]
     fn has_stayed(&self, section: SectionKey) -> bool {
         self.is_known(section)
-    }
-
-    fn origin(&self, section: SectionKey) -> Option<usize> {
-        self.find_origin(section)
     }
 
     fn is_dirty(&self, object: ObjectPlace) -> bool {

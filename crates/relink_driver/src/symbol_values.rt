@@ -107,8 +107,8 @@ fn own_value(addresses: &[Option<SectionAddress>], symbol: &Symbol) -> SymbolVal
     }
 }
 
-/// The value of a symbol to relocations of its object, like `emit::relocate::target::referenced_value`. What is the
-/// same for all symbols of the object, the addresses of its sections, was looked up before.
+/// S, the value of a symbol to relocations of its object. What is the same for all symbols of the object, the addresses
+/// of its sections, was looked up before.
 #[inline(always)]
 fn symbol_value(
     sources: ValueSources<'_>,

@@ -6,7 +6,7 @@ use Rattle.std.specs.List.{enumerate_from}
 use Rattle.std.specs.Option.{option_map}
 use Rattle.std.proofs.lemmas.List.{get_or-map, length-map}
 use Rattle.std.proofs.lemmas.List.FromFn.{length-enumerate_from, get_or-enumerate_from}
-use Rattle.elfobj.specs.Symbols.{NamedSymbol, null_symbol}
+use Rattle.elfobj.specs.Symbols.{NamedSymbol}
 use Rattle.ldscript.specs.statements.declared.statement.Statement.{Statement}
 use Rattle.ldmodel_laws.specs.Renumbering.{renumbered_decision}
 use Rattle.ldmodel.specs.HandedOver.{decision_of, decision_under_keys}
@@ -19,10 +19,9 @@ use Rattle.ldmodel.specs.declared.names.ObjectKey.{ObjectKey}
 use Rattle.ldmodel.specs.declared.names.ObjectPlace.{ObjectPlace}
 use Rattle.ldmodel_project.specs.Tables.{place_or_0}
 use Rattle.symres_table.specs.State as keyed
-use Rattle.symres_table.specs.State.{HasName, IsNamed, entries_of}
+use Rattle.symres_table.specs.State.{IsNamed, entries_of}
 use Rattle.symres_decisions.specs.Decided.{HasCase, case_at, decision_in}
 use Rattle.symres_decisions.specs.Decisions.{AreKept, DecisionsState, IsCaseNamed}
-use Rattle.symres.specs.Keyed.{HasKey}
 use Rattle.symres.specs.SymbolTable.{IsNameAt, IsSymbolTable, IsSeenAt, state_of}
 use Rattle.symres.specs.Placed.{by_place, keys_of, place_case}
 use Rattle.symres.proofs.Entering.{Table, seconds}
@@ -160,23 +159,3 @@ named_decision p script d order name c keys by (inr h) symbol_table same =
     decided (is_assigned st name) (is_provided st name) (entries_of name d.names.objects)) (sym same))
     ∙ ap (λ (ks : List ℕ). renumbered_decision (place_or_0 ks) (decision_in p.script d.names name)) (sym keys)
     ∙ sym (by (sym (same_tables p d order symbol_table)))
-
--- ---- keys of symbols
-
-name_there : (d : DecisionsState) (place number k : ℕ) → keyed.IsNameAt d.names.names d.names.objects place number k
-    → HasName d.names.names k
-name_there d place number k h =
-    ((get_or (get_or d.names.objects place (0, [])).1 number null_symbol).name, h (0, []) null_symbol)
-
-pub has_key : (d : DecisionsState) (order : List ℕ) (place number : ℕ)
-    → ((k : ℕ) → HasName d.names.names k → HasCase d.cases k)
-    → (keyed.IsSeenAt d.names.objects place number
-    → (k : ℕ) × keyed.IsNameAt d.names.names d.names.objects place number k)
-    → IsSeenAt (state_of d order).objects place number → HasKey (state_of d order) place number
-has_key d order place number complete known h =
-    let seen = seen_by_key d.names.objects place number h in
-    let key = known seen in record {
-      key = key.0;
-      name = named_by_place d order place number key.0 seen.within key.1;
-      case = has_placed (place_case order) d.cases key.0 (complete key.0 (name_there d place number key.0 key.1));
-    }

@@ -4,7 +4,6 @@ pub mod Entered
 pub mod Decided
 pub mod Placed
 pub mod SymbolTable
-pub mod Keyed
 pub mod Provided
 pub mod Sorted
 pub mod Duplicates

@@ -3,7 +3,7 @@
 //!
 //! - `symbol_table` with `changing`: what is kept, and how it follows a change; `entered`: all objects, for a link from
 //!   scratch;
-//! - `case_by_place`, `keyed`, `sorted`, `provided`: cases by place, symbols' keys, names in order, PROVIDEs;
+//! - `case_by_place`, `sorted`, `provided`: cases by place, names in order, PROVIDEs;
 //! - `faults` over `duplicates`: names defined twice, and the entry symbol; `declaring`: which symbols have names;
 //! - the parts `table` (the definition of each name) and `decisions` (kept while objects change). Other families name
 //!   this crate alone.
@@ -15,7 +15,6 @@ pub mod declaring;
 mod duplicates;
 mod entered;
 mod faults;
-mod keyed;
 mod provided;
 pub mod sorted;
 pub mod symbol_table;

@@ -1,11 +1,11 @@
 -- The drawing is that of the link.
-use Rattle.std.proofs.Common.{None, Some, sym, subst, ◌≤◌, ◌^◌}
+use Rattle.std.proofs.Common.{sym, subst, ◌≤◌, ◌^◌}
 use Rattle.std.proofs.lemmas.Result.{on_ok_weaker}
 use Rattle.ldmodel.specs.Names.{provided}
 use Rattle.ldmodel.specs.Rows.{rows}
 use Rattle.ldmodel.specs.SectionHeaders.{image_length}
 use Rattle.emit.proofs.Staying.{are_kept, have_stayed, none_stays}
-use Rattle.emit.proofs.Whole.{drawing_joined, drawing_of, ends_in, moved_on, whole, whole_stands}
+use Rattle.emit.proofs.Whole.{drawing_joined, drawing_of, ends_in, whole, whole_stands}
 use Rattle.emit.proofs.drawing.draw_outputs.Goals as goal
 use Rattle.emit.specs.Parts.{ArePartsOf}
 
@@ -15,14 +15,14 @@ redraw-requires-clause-drawing c =
     let h = c.requires.outputs in
     let s = h.layout in
     let x = c.in_ok-parts.parts in
-    let are = c.in_ok-parts.ensures s h.known h.are in
+    let are = c.in_ok-parts.ensures s h.stays h.are in
     c.joined_is_whole.ensures.stands _ _
-    (drawing_joined p s h.known x _ (record {
+    (drawing_joined p s h.stays x _ (record {
       headers = c.deref.ensures.value;
       sections = c.deref-2.ensures.value;
       tail = c.image_parts-tail.ensures;
     }) are)
-    (whole_stands p s h.known x _ (record {
+    (whole_stands p s h.stays x _ (record {
       headers = c.deref.ensures.value;
       sections = c.deref-2.ensures.value;
       tail = c.image_parts-tail.ensures;
@@ -36,17 +36,17 @@ redraw-requires-clause-patches c =
     let p = c.args.project.now in
     let h = c.requires.outputs in
     let s = h.layout in
-    ends_in p s h.known c.in_ok-parts.parts c.deref.result c.deref-2.result c.image_parts-tail.result c.args.patches.now
+    ends_in p s h.stays c.in_ok-parts.parts c.deref.result c.deref-2.result c.image_parts-tail.result c.args.patches.now
     (c.drawing_is_image.ensures.end p s) c.joined_is_whole.ensures.alike c.deref.ensures.value c.deref-2.ensures.value
     c.image_parts-tail.ensures
-    (c.in_ok-parts.ensures s h.known h.are) (c.requires.patches s h.are.indexed_layout)
+    (c.in_ok-parts.ensures s h.stays h.are) (c.requires.patches s h.are.indexed_layout)
 
 pub returns-clause-image : goal.returns-clause-image
 returns-clause-image c =
     let p = c.args.project.now in
     let x = c.in_ok-parts.parts in
     on_ok_weaker c.redraw.result
-    (λ h s stays outputs none on.
+    (λ h s stays outputs none.
     let are = c.in_ok-parts.ensures s stays outputs in
     h p s
     (whole p s stays x _ (record {
@@ -59,8 +59,7 @@ returns-clause-image c =
       sections = c.deref-2.ensures.value;
       tail = c.image_parts-tail.ensures;
     }) are))
-    (moved_on p s stays x _ c.deref-2.ensures.value are None on)
-    (none_stays p s stays.stays are.drawn.wholes none are.drawn.kept)
+    (none_stays p s stays are.drawn.wholes none are.drawn.kept)
     (drawing_of p s stays x _ (record {
       headers = c.deref.ensures.value;
       sections = c.deref-2.ensures.value;
@@ -72,7 +71,7 @@ pub returns-clause-redrawn : goal.returns-clause-redrawn
 returns-clause-redrawn c =
     let x = c.in_ok-parts.parts in
     on_ok_weaker c.redraw.result
-    (λ h old new stays same outputs good_old good_new said on patched before.
+    (λ h old new stays same outputs good_old good_new said patched before.
     let are = subst (λ pr. ArePartsOf pr new.layout stays x) (sym same)
     (c.in_ok-parts.ensures new.layout stays outputs) in
     h old new
@@ -86,7 +85,6 @@ returns-clause-redrawn c =
       sections = c.deref-2.ensures.value;
       tail = c.image_parts-tail.ensures;
     }) are))
-    (moved_on new.project new.layout stays x _ c.deref-2.ensures.value are (Some c.args.canvas.now.bytes) on)
     good_old good_new (record {
       drawing = drawing_of new.project new.layout stays x _ (record {
         headers = c.deref.ensures.value;
@@ -96,7 +94,7 @@ returns-clause-redrawn c =
       kept = have_stayed (record {
         linked = c.stayed_in_both.ensures.linked;
         all = c.sections_in_file.ensures.all;
-      }) old new stays.stays are.drawn.wholes are.drawn.kept said;
+      }) old new stays are.drawn.wholes are.drawn.kept said;
       patched = patched;
     }) before)
     c.redraw.ensures.redrawn
@@ -136,7 +134,7 @@ returns-clause-work c =
       tail = c.image_parts-tail.ensures;
     }) are)
     (are_kept (record { linked = c.stayed_in_both.ensures.linked; all = c.sections_in_file.ensures.all })
-    old new stays.stays are.drawn.wholes are.drawn.kept all)
+    old new stays are.drawn.wholes are.drawn.kept all)
     few)
     c.redraw.ensures.work
 
@@ -175,9 +173,9 @@ returns-clause-spent c =
       tail = c.image_parts-tail.ensures;
     }) are)
     (are_kept (record { linked = c.stayed_in_both.ensures.linked; all = c.sections_in_file.ensures.all })
-    old new stays.stays are.drawn.wholes are.drawn.kept all)
+    old new stays are.drawn.wholes are.drawn.kept all)
     (have_stayed (record { linked = c.stayed_in_both.ensures.linked; all = c.sections_in_file.ensures.all })
-    old new stays.stays are.drawn.wholes are.drawn.kept said))
+    old new stays are.drawn.wholes are.drawn.kept said))
     c.redraw.ensures.spent
 
 pub returns-clause-counted : goal.returns-clause-counted

@@ -35,5 +35,4 @@ returns-in-Ok c p s stays q is =
         pieces = is.row.joined;
         data_commands = refl;
       };
-      moved = is.row.moved;
     }

@@ -1,18 +1,17 @@
 -- By the object of the key and its section.
-use Rattle.std.proofs.Common.{◌≡◌, ◌∙◌, sym, refl, ap, inl, subst, Some, slice_get}
+use Rattle.std.proofs.Common.{◌≡◌, ◌∙◌, sym, refl, ap, subst, Some, slice_get}
 use Rattle.elfobj.specs.Object.{ObjectData}
 use Rattle.ldmodel_laws.specs.ByteCases.{section_byte}
 use Rattle.ldmodel_project.specs.ByPlace.{piece_in}
 use Rattle.emit.proofs.Numbering.{numbers_differ}
-use Rattle.emit.proofs.Originating.{either}
 use Rattle.emit.proofs.OfRows.{drawn_none, drawn_some, drawn_unnamed, named_self, no_object, not_stayed, numbered_at}
 use Rattle.emit.proofs.OfRows.{numbered_is, numbered_none, placed_is, there_is}
 use Rattle.emit.proofs.pieces.drawn_piece.Goals as goal
 use Rattle.emit.specs.Numbers.{HaveNumbers}
 use Rattle.emit.specs.Pieces.{IsDrawnPiece}
 
-pub returns-in-None-section_near-clause-drawn : goal.returns-in-None-section_near-clause-drawn
-returns-in-None-section_near-clause-drawn c l stays w same sources new at =
+pub returns-in-None-section_near : goal.returns-in-None-section_near
+returns-in-None-section_near c l stays w same sources new at =
     let p = c.args.project.now in
     let r = c.args.at.piece.now in
     let there = there_is p r.section.object.0 c.in-Some.object.now c.in-Some.ensures in
@@ -22,8 +21,8 @@ returns-in-None-section_near-clause-drawn c l stays w same sources new at =
     (numbered_none there.object c.in-InTable.number c.in-Some.object.now there.is
     c.in-None-section_near.ensures.absent))
 
-pub returns-in-None-clause-drawn : goal.returns-in-None-clause-drawn
-returns-in-None-clause-drawn c l stays w same sources new at =
+pub returns-in-None : goal.returns-in-None
+returns-in-None c l stays w same sources new at =
     let p = c.args.project.now in
     let r = c.args.at.piece.now in
     subst (λ pr. IsDrawnPiece pr l.layout w c.zeros-in-None.result) (sym same)
@@ -31,8 +30,8 @@ returns-in-None-clause-drawn c l stays w same sources new at =
     c.objects_are_named.ensures.named (no_object p r.section.object.0 c.in-None.ensures) refl c.in-InTable.is _
     c.zeros-in-None.ensures)
 
-pub returns-in-Some-section_near-clause-drawn : goal.returns-in-Some-section_near-clause-drawn
-returns-in-Some-section_near-clause-drawn c l stays w same sources new at =
+pub returns-in-Some-section_near : goal.returns-in-Some-section_near
+returns-in-Some-section_near c l stays w same sources new at =
     let p = c.args.project.now in
     let r = c.args.at.piece.now in
     let key = r.section.object.0 in
@@ -51,7 +50,7 @@ returns-in-Some-section_near-clause-drawn c l stays w same sources new at =
     c.sections-sections.ensures.ascending) in
     let found = numbered_is o number index x differ here one.is in
     let y = c.section_piece.result in
-    let is = c.section_piece.ensures.piece l stays o x w sources (ap (λ pr. slice_get pr.objects key) same ∙ there.at)
+    let is = c.section_piece.ensures l stays o x w sources (ap (λ pr. slice_get pr.objects key) same ∙ there.at)
     there.is here (not_stayed r number x stays c.in-InTable.is one.is new)
     (placed_is p l.layout (piece_in p r) c.args.at.start w at key o number c.inputs-inputs.ensures.distinct there.at
     refl c.in-InTable.is x one.is there.name) at.start_is
@@ -59,44 +58,4 @@ returns-in-Some-section_near-clause-drawn c l stays w same sources new at =
     subst (λ pr. IsDrawnPiece pr l.layout w y) (sym same)
     (drawn_some p l.layout (piece_in p r) c.args.at.start w at key o number c.inputs-inputs.ensures.distinct there.at
     refl c.in-InTable.is x y found is.start is.size
-    (λ i. is.bytes i ∙ ap (λ pr. section_byte pr l.layout o c.args.at.start i x) same) is.filled is.unstayed
-    is.unmoved)
-
-pub returns-in-None-section_near-clause-source : goal.returns-in-None-section_near-clause-source
-returns-in-None-section_near-clause-source c l stays w same sources new at = inl c.zeros-in-None-section_near.ensures.2
-
-pub returns-in-None-clause-source : goal.returns-in-None-clause-source
-returns-in-None-clause-source c l stays w same sources new at = inl c.zeros-in-None.ensures.2
-
-pub returns-in-Some-section_near-clause-source : goal.returns-in-Some-section_near-clause-source
-returns-in-Some-section_near-clause-source c l stays w same sources new at =
-    let p = c.args.project.now in
-    let r = c.args.at.piece.now in
-    let key = r.section.object.0 in
-    let ob = c.in-Some.object.now in
-    let number = c.in-InTable.number in
-    let index = c.in-Some-section_near.index.0 in
-    let there = there_is p key ob c.in-Some.ensures in
-    let o = there.object in
-    let one = numbered_at ob number index c.in-Some-section_near.ensures.found in
-    let x = one.section in
-    let here : slice_get o.object.sections index ≡ Some x =
-    ap (λ (b : ObjectData). slice_get b.sections index) there.is ∙ one.at in
-    let differ : HaveNumbers o.object =
-    subst HaveNumbers (sym there.is)
-    (numbers_differ ob c.sections-sections.result.now c.sections-sections.ensures.value
-    c.sections-sections.ensures.ascending) in
-    let in_link : slice_get l.project.objects key ≡ Some o = ap (λ pr. slice_get pr.objects key) same ∙ there.at in
-    either (λ fielded. record {
-      object = o;
-      number = number;
-      section = x;
-      part = c.in-InTable.is;
-      there = in_link;
-      numbered = numbered_is o number index x differ here one.is;
-      fielded = fielded;
-    })
-    (c.section_piece.ensures.fielded l stays o x w sources in_link there.is here
-    (not_stayed r number x stays c.in-InTable.is one.is new)
-    (placed_is p l.layout (piece_in p r) c.args.at.start w at key o number c.inputs-inputs.ensures.distinct there.at
-    refl c.in-InTable.is x one.is there.name) at.start_is)
+    (λ i. is.bytes i ∙ ap (λ pr. section_byte pr l.layout o c.args.at.start i x) same) is.filled is.unstayed)

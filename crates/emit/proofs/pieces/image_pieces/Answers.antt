@@ -13,9 +13,9 @@ pub returns : goal.returns
 returns g c =
     let p = c.args.project.now in
     IfOk-weaker c.image_rows.result _ _
-    (λ v h s a canvas indexed_layout fields on.
+    (λ v h s a indexed_layout fields.
     let placed = c.placed_are_rows.ensures p (provided p) s indexed_layout.link_layout.placed in
-    h (known_link p s a) canvas refl (record { indexed_layout = indexed_layout; runs = fields })
+    h (known_link p s a) refl (record { indexed_layout = indexed_layout; runs = fields })
     (record {
       placed = placed ∙ sym indexed_layout.rows;
       begun = c.pieces-starts.ensures ∙ indexed_layout.link_layout.places.starts;
@@ -24,5 +24,5 @@ returns g c =
           (c.live_by_path.ensures.in_order p).0 (c.live_by_path.ensures.in_order p).1);
       found = all_found s _ placed
           (c.once_in_rows.ensures p c.inputs-inputs.ensures.distinct c.are_numbered.ensures);
-    }) on)
+    }))
     c.image_rows.ensures

@@ -1,20 +1,18 @@
 -- The entries so far are drawn.
-use Rattle.std.proofs.Common.{◌≡◌, List, Option, ℕ, map, take}
+use Rattle.std.proofs.Common.{◌≡◌, map, take}
 use Rattle.std.specs.Prelude.{is_some}
 use Rattle.ldmodel.specs.Layout.{PlacedOutput}
 use Rattle.ldmodel_project.specs.ByPlace.{piece_in}
 use Rattle.emit_relocate.specs.KnownLink.{KnownLink}
 use Rattle.emit.proofs.OfRows.{AreDrawnAs}
 use Rattle.emit.proofs.pieces.image_row.Given as goal
-use Rattle.emit.specs.Moved.{IsCanvas}
 use Rattle.emit.specs.Pieces.{AreSources, IsRowAt}
 
 abbrev pub invariant-loop-k : goal.invariant-loop-k
 invariant-loop-k g l =
-    (link : KnownLink) (q : PlacedOutput) (canvas : Option (Option (List ℕ))) → link.project ≡ l.project
+    (link : KnownLink) (q : PlacedOutput) → link.project ≡ l.project
     → AreSources link (λ key. is_some (g.E.PreviousLinkInfo.range l.previous key)) l.indexed_layout l.relocated
     → IsRowAt l.project link.layout (map (piece_in l.project) l.row) l.starts q
-    → IsCanvas (g.E.PreviousLinkInfo.origin l.previous) link canvas
-    → AreDrawnAs link.project link.layout
-    (record { stays = λ key. is_some (g.E.PreviousLinkInfo.range l.previous key); canvas = canvas })
-    (take l.k q.pieces) l.pieces.items
+    → AreDrawnAs link.project link.layout (λ key. is_some (g.E.PreviousLinkInfo.range l.previous key))
+    (take l.k q.pieces)
+    l.pieces.items

@@ -1,6 +1,6 @@
 -- One row a step.
 use Rattle.std.proofs.Common.{◌≡◌, ◌≤◌, ◌<◌, ◌-◌, ◌∙◌, sym, ap, subst, List, length, map, take, drop, slice_get}
-use Rattle.std.proofs.Common.{Bool, Option, Some, ℕ, arith, get_or}
+use Rattle.std.proofs.Common.{Bool, Some, arith, get_or}
 use Rattle.std.specs.Prelude.{is_some}
 use Rattle.std.specs.Option.{option_map}
 use Rattle.std.specs.Vec.{vec_items}
@@ -18,7 +18,6 @@ pub loop-row-preserved : goal.loop-row-preserved
 loop-row-preserved g c =
     let p = c.args.project.now in
     let stays : SectionKey → Bool = λ k. is_some (g.E.PreviousLinkInfo.range c.args.previous.now k) in
-    let origin : SectionKey → Option ℕ = g.E.PreviousLinkInfo.origin c.args.previous.now in
     let rs = c.args.indexed_layout.now.rows.items in
     let starts = c.args.starts.now in
     let k = c.loop-row.row-index in
@@ -38,25 +37,24 @@ loop-row-preserved g c =
     let left : length (drop at starts) ≡ length starts - at = length-drop at starts in
     let whole : take (length starts - at) (drop at starts) ≡ drop at starts =
     take_all (length starts - at) (drop at starts) (omega (arith, left)) in
-    one_row p stays origin c.args.indexed_layout.now c.args.relocated.now
+    one_row p stays c.args.indexed_layout.now c.args.relocated.now
     (rows_in p rs) starts k at c.taken-at.result row c.in_ok-drawn.drawn.items
     (map vec_items c.loop-row.pieces.items) _ here (omega (arith, low, many))
     (omega (arith, c.taken-at.ensures.few))
     (λ fits. c.taken-at.ensures.all (omega (arith, fits, long)) ∙ sym long)
-    (λ l q canvas same sources placed on.
-    c.in_ok-drawn.ensures l q canvas same sources (subst (λ ss. IsRowAt p l.layout row ss q) (sym whole) placed) on)
+    (λ l q same sources placed.
+    c.in_ok-drawn.ensures l q same sources (subst (λ ss. IsRowAt p l.layout row ss q) (sym whole) placed))
     (ap (map vec_items) c.in_ok-push.ensures.items ∙ map-append vec_items c.loop-row.pieces.items _)
     c.loop-row.invariant
 
 pub returns : goal.returns
-returns g c l canvas same sources placed on =
+returns g c l same sources placed =
     let p = c.args.project.now in
     let stays : SectionKey → Bool = λ k. is_some (g.E.PreviousLinkInfo.range c.args.previous.now k) in
-    let origin : SectionKey → Option ℕ = g.E.PreviousLinkInfo.origin c.args.previous.now in
     let rs = c.args.indexed_layout.now.rows.items in
     let many : length (rows_in p rs) ≡ length rs = length-map (map vec_items rs) _ ∙ length-map rs vec_items in
-    all_rows p stays origin c.args.indexed_layout.now c.args.relocated.now
-    (rows_in p rs) c.args.starts.now l canvas c.loop-row.row-index
+    all_rows p stays c.args.indexed_layout.now c.args.relocated.now
+    (rows_in p rs) c.args.starts.now l c.loop-row.row-index
     c.loop-row.at (map vec_items c.loop-row.pieces.items)
-    (omega (arith, c.loop-row-test.false, many, ap length c.deref-row-items.ensures.value)) same sources placed on
+    (omega (arith, c.loop-row-test.false, many, ap length c.deref-row-items.ensures.value)) same sources placed
     c.loop-row.invariant

@@ -8,7 +8,6 @@ use Rattle.emit.proofs.pieces.image_rows.Given as goal
 
 abbrev pub invariant-loop-row : goal.invariant-loop-row
 invariant-loop-row g l =
-    RowsSoFar l.project (λ k. is_some (g.E.PreviousLinkInfo.range l.previous k))
-    (g.E.PreviousLinkInfo.origin l.previous) l.indexed_layout l.relocated
+    RowsSoFar l.project (λ k. is_some (g.E.PreviousLinkInfo.range l.previous k)) l.indexed_layout l.relocated
     (rows_in l.project l.indexed_layout.rows.items) l.starts l.row-index l.at
     (map vec_items l.pieces.items)

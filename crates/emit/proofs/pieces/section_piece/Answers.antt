@@ -1,13 +1,13 @@
 -- By what the section holds.
-use Rattle.std.proofs.Common.{◌≡◌, ◌∙◌, sym, refl, ap, inl, inr, length, slice_get, Some}
+use Rattle.std.proofs.Common.{◌≡◌, ◌∙◌, sym, refl, ap, length, slice_get, Some}
 use Rattle.elfobj.specs.Object.{ObjectData}
 use Rattle.elfobj.specs.Profile.{HasRelocationsOfProfile, IsSectionOfProfile}
 use Rattle.elfobj.specs.declared.section.Section.{Section}
-use Rattle.emit.proofs.OfSections.{all_at, bytes_are, fielded_piece, full_piece, nobits_piece}
+use Rattle.emit.proofs.OfSections.{all_at, bytes_are, full_piece, nobits_piece}
 use Rattle.emit.proofs.pieces.section_piece.Goals as goal
 
-pub returns-in-Nobits-clause-piece : goal.returns-in-Nobits-clause-piece
-returns-in-Nobits-clause-piece c l stays o x w sources there same here new placed at sized =
+pub returns-in-Nobits : goal.returns-in-Nobits
+returns-in-Nobits c l stays o x w sources there same here new placed at sized =
     let ob = c.args.object.now in
     let i = c.args.index.0 in
     let own : slice_get ob.sections i ≡ Some x = ap (λ (b : ObjectData). slice_get b.sections i) (sym same) ∙ here in
@@ -18,8 +18,8 @@ returns-in-Nobits-clause-piece c l stays o x w sources there same here new place
     (sym (ap (λ (z : Section). z.kind) (c.section_at-section.ensures x own)) ∙ c.in-Nobits.is)
     c.zeros.ensures
 
-pub returns-in-Some-clause-piece : goal.returns-in-Some-clause-piece
-returns-in-Some-clause-piece c l stays o x w sources there same here new placed at sized =
+pub returns-in-Some : goal.returns-in-Some
+returns-in-Some c l stays o x w sources there same here new placed at sized =
     let ob = c.args.object.now in
     let i = c.args.index.0 in
     let own : slice_get ob.sections i ≡ Some x = ap (λ (b : ObjectData). slice_get b.sections i) (sym same) ∙ here in
@@ -31,28 +31,8 @@ returns-in-Some-clause-piece c l stays o x w sources there same here new placed 
     w (λ e. c.in_default.not-Nobits (ap (λ (z : Section). z.kind) is ∙ e))
     sized placed at refl refl
     (bytes_are ob i x c.section_bytes-bytes.result.now own c.section_bytes-bytes.ensures)
-    (c.in-Some.ensures.some l stays o x sources.indexed_layout sources.runs there here c.args.key there new) refl refl
+    (c.in-Some.ensures.some l stays o x sources.indexed_layout sources.runs there here c.args.key there new) refl
 
-pub returns-in-None-clause-piece : goal.returns-in-None-clause-piece
-returns-in-None-clause-piece c l stays o x w sources there same here new placed at sized =
-    absurd (c.in-None.ensures.none l stays o x sources.indexed_layout sources.runs there here)
-
-pub returns-in-Nobits-clause-fielded : goal.returns-in-Nobits-clause-fielded
-returns-in-Nobits-clause-fielded c l stays o x w sources there same here new placed at = inl c.zeros.ensures.2
-
-pub returns-in-Some-clause-fielded : goal.returns-in-Some-clause-fielded
-returns-in-Some-clause-fielded c l stays o x w sources there same here new placed at =
-    let ob = c.args.object.now in
-    let i = c.args.index.0 in
-    let own : slice_get ob.sections i ≡ Some x = ap (λ (b : ObjectData). slice_get b.sections i) (sym same) ∙ here in
-    let n = length ob.symbols in
-    inr
-    (fielded_piece l o x c.args.size c.args.start n _
-    (all_at IsSectionOfProfile ob.sections i x c.sections-sections.ensures.limits own)
-    (all_at (HasRelocationsOfProfile n) ob.sections i x c.relocations-relocations.ensures.limits own) w placed at
-    (bytes_are ob i x c.section_bytes-bytes.result.now own c.section_bytes-bytes.ensures)
-    (c.in-Some.ensures.some l stays o x sources.indexed_layout sources.runs there here c.args.key there new))
-
-pub returns-in-None-clause-fielded : goal.returns-in-None-clause-fielded
-returns-in-None-clause-fielded c l stays o x w sources there same here new placed at =
+pub returns-in-None : goal.returns-in-None
+returns-in-None c l stays o x w sources there same here new placed at sized =
     absurd (c.in-None.ensures.none l stays o x sources.indexed_layout sources.runs there here)

@@ -7,7 +7,7 @@ use Rattle.relink_driver.proofs.fixed_outputs.fixed_outputs.Goals as goal
 
 pub loop-number-preserved : goal.loop-number-preserved
 loop-number-preserved c =
-    row_more false _ _ _ _ c.loop-number.number c.is_fixed.result c.in_ok-push.ensures.items c.is_fixed.ensures
+    row_more _ _ _ _ c.loop-number.number c.is_fixed.result c.in_ok-push.ensures.items c.is_fixed.ensures
     c.loop-number.invariant
 
 pub returns : goal.returns
@@ -16,6 +16,6 @@ returns c = λ n.
     let m = c.args.link_layout.now in
     let same : n ≡ 0 + n = omega arith in
     ap (λ i. slice_index_or c.loop-number.fixed.items i false) same
-    ∙ (row_done false (λ k. is_fixed l m k) [] c.loop-number.fixed.items c.loop-number.number
+    ∙ (row_done (λ k. is_fixed l m k) [] c.loop-number.fixed.items c.loop-number.number
     (λ k past. none_fixed l m k (omega (arith, past, c.loop-number-test.false, ap length c.sections-count.ensures)))
     c.loop-number.invariant).are n

@@ -47,16 +47,11 @@ returns-clause-image c =
     subst (λ (z : Layout). c.draw_image.new.canvas.bytes ≡ image p z)
     (one_placement p s t k.link_layout.placed link_layout.placed)
     (drawn_image p s a _ c.args.fields.now c.args.canvas.now.bytes c.draw_image.new.canvas.bytes
-    c.requires.previous c.is_complete.ensures.none c.is_complete.ensures.nowhere
-    (λ old previous.
-    let stayed_sections = stays_of p _ _ _ f old previous in (
-      c.is_complete.ensures.sound old (known_link p s a) stayed_sections,
-      c.is_complete.ensures.lain old (known_link p s a) stayed_sections,
-    ))
-    f.patches (λ nothing nowhere. c.in_ok-draw_image.ensures.image s a drawable nothing nowhere)
-    (λ old good sound lain patches before.
-    c.in_ok-draw_image.ensures.redrawn old (new_link p s) a refl drawable good f.good sound lain
-    (subst (ArePatchesOf old (new_link p s)) (sym c.deref.ensures.value) patches) before))
+    c.requires.previous c.is_complete.ensures.none
+    (λ old previous. c.is_complete.ensures.sound old (known_link p s a) (stays_of p _ _ _ f old previous))
+    f.patches (λ nothing. c.in_ok-draw_image.ensures.image s a drawable nothing)
+    (λ old good sound patches before. c.in_ok-draw_image.ensures.redrawn old (new_link p s) a refl drawable good f.good
+    sound (subst (ArePatchesOf old (new_link p s)) (sym c.deref.ensures.value) patches) before))
 
 pub returns-clause-reads : goal.returns-clause-reads
 returns-clause-reads c =

@@ -16,4 +16,4 @@ returns c =
     row_as _ _ _ _
     (λ k. same_number x c.args.indexed_layout.now c.args.object.0 k c.in-Some.from _ _ c.in-Some.ensures
     (c.addresses_of-before.ensures.are (record { 0 = k })) (c.addresses_of-now.ensures.are (record { 0 = k })))
-    c.in_ok-add_origins.ensures
+    c.in_ok-add_flags.ensures

@@ -1,7 +1,7 @@
 use Rattle.std.proofs.Common.{None, arith}
 use Rattle.std.proofs.lemmas.List.{get_or_past}
 use Rattle.relink_driver.specs.PreviousLink.{previous_state}
-use Rattle.relink_driver.specs.StayedColumn.{key_at, origin_number}
+use Rattle.relink_driver.specs.StayedColumn.{key_at, kept_number}
 use Rattle.relink_driver.proofs.Columns.{column_done, none_where_new}
 use Rattle.relink_driver.proofs.stayed_column.column_beside.Goals as goal
 
@@ -9,7 +9,7 @@ pub returns : goal.returns
 returns c = λ object number.
     let x = previous_state c.args.previous.now in
     let t = c.args.indexed_layout.now in
-    column_done (origin_number x t) _ _ c.loop-place.place object.0 number.0
+    column_done (kept_number x t) _ _ c.loop-place.place object.0 number.0
     (λ past. none_where_new x t (key_at object.0 number.0)
     (get_or_past x.from object.0 None (omega (arith, past, c.loop-place-test.false))))
     c.loop-place.invariant

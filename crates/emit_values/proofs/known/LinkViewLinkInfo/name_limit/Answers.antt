@@ -1,4 +1,4 @@
-use Rattle.emit_values.proofs.Seeing.{case_within}
+use Rattle.emit_values.proofs.Cased.{case_within}
 use Rattle.emit_values.proofs.known.LinkViewLinkInfo.name_limit.Goals as goal
 
 pub returns : goal.returns

@@ -1,7 +1,6 @@
 use Rattle.std.proofs.Common.{ap}
 use Rattle.emit.specs.relocate.KnownLink.{KnownLink}
 use Rattle.relink_driver.specs.StayedSections.{previous_of, range_of}
-use Rattle.relink_driver.proofs.Originating.{have_lain, nowhere}
 use Rattle.relink_driver.proofs.Ranges.{complete_or_none, if_known, none_known, sound}
 use Rattle.relink_driver.proofs.stayed_sections.StayedSections.is_complete.Goals as goal
 
@@ -21,12 +20,3 @@ returns-clause-sound c = λ old l h key.
 pub returns-clause-none : goal.returns-clause-none
 returns-clause-none c = λ e k.
     none_known (previous_of c.args.self.now.previous) c.args.self.now.indexed_layout.now k (ap previous_of e)
-
-pub returns-clause-lain : goal.returns-clause-lain
-returns-clause-lain c = λ old l h.
-    have_lain old l (λ k. ap (λ (m : KnownLink). m.number k) h.link) h.names c.args.self.now.indexed_layout.now
-    h.indexed_layout (previous_of c.args.self.now.previous) h.previous
-
-pub returns-clause-nowhere : goal.returns-clause-nowhere
-returns-clause-nowhere c = λ e k.
-    nowhere (previous_of c.args.self.now.previous) c.args.self.now.indexed_layout.now k (ap previous_of e)

@@ -1,17 +1,11 @@
 use Rattle.std.proofs.Common.{◌∙◌, ap, sym}
 use Rattle.std.specs.Prelude.{is_some}
 use Rattle.ldmodel.specs.declared.sections.Part.{Part}
-use Rattle.place.specs.IndexedLayout.{table_key}
-use Rattle.relink_driver.specs.PreviousLink.{previous_of}
-use Rattle.relink_driver.specs.StayedColumn.{is_here}
 use Rattle.relink_driver.specs.StayedSections.{range_of}
-use Rattle.relink_driver.proofs.Columns.{here_if_kept}
 use Rattle.relink_driver.proofs.stayed_sections.StayedSections.is_known.Goals as goal
 
 pub returns-in-InTable : goal.returns-in-InTable
 returns-in-InTable c =
     let s = c.args.self.now in
-    c.has_stayed.ensures ∙ ap is_here (s.found c.args.section.object c.in-InTable.number)
-    ∙ here_if_kept (previous_of s.previous) s.indexed_layout.now (table_key c.args.section.object c.in-InTable.number)
-    ∙ ap (λ (p : Part). is_some (range_of s (record { object = c.args.section.object; part = p })))
-    (sym c.in-InTable.is)
+    c.has_stayed.ensures ∙ s.found c.args.section.object c.in-InTable.number
+    ∙ ap (λ (p : Part). is_some (range_of s (record { object = c.args.section.object; part = p }))) (sym c.in-InTable.is)

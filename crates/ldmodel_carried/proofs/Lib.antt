@@ -1,3 +1,0 @@
-pub mod CarriedBytes
-pub mod CarriedGaps
-pub mod InPlace

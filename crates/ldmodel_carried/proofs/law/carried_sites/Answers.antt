@@ -1,5 +1,0 @@
-use Rattle.ldmodel_carried.proofs.CarriedBytes as carried
-use Rattle.ldmodel_carried.proofs.law.carried_sites.Goals as goal
-
-pub returns : goal.returns
-returns c = carried.carried_site
