@@ -350,8 +350,8 @@ fn gap_most(file: &FileImage) -> usize {
     let mut end = 0;
     let mut most = 0;
     for (at, bytes) in file.pieces() {
-        most = most.max(at - end);
-        end = at + bytes.len() as u64;
+        most = most.max(at.saturating_sub(end));
+        end = end.max(at.saturating_add(bytes.len() as u64));
     }
     usize::try_from(most).unwrap_or(0)
 }
