@@ -47,7 +47,7 @@ fn instance(glob: &[u8]) -> Option<BString> {
 }
 
 /// Two objects with a section for each pattern of a script.
-pub(super) fn objects(script: &Script) -> Vec<Object> {
+pub(crate) fn objects(script: &Script) -> Vec<Object> {
     let mut names = BTreeSet::new();
     for statement in &script.statements {
         if let Statement::Sections(items) = &statement.node {

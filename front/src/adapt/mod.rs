@@ -1,6 +1,6 @@
 //! `ldi-adapt`: a script of GNU ld's language as one of the profile.
 
-mod invented;
+pub(crate) mod invented;
 mod words;
 
 use std::ffi::OsString;

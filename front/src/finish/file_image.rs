@@ -160,7 +160,7 @@ impl FilePlan {
     /// The file: the headers, what is loaded, what is not loaded, and the section headers.
     pub(super) fn file(mut self, image: Vec<u8>) -> FileImage {
         let mut pieces = Vec::with_capacity(self.loaded.len() + 8);
-        for (at, range) in self.loaded.drain(..) {
+        for (at, range) in self.loaded.drain(..).filter(|(_, range)| !range.is_empty()) {
             pieces.push(Piece { at, source: Source::Image(range) });
         }
         pieces.sort_by_key(|piece| piece.at);

@@ -74,7 +74,7 @@ type Linker = (PathBuf, Vec<OsString>);
 fn fallback_of(environment: &Environment) -> Result<Option<Linker>, BadFallback> {
     let text = environment.get(OsStr::new(VARIABLE)).cloned().unwrap_or_default();
     let shown = text.to_string_lossy().into_owned();
-    let words = words_of(text.as_bytes()).ok_or_else(|| BadFallback::Quotation(shown))?;
+    let words = words_of(text.as_bytes()).ok_or(BadFallback::Quotation(shown))?;
     let first = match words.first() {
         Some(first) if words.len() == 1 && first == NONE => return Ok(None),
         Some(first) => first.clone(),

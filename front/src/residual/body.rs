@@ -349,12 +349,12 @@ impl<'a> Walk<'a> {
         self.sync_inside(span, body, uses_dot(&e));
         let at = At { at: span.start, is_assert: false, dot: Some(body.dot()) };
         let start = self.start_symbol(body);
-        self.symbol(assignment, &e, span, at, &mut |walk, own| walk.from_start(own, &start, &body.name));
+        self.symbol(assignment, &e, span, at, &mut |walk, own| walk.counted_from(own, &start, &body.name));
         self.write_start(body);
     }
 
     /// Other forms of an expression in an output section: numbers count from its start there.
-    fn from_start(&mut self, own: &Expr, start: &Expr, name: &Name) -> Vec<(Expr, String)> {
+    fn counted_from(&mut self, own: &Expr, start: &Expr, name: &Name) -> Vec<(Expr, String)> {
         let why = format!("a number counts from the start of {name} in it");
         let distance = format!("it works on the distance from the start of {name}");
         let own_distance = difference(own.clone(), start.clone());
@@ -514,7 +514,7 @@ impl<'a> Walk<'a> {
         };
         let at = At { at: span.start, is_assert: false, dot: Some(body.dot()) };
         let start = self.start_symbol(body);
-        let mut settled = self.settle(e, at, needed, &mut |walk, own| walk.from_start(own, &start, &body.name));
+        let mut settled = self.settle(e, at, needed, &mut |walk, own| walk.counted_from(own, &start, &body.name));
         if width == DataWidth::SignedQuad {
             let new = format!("{word}({})", self.written(&settled.e));
             self.edits.replace(self.text, span, new);

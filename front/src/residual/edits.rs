@@ -9,21 +9,16 @@ use crate::script::tree::Span;
 struct Insert {
     /// Its place among those of one offset.
     order: i32,
-    what: What,
-}
-
-#[derive(Clone, Debug)]
-enum What {
-    Text(Vec<u8>),
-    /// A stretch of the text with its own changes.
-    Moved(Span),
+    text: Vec<u8>,
+    /// The offset of the old text that it came from.
+    origin: u32,
 }
 
 /// Changes over one text. A change inside another one that replaces its surroundings is dropped.
 #[derive(Debug, Default)]
 pub(super) struct Edits {
-    /// Spans and their new texts; `None` for what is moved elsewhere.
-    replaced: Vec<(Span, Option<Vec<u8>>)>,
+    /// Spans and their new texts.
+    replaced: Vec<(Span, Vec<u8>)>,
     inserted: BTreeMap<u32, Vec<Insert>>,
 }
 
@@ -43,7 +38,11 @@ impl Edits {
             new.push(b' ');
         }
         new.extend(rest);
-        self.replaced.push((span, Some(new)));
+        // A statement is decided on step by step: the last text for it counts.
+        match self.replaced.iter_mut().rev().take(4).find(|(other, _)| *other == span) {
+            Some((_, old)) => *old = new,
+            None => self.replaced.push((span, new)),
+        }
     }
 
     /// Takes a span out, but for its comments and line ends.
@@ -53,19 +52,18 @@ impl Edits {
 
     /// A text before an offset; those of one offset stand by `order`, then as they came.
     pub(super) fn insert(&mut self, at: u32, order: i32, text: impl Into<Vec<u8>>) {
-        self.inserted.entry(at).or_default().push(Insert { order, what: What::Text(text.into()) });
+        self.insert_from(at, order, text, at);
     }
 
-    /// A span with its own changes to another place; nothing stays where it was.
-    pub(super) fn move_to(&mut self, span: Span, at: u32, order: i32) {
-        self.inserted.entry(at).or_default().push(Insert { order, what: What::Moved(span) });
-        self.replaced.push((span, None));
+    /// The same of a text that came from another offset.
+    pub(super) fn insert_from(&mut self, at: u32, order: i32, text: impl Into<Vec<u8>>, origin: u32) {
+        self.inserted.entry(at).or_default().push(Insert { order, text: text.into(), origin });
     }
 
     /// Whether a text that was written last has a name in it.
     pub(super) fn mentions(&self, name: &[u8]) -> bool {
-        let texts = self.replaced.iter().rev().take(2).filter_map(|(_, text)| text.as_deref());
-        texts.into_iter().any(|text| memchr::memmem::find(text, name).is_some())
+        let mut texts = self.replaced.iter().rev().take(2);
+        texts.any(|(_, text)| memchr::memmem::find(text, name).is_some())
     }
 
     /// The changed text.
@@ -76,7 +74,7 @@ impl Edits {
         }
         let mut rendering =
             Rendering { edits: &self, old: text, text: Vec::with_capacity(text.len()), origins: vec![0] };
-        rendering.stretch(Span { start: 0, end: u32::try_from(text.len()).unwrap_or(u32::MAX) }, None);
+        rendering.all();
         Rendered { text: rendering.text, origins: rendering.origins }
     }
 }
@@ -111,66 +109,45 @@ struct Rendering<'a> {
 }
 
 impl Rendering<'_> {
-    /// A stretch of the old text with its changes; one that is moved here is not taken for moved away.
-    fn stretch(&mut self, whole: Span, moved: Option<Span>) {
+    /// The old text with its changes.
+    fn all(&mut self) {
         let edits = self.edits;
-        let first = edits.replaced.partition_point(|(span, _)| span.start < whole.start);
-        let spans = edits.replaced.get(first..).unwrap_or_default().iter();
-        let inside = spans.take_while(|(span, _)| span.start <= whole.end);
-        let mut done = whole.start;
-        for (span, new) in inside {
-            if span.start < done || span.end > whole.end || Some(*span) == moved {
+        let end = u32::try_from(self.old.len()).unwrap_or(u32::MAX);
+        let mut done = 0;
+        for (span, new) in edits.replaced.iter().filter(|(span, _)| span.end <= end) {
+            if span.start < done {
                 continue;
             }
-            done = self.own(done, span.start, moved);
-            self.inserts(span.start, moved);
-            match new {
-                Some(new) => self.put(new, span.start, false),
-                None => {}
-            }
+            done = self.own(done, span.start);
+            self.inserts(span.start);
+            self.put(new, span.start, false);
             done = done.max(span.end);
-            if span.start == span.end {
-                continue;
-            }
         }
-        self.own(done, whole.end, moved);
-        if moved.is_none() {
-            self.inserts(whole.end, moved);
-        }
+        self.own(done, end);
+        self.inserts(end);
     }
 
     /// The old text between two offsets, with what is inserted before the bytes of it; gives the second offset.
-    fn own(&mut self, from: u32, to: u32, moved: Option<Span>) -> u32 {
+    fn own(&mut self, from: u32, to: u32) -> u32 {
         let places: Vec<u32> = match from < to {
             true => self.edits.inserted.range(from..to).map(|(at, _)| *at).collect(),
             false => Vec::new(),
         };
+        let old = self.old;
         let mut done = from;
         for at in places {
-            let old = self.old;
             self.put(old.get(done as usize..at as usize).unwrap_or_default(), done, true);
             done = at;
-            self.inserts(at, moved);
+            self.inserts(at);
         }
-        let old = self.old;
         self.put(old.get(done as usize..to as usize).unwrap_or_default(), done, true);
         to.max(from)
     }
 
-    fn inserts(&mut self, at: u32, moved: Option<Span>) {
-        if moved.map_or(false, |span| span.start == at || span.end == at) {
-            return;
-        }
+    fn inserts(&mut self, at: u32) {
         let edits = self.edits;
         for insert in edits.inserted.get(&at).map(Vec::as_slice).unwrap_or_default() {
-            match &insert.what {
-                What::Text(text) => self.put(text, at, false),
-                What::Moved(span) => {
-                    self.put(b" ", span.start, false);
-                    self.stretch(*span, Some(*span));
-                    self.put(b" ", span.end.saturating_sub(1), false);
-                }
-            }
+            self.put(&insert.text, insert.origin, false);
         }
     }
 
@@ -256,12 +233,12 @@ mod tests {
     }
 
     #[test]
-    fn a_stretch_moves_with_its_changes() {
+    fn a_text_that_came_from_elsewhere_has_its_line() {
         let text = "first\nsecond\nthird";
         let done = rendered(text, |edits| {
-            edits.move_to(span(13, 18), 0, 0);
-            edits.replace(text.as_bytes(), span(14, 15), "H");
+            edits.insert_from(0, 0, "\nmoved\n", 13);
+            edits.replace(text.as_bytes(), span(13, 18), "");
         });
-        assert_eq!(done, (" tHird first\nsecond\n".into(), vec![13, 6, 13]));
+        assert_eq!(done, ("\nmoved\nfirst\nsecond\n".into(), vec![13, 13, 0, 6, 13]));
     }
 }

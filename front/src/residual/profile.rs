@@ -325,7 +325,7 @@ mod tests {
     #[test]
     fn patterns_are_written_as_words() {
         assert_eq!(written(".tab+*"), (".tab\\+*".into(), true));
-        assert_eq!(written("[!*-z]"), ("[\\$?]".replace('\\', ""), true));
+        assert_eq!(written("[!*-z]"), ("$".into(), true));
         assert_eq!(written("a.o,"), ("a.o\\,".into(), true));
         assert_eq!(written("[+]"), ("\\+".into(), true));
         assert_eq!(written("[a+]"), ("[a]".into(), false));

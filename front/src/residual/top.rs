@@ -6,7 +6,7 @@ use super::expression::{any, made, says, uses_dot, with_dot, written};
 use super::note::{NoteKind, Topic};
 use super::profile::is_name;
 use super::rules::updated;
-use super::walk::{At, Memory, Settled, Walk};
+use super::walk::{At, Memory, Others, Settled, Walk};
 use super::NUMBER_ENTRY;
 use crate::layout::evaluation::{Definer, StatementKind};
 use crate::script::tree::{
@@ -177,14 +177,15 @@ impl<'a> Walk<'a> {
                 blocks.push((statement.span, regions));
             }
         }
-        let written: Vec<String> = blocks.iter().map(|(_, regions)| self.regions(regions)).collect();
+        let written: Vec<Vec<String>> = blocks.iter().map(|(_, regions)| self.regions(regions)).collect();
         let used = script.statements.iter().find(|statement| names_region(&statement.node));
         let used = used.map_or(u32::MAX, |statement| statement.span.start);
         let has_sections = script.statements.iter().any(|one| matches!(one.node, Statement::Sections(_)));
         let before = if has_sections { used.min(insertion) } else { used };
         let must_move = blocks.len() > 1 || blocks.iter().any(|(span, _)| span.start > before);
         for (index, (span, _)) in blocks.iter().enumerate() {
-            let new = written.get(index).cloned().unwrap_or_default();
+            let new =
+                format!("MEMORY {{ {} }}", written.get(index).map(|regions| regions.join(" ")).unwrap_or_default());
             if must_move {
                 self.edits.blank(self.text, *span);
                 let why = match index {
@@ -197,16 +198,21 @@ impl<'a> Walk<'a> {
             }
         }
         if must_move {
-            let inner: Vec<&str> = written.iter().map(|block| inside(block)).collect();
             let at = blocks.first().map_or(before, |(span, _)| span.start.min(before));
-            self.edits.insert(at, FRONT, format!("MEMORY {{ {} }} ", inner.join(" ")));
+            self.edits.insert(at, FRONT, "MEMORY {\n");
+            for ((_, regions), block) in blocks.iter().zip(&written) {
+                for (region, text) in regions.iter().zip(block) {
+                    self.edits.insert_from(at, FRONT, format!("{text}\n"), region.span.start);
+                }
+            }
+            self.edits.insert(at, FRONT, "} ");
         }
         insertion
     }
 
     /// The regions of a MEMORY in the profile's form.
-    fn regions(&mut self, regions: &[Spanned<MemoryRegion>]) -> String {
-        let mut written = String::from("MEMORY {");
+    fn regions(&mut self, regions: &[Spanned<MemoryRegion>]) -> Vec<String> {
+        let mut written = Vec::with_capacity(regions.len());
         for region in regions {
             let span = region.span;
             let node = &region.node;
@@ -224,11 +230,10 @@ impl<'a> Walk<'a> {
             });
             let (origin, from) = self.of_region(&node.origin, span, known.map(|(origin, _)| origin));
             let (length, size) = self.of_region(&node.length, span, known.map(|(_, length)| length));
-            written.push_str(&format!(" {} : ORIGIN = {origin}, LENGTH = {length}", node.name.node));
+            written.push(format!("{} : ORIGIN = {origin}, LENGTH = {length}", node.name.node));
             let (origin, length) = (from.unwrap_or(0), size.unwrap_or(u64::MAX));
             self.regions.insert(node.name.node.clone(), Memory { origin, length, next: origin });
         }
-        written.push_str(" }");
         written
     }
 
@@ -294,14 +299,7 @@ impl<'a> Walk<'a> {
     }
 
     /// Writes an assignment to a symbol. `others` gives other forms of its expression.
-    pub(super) fn symbol(
-        &mut self,
-        assignment: &Assignment,
-        e: &Expr,
-        span: Span,
-        at: At,
-        others: &mut dyn FnMut(&mut Walk<'a>, &Expr) -> Vec<(Expr, String)>,
-    ) {
+    pub(super) fn symbol(&mut self, assignment: &Assignment, e: &Expr, span: Span, at: At, others: Others<'_, 'a>) {
         let name = &assignment.target.node;
         let (version, is_last) = match self.versions.of_statement(name, span.start) {
             Some((version, is_last)) => (version.clone(), is_last),
@@ -451,7 +449,7 @@ impl<'a> Walk<'a> {
         let at = At { at: span.start, is_assert: false, dot: Some(self.dot) };
         let mut settled = self.settle(e, at, needed, &mut |_, _| Vec::new());
         self.hoist(&mut settled, span, at);
-        if matches!(assignment.value.kind, ExprKind::Assert(..)) && needed.map_or(false, |after| after == self.dot) {
+        if matches!(assignment.value.kind, ExprKind::Assert(..)) && needed == Some(self.dot) {
             self.report(span, &settled);
             return self.edits.blank(self.text, span);
         }
@@ -707,9 +705,4 @@ fn squeezed_bytes(text: &str) -> Vec<u8> {
 
 fn squeezed_is_other(own: &[u8], new: &str) -> bool {
     own != squeezed_bytes(new).as_slice()
-}
-
-/// What stands between the braces of a written MEMORY.
-fn inside(block: &str) -> &str {
-    block.trim_start_matches("MEMORY {").trim_end_matches('}').trim()
 }

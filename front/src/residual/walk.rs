@@ -53,6 +53,9 @@ pub(super) struct Settled {
     pub(super) reasons: Reasons,
 }
 
+/// Gives other forms of an expression of the profile, each with what is said of it.
+pub(super) type Others<'o, 'a> = &'o mut dyn FnMut(&mut Walk<'a>, &Expr) -> Vec<(Expr, String)>;
+
 /// Writes a script in the profile.
 pub(super) struct Walk<'a> {
     pub(super) request: Request<'a>,
@@ -287,13 +290,7 @@ impl<'a> Walk<'a> {
 
     /// The form of the profile that has the value that GNU ld has: the first of those that a rule gives and others made
     /// of it; else the number. Without a value of GNU ld's the first.
-    pub(super) fn settle(
-        &mut self,
-        e: &Expr,
-        at: At,
-        needed: Option<u64>,
-        others: &mut dyn FnMut(&mut Walk<'a>, &Expr) -> Vec<(Expr, String)>,
-    ) -> Settled {
+    pub(super) fn settle(&mut self, e: &Expr, at: At, needed: Option<u64>, others: Others<'_, 'a>) -> Settled {
         let mut reasons = Reasons::default();
         let own = translate(e, &View { walk: self, at }, &mut reasons);
         let needed = match needed {
