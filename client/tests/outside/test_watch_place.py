@@ -92,6 +92,12 @@ class FifoTest(WatchTest):
 class SignalTest(WatchTest):
     """Signals."""
 
+    def test_name(self) -> None:
+        """It is found by its name, as by `pkill`."""
+        process = self.watch()
+        self.wait(lambda: self.number() == 1, "there is no image")
+        self.assertEqual(Path(f"/proc/{process.pid}/comm").read_text(encoding="utf-8"), "ldi-watch\n")
+
     def test_early(self) -> None:
         """A signal ends it whenever it comes, without a traceback."""
         begun = time.monotonic()
