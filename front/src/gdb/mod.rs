@@ -58,6 +58,11 @@ impl GdbFault {
     }
 }
 
+/// The script of gdb for a map, whose objects are in the working folder; `None` where the map is none.
+pub fn script_of(map: &[u8]) -> Option<Vec<u8>> {
+    Some(Script::of(&LinkMap::read(map).ok()?, &Objects::new(Path::new(".")), None).text)
+}
+
 /// The program `ldi-gdb`; gives its exit status.
 pub fn main(words: &[OsString]) -> u8 {
     let environment: Environment = std::env::vars_os().collect();

@@ -168,13 +168,7 @@ impl Link<'_> {
 
     /// Says that a symbol has no value as its section is not in the image.
     fn say_section_outside(&self) {
-        if let Err(Stop::Refused(refused)) = &self.plan.evaluation {
-            if let RefusedReason::UnresolvableSymbol(name) = &refused.reason {
-                let why = "is not in the image, so that its value cannot be written: take it in, under KEEP where \
-                           --gc-sections leaves it out";
-                say(format!("{}: the section of {name} {why}", self.path()));
-            }
-        }
+        section_outside(self.plan).into_iter().for_each(say);
     }
 
     /// What ends a link without an image.
@@ -235,11 +229,7 @@ impl Link<'_> {
 
     /// Options and inputs of which something is said.
     fn notes(&self) {
-        self.command.notes.iter().for_each(say);
-        let script = &self.plan.inputs.scripts.reading.script;
-        for section in self.command.section_starts.keys().filter(|name| !has_section(script, name)) {
-            say(format!("the address of {section}: the script has no such section"));
-        }
+        notes_of(self.command, self.plan).into_iter().for_each(say);
     }
 
     /// Writes the files of a good link.
@@ -322,6 +312,29 @@ impl Link<'_> {
     }
 }
 
+/// Options and inputs of which something is said.
+pub(crate) fn notes_of(command: &Command, plan: &LinkPlan) -> Vec<String> {
+    let script = &plan.inputs.scripts.reading.script;
+    let absent = command.section_starts.keys().filter(|name| !has_section(script, name));
+    let absent = absent.map(|section| format!("the address of {section}: the script has no such section"));
+    command.notes.iter().cloned().chain(absent).collect()
+}
+
+/// Why a symbol has no value, where its section is not in the image.
+pub(crate) fn section_outside(plan: &LinkPlan) -> Option<String> {
+    match &plan.evaluation {
+        Err(Stop::Refused(refused)) => match &refused.reason {
+            RefusedReason::UnresolvableSymbol(name) => {
+                let why = "is not in the image, so that its value cannot be written: take it in, under KEEP where \
+                           --gc-sections leaves it out";
+                Some(format!("{}: the section of {name} {why}", plan.inputs.scripts.path.display()))
+            }
+            _ => None,
+        },
+        _ => None,
+    }
+}
+
 /// Whether a script has an output section of a name.
 fn has_section(script: &Script, name: &[u8]) -> bool {
     script.statements.iter().any(|statement| match &statement.node {
@@ -334,15 +347,25 @@ fn has_section(script: &Script, name: &[u8]) -> bool {
 }
 
 fn write(path: &Path, file: &FileImage, mode: rustix::fs::Mode) -> Result<(), LinkFault> {
+    let zeros = zeros_of(file);
+    write_file(path, &pieces_of(file, &zeros), mode, Reader::IsWaitedFor).map_err(LinkFault::NotWritten)
+}
+
+/// The zeros of the greatest gap between two pieces.
+pub(crate) fn zeros_of(file: &FileImage) -> Vec<u8> {
+    vec![0; gap_most(file)]
+}
+
+/// The pieces of a file one after the other, with zeros between them.
+pub(crate) fn pieces_of<'a>(file: &'a FileImage, zeros: &'a [u8]) -> Vec<&'a [u8]> {
     let mut pieces: Vec<&[u8]> = Vec::new();
-    let zeros = vec![0; gap_most(file)];
     let mut end = 0;
     for (at, bytes) in file.pieces() {
-        pieces.push(zeros.get(..(at - end) as usize).unwrap_or_default());
+        pieces.push(zeros.get(..at.saturating_sub(end) as usize).unwrap_or_default());
         pieces.push(bytes);
         end = at + bytes.len() as u64;
     }
-    write_file(path, &pieces, mode, Reader::IsWaitedFor).map_err(LinkFault::NotWritten)
+    pieces
 }
 
 /// The greatest gap between two pieces.
@@ -357,7 +380,7 @@ fn gap_most(file: &FileImage) -> usize {
 }
 
 /// The file of the map: in a folder the image's name with `.map`; `%` stands for the image's path.
-fn map_path(command: &Command) -> Option<PathBuf> {
+pub(crate) fn map_path(command: &Command) -> Option<PathBuf> {
     let path = command.map_file.as_ref()?;
     let output = command.output.as_os_str().as_bytes();
     if path.is_dir() {

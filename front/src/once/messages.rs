@@ -27,7 +27,7 @@ fn origin(plan: &LinkPlan, line: u32) -> Option<Place> {
 }
 
 /// The messages of an object that is refused.
-fn of_object(plan: &LinkPlan, index: usize, refusal: Refusal, environment: &Environment) -> Vec<Diagnostic> {
+pub(crate) fn of_object(plan: &LinkPlan, index: usize, refusal: Refusal, environment: &Environment) -> Vec<Diagnostic> {
     let ldi = find_program("ldi", environment);
     match plan.held().get(index) {
         Some(held) => {
@@ -57,14 +57,24 @@ pub(super) fn detail(plan: &LinkPlan, refused: &[(usize, Refusal)], environment:
 
 /// The script, where it is refused.
 pub(super) fn say_refused_script(plan: &LinkPlan, refusal: Refusal, environment: &Environment) {
+    say_all(&of_script(plan, refusal, environment));
+}
+
+/// The messages of a script that is refused.
+pub(crate) fn of_script(plan: &LinkPlan, refusal: Refusal, environment: &Environment) -> Vec<Diagnostic> {
     let ldi = find_program("ldi", environment);
     let name = plan.inputs.scripts.path.as_os_str().as_bytes().as_bstr();
     let input = RefusedInput { name, refusal, data: Some(&plan.residual.text), ldi: &ldi };
-    say_all(&refusals_of_script(&input, &|line| origin(plan, line)));
+    refusals_of_script(&input, &|line| origin(plan, line))
 }
 
 /// The faults of a link.
 pub(super) fn say_faults(command: &Command, plan: &LinkPlan, faults: &[u8]) {
+    say_all(&of_faults(command, plan, faults, Some(GREATEST_FAULTS)));
+}
+
+/// The messages of the faults of a link, so many at most.
+pub(crate) fn of_faults(command: &Command, plan: &LinkPlan, faults: &[u8], limit: Option<usize>) -> Vec<Diagnostic> {
     let inputs = Inputs {
         script_path: &plan.inputs.scripts.path,
         script: &plan.residual.text,
@@ -72,7 +82,7 @@ pub(super) fn say_faults(command: &Command, plan: &LinkPlan, faults: &[u8]) {
         objects: plan.inputs.objects(),
         entry: command.entry.as_ref().map(|entry| OsStr::from_bytes(entry.as_ref())),
     };
-    say_all(&fault_diagnostics(faults, &inputs, Some(GREATEST_FAULTS)));
+    fault_diagnostics(faults, &inputs, limit)
 }
 
 /// A text that is no script.
@@ -82,6 +92,10 @@ pub(super) fn say_no_script(error: &ScriptError) {
 
 /// What was passed over in the scripts.
 pub(super) fn say_warnings(plan: &LinkPlan) {
-    let warnings: Vec<Diagnostic> = plan.inputs.scripts.reading.warnings.iter().map(Diagnostic::from).collect();
-    say_all(&warnings);
+    say_all(&warnings(plan));
+}
+
+/// The messages of what was passed over in the scripts.
+pub(crate) fn warnings(plan: &LinkPlan) -> Vec<Diagnostic> {
+    plan.inputs.scripts.reading.warnings.iter().map(Diagnostic::from).collect()
 }

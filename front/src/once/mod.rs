@@ -4,9 +4,9 @@ mod ask;
 mod builds;
 mod fallback;
 mod link;
-mod messages;
+pub(crate) mod messages;
 mod tables;
-mod verdict;
+pub(crate) mod verdict;
 
 use std::ffi::OsString;
 use std::os::unix::ffi::OsStrExt;
@@ -18,6 +18,8 @@ use crate::inputs::InputFault;
 use crate::plan::{Environment, PlanFault, Scripts, ScriptsFault};
 use crate::snapshot::Snapshot;
 use fallback::Reasons;
+#[allow(unused_imports)] // for the server and the watch
+pub(crate) use link::{map_path, notes_of, pieces_of, section_outside, zeros_of};
 pub use link::{LinkFault, Status};
 
 /// A line for people.

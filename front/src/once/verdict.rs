@@ -13,15 +13,15 @@ const SMALL: usize = 5000;
 
 /// What came of a comparison.
 #[derive(Debug, Default)]
-pub(super) struct Verdict {
+pub(crate) struct Verdict {
     /// The lines to be said.
-    pub(super) lines: Vec<String>,
+    pub(crate) lines: Vec<String>,
     /// Whether the image is another than GNU ld's, and nothing that is said explains it: then none is written.
-    pub(super) differs: bool,
+    pub(crate) differs: bool,
 }
 
 /// Whether the map is wanted for a comparison.
-pub(super) fn wants_map(plan: &LinkPlan, collects_sections: bool) -> bool {
+pub(crate) fn wants_map(plan: &LinkPlan, collects_sections: bool) -> bool {
     match &plan.evaluation {
         Ok(evaluation) => collects_sections || evaluation.sections.len() <= SMALL,
         Err(_) => false,
@@ -29,7 +29,7 @@ pub(super) fn wants_map(plan: &LinkPlan, collects_sections: bool) -> bool {
 }
 
 /// Compares an image with what GNU ld makes of the script; says what is changed.
-pub(super) fn verdict(plan: &LinkPlan, image: &[u8], map: &[u8], is_verbose: bool) -> Result<Verdict, NoImage> {
+pub(crate) fn verdict(plan: &LinkPlan, image: &[u8], map: &[u8], is_verbose: bool) -> Result<Verdict, NoImage> {
     let evaluation = match &plan.evaluation {
         Ok(evaluation) => evaluation,
         Err(stop) => return Ok(Verdict { lines: unknown(plan, stop), differs: false }),
@@ -74,7 +74,7 @@ fn different(plan: &LinkPlan, checked: &Checked, is_verbose: bool) -> Verdict {
 }
 
 /// Whether a line of what is changed is said at all: program headers and the form are written after the link.
-pub(super) fn is_said(note: &Note) -> bool {
+pub(crate) fn is_said(note: &Note) -> bool {
     !matches!(note.topic, Topic::Segments | Topic::Form)
 }
 

@@ -71,6 +71,7 @@ pub struct Snapshot {
     questions: IndexMap<(Question, PathBuf), bool>,
     before: HashMap<PathBuf, Seen>,
     looks: Option<Looks>,
+    is_of_regular_files: bool,
 }
 
 impl Snapshot {
@@ -79,11 +80,16 @@ impl Snapshot {
         Snapshot::default()
     }
 
+    /// The same, where nothing but regular files is ever read: a pipe would be waited for.
+    pub fn of_regular_files() -> Snapshot {
+        Snapshot { is_of_regular_files: true, ..Snapshot::default() }
+    }
+
     /// The next one: what this one read is not read again where it is still the same.
     #[must_use]
     pub fn next(self) -> Snapshot {
         let before = self.files.into_iter().filter_map(|(path, seen)| Some((path, seen?))).collect();
-        Snapshot { before, ..Snapshot::default() }
+        Snapshot { before, is_of_regular_files: self.is_of_regular_files, ..Snapshot::default() }
     }
 
     /// The bytes of a regular file. Where it has the bytes that it had, they are the same in memory.
@@ -99,7 +105,7 @@ impl Snapshot {
     /// # Errors
     /// It is not there, a folder, a pipe that nobody writes, or cannot be read.
     pub fn read_any(&mut self, path: &Path) -> Result<Bytes, ReadFault> {
-        self.read_by(path, read_any)
+        self.read_by(path, if self.is_of_regular_files { read_regular } else { read_any })
     }
 
     fn read_by(&mut self, path: &Path, read: fn(&Path) -> Result<Seen, ReadFault>) -> Result<Bytes, ReadFault> {
