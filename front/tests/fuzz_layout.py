@@ -205,8 +205,8 @@ def compare(program: Program, one: Case, more: list[str]) -> tuple[str, str]:
         return (BOTH_REFUSE if answer.stop else GNU_REFUSES), f"{answer.stop} | {done.stderr.strip()}"
     if answer.stop:
         return WE_REFUSE, answer.stop
-    if "can't be allocated in segment" in done.stderr:
-        return GNU_REFUSES, done.stderr
+    if "can't be allocated in segment" in done.stderr or " adjusted to " in done.stderr:
+        return GNU_REFUSES, done.stderr  # segments of PHDRS that cannot be as they are asked for
     with open("gnu.out", "rb") as image, open("gnu.map", encoding="latin-1") as map_file:
         data, mapped = image.read(), map_file.read()
     found = differences(answer, read_image(data, loads_of(mapped)), data, mapped, one.script)

@@ -23,6 +23,7 @@ mod mapping;
 mod matching;
 pub mod names;
 mod orphans;
+mod overlaps;
 mod passes;
 mod program;
 mod reading;

@@ -8,7 +8,7 @@ use super::fold::Phase;
 use super::ids::{OutputId, RegionId};
 use super::link::Link;
 use super::orphans::Orphans;
-use super::program::{Program, StepKind};
+use super::program::{Output, OutputKind, Program, StepKind};
 use super::result::first_made;
 use super::rows::Rows;
 use super::settings::Settings;
@@ -52,11 +52,13 @@ pub(crate) fn run(program: Program, rows: &Rows, objects: &[Object], settings: &
     link.propagate_loads();
     link.undo_bounds();
     link.strip()?;
+    link.check_segments()?;
     link.find_relro(rows);
     link.size(true)?;
     link.settle_headers(true)?;
     link.end_bounds();
     link.values(Phase::Final)?;
+    link.check_addresses()?;
     Ok(link.result())
 }
 
@@ -180,6 +182,23 @@ impl Link<'_> {
             }
             before = Some(id);
         }
+    }
+
+    /// PHDRS without a section that names one of its segments is refused (ldlang.c, `lang_record_phdrs`).
+    fn check_segments(&self) -> Result<(), Stop> {
+        if self.program.phdrs.map_or(true, |count| count == 0) {
+            return Ok(());
+        }
+        let mut outputs = self.program.order.iter().filter_map(|id| self.output(*id)).filter(|output| output.counts());
+        let is_named = outputs.clone().any(|output| !output.segments.is_empty());
+        let is_loaded = |output: &Output| {
+            let is_allocated = output.place.as_ref().map_or(false, |place| place.flags.has(Flags::ALLOC));
+            is_allocated && output.kind != OutputKind::NoLoad
+        };
+        if !is_named && outputs.any(is_loaded) {
+            return refused(RefusedReason::NoSegments, None);
+        }
+        Ok(())
     }
 
     /// Whether there is anything in the part of the data segment that is read-only after relocation (ldlang.c,

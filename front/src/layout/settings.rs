@@ -25,7 +25,7 @@ pub struct Settings {
     pub section_starts: Vec<(Name, u64)>,
     /// Addresses of SEGMENT_START: `text-segment`, `rodata-segment`, `ldata-segment`, and `text`, `data`, `bss`.
     pub segment_starts: Vec<(Name, u64)>,
-    /// `--defsym` and the like before the script: assignments as statements of their own stand in the tree.
+    /// `--orphan-handling`
     pub orphans: OrphanHandling,
     /// `--unique`: patterns of names whose orphans stay apart; `None` without it, no pattern for all.
     pub unique: Option<Vec<Name>>,
@@ -39,9 +39,10 @@ pub struct Settings {
     pub gc: Option<GcSettings>,
     /// `--no-define-common`, or INHIBIT_COMMON_ALLOCATION: common blocks get no place.
     pub inhibits_common: bool,
-    /// Whether the script is read before the objects: it stands before them on the command line, or is the default one.
+    /// Whether the script is read before the objects: it stands before them on the command line. The default script is
+    /// read after them.
     pub script_first: bool,
-    /// `--no-check-sections` is not given: sections that overlap are refused.
+    /// `--no-check-sections` is not given: sections that overlap, and those without a region of MEMORY, are refused.
     pub checks_sections: bool,
 }
 

@@ -113,6 +113,12 @@ pub enum RefusedReason {
     /// Two sections have bytes at one address.
     #[error("{0} overlaps {1}")]
     Overlap(Name, Name),
+    /// PHDRS stands in the script, and no section names one of its segments.
+    #[error("no section is in a segment of PHDRS")]
+    NoSegments,
+    /// A section goes on behind the last address.
+    #[error("{0} wraps around the address space")]
+    Wraps(Name),
     /// A type of an output section that is none.
     #[error("invalid type for output section {0}")]
     SectionType(Name),

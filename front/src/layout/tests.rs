@@ -460,6 +460,20 @@ fn refusals() {
     assert_eq!(stopped(none), RefusedReason::NoRegion(".a".into()));
 }
 
+/// ldlang.c, `lang_check_section_addresses`: bytes at one load address, or sections at one address that are no overlays.
+#[test]
+fn overlaps() {
+    let one = "SECTIONS { .a 0x100 : { *(.text) } .b 0x101 : { *(.data) } }";
+    assert_eq!(stopped(one), RefusedReason::Overlap(".b".into(), ".a".into()));
+    let loads = "SECTIONS { .a 0x100 : AT(0x1000) { *(.text) } .b 0x200 : AT(0x1002) { *(.data) } }";
+    assert_eq!(stopped(loads), RefusedReason::Overlap(".b".into(), ".a".into()));
+    assert_eq!(stopped("SECTIONS { .a 0xfffffffffffffffe : { *(.data) } }"), RefusedReason::Wraps(".a".into()));
+    let overlays = "SECTIONS { .a 0x100 : AT(0x1000) { *(.text) } .b 0x100 : AT(0x2000) { *(.data) } }";
+    assert!(laid_with(overlays, &[plain()], &Settings::default()).is_ok());
+    let settings = Settings { checks_sections: false, ..Settings::default() };
+    assert!(laid_with(one, &[plain()], &settings).is_ok());
+}
+
 /// elflink.c, `bfd_elf_gc_sections`: what is reached from KEEP, the entry, names that are wanted, notes and bounds.
 #[test]
 fn collection() {
