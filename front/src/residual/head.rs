@@ -348,6 +348,14 @@ impl<'a> Walk<'a> {
             self.note(NoteKind::Rewritten, e.span.start, format!("AT({what}) of {name}: {why}"));
             return self.predicted_load(head);
         }
+        if uses_dot(e) {
+            let what = "`.` is the place before the section; to GNU ld 2.40 it is 0 there";
+            self.note(NoteKind::Changed, e.span.start, format!("AT of {name}: {what}"));
+            let settled = self.settle(e, at, None, &mut |_, _| Vec::new());
+            head.load = Some(self.text_of(e, &settled));
+            self.report(e.span, &settled);
+            return self.value_of(&settled.e, at).or(needed).unwrap_or(head.start);
+        }
         let start = self.start_expression(section, head);
         let own = with_section(e, &name, &start);
         let mut settled = self.settle(&own, at, needed, &mut |_, _| Vec::new());

@@ -129,6 +129,14 @@ fn load_addresses_are_those_of_gnu_ld() {
 }
 
 #[test]
+fn a_load_address_by_dot_keeps_its_meaning_here() {
+    let script = "SECTIONS { . = 0x1000; .t : AT(. - 0x800) { *(.text) } }";
+    let done = adapted(script);
+    assert_eq!(done.text, script.as_bytes());
+    assert!(done.changed().count() == 1);
+}
+
+#[test]
 fn what_is_not_loaded_goes() {
     let done = text("SECTIONS { . = 0x1000; .t : { *(.text) } .comment 0 : { *(.comment) } end = .; }");
     assert!(!done.contains("comment"), "{done}");
