@@ -26,17 +26,24 @@ pub(super) struct Reasons<'a> {
     say_more: Option<&'a dyn Fn()>,
     /// What is said in place of the lines where the other linker links: the first thing that is to blame.
     first: Option<&'a dyn Fn() -> String>,
+    /// The status where nothing links, which `say_more` alone says then; `None`: the lines are said.
+    status: Option<Status>,
 }
 
 impl<'a> Reasons<'a> {
     /// These lines.
     pub(super) fn of(lines: Vec<String>) -> Reasons<'a> {
-        Reasons { lines, kind: None, say_more: None, first: None }
+        Reasons { lines, kind: None, say_more: None, first: None, status: None }
     }
 
     /// A line of a kind that many links have, and what more there is to say.
     pub(super) fn of_kind(line: String, kind: &str, say_more: &'a dyn Fn()) -> Reasons<'a> {
-        Reasons { lines: vec![line], kind: Some(kind.into()), say_more: Some(say_more), first: None }
+        Reasons { kind: Some(kind.into()), say_more: Some(say_more), ..Reasons::of(vec![line]) }
+    }
+
+    /// Why another linker may make a link that came to no image; what is said, and the status, where it does not.
+    pub(super) fn of_no_image(line: String, say: &'a dyn Fn(), status: Status) -> Reasons<'a> {
+        Reasons { say_more: Some(say), status: Some(status), ..Reasons::of(vec![line]) }
     }
 
     /// The same with what is said where the other linker links.
@@ -128,6 +135,10 @@ pub(super) fn hand_over(
 ) -> Status {
     let (path, program) = match fallback_of(environment) {
         Err(fault) => return refused(reasons, &format!("{VARIABLE}: {fault}"), Status::Device),
+        Ok(None) if reasons.status.is_some() => {
+            reasons.say_more();
+            return reasons.status.unwrap_or(Status::Refused);
+        }
         Ok(None) => {
             let is_off = environment.contains_key(OsStr::new(VARIABLE));
             let why = if is_off { "LDI_FALLBACK names no linker for it" } else { "PATH has no other linker" };

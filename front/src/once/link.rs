@@ -8,7 +8,7 @@ use std::path::{Path, PathBuf};
 use bstr::{BStr, ByteSlice};
 
 use super::fallback::{hand_over, Reasons};
-use super::{messages, say, tables, verdict};
+use super::{another, messages, say, tables, verdict};
 use crate::checker::NoImage;
 use crate::command::Command;
 use crate::finish::{finish, FileImage, FinishError};
@@ -24,6 +24,8 @@ use crate::snapshot::Snapshot;
 
 /// The refused objects that are named.
 const GREATEST_LIST: usize = 20;
+/// The references that NOCROSSREFS prohibits and that are named.
+const GREATEST_LINES: usize = 1000;
 
 /// The statuses of `ldi link`.
 #[derive(Clone, Copy, PartialEq, Eq, Debug)]
@@ -155,15 +157,39 @@ impl Link<'_> {
         if !brought.refused.is_empty() {
             return Ok(self.refused(&brought));
         }
+        let say_left = || self.say_left();
+        Ok(self.no_image(another::of_what_is_left(self.plan), &say_left, Status::Refused))
+    }
+
+    /// Says what is left of the script.
+    fn say_left(&self) {
         let left: Vec<&Note> = self.plan.residual.notes.iter().filter(|note| note.kind == NoteKind::Left).collect();
         for note in &left {
             eprintln!("{note}");
         }
         self.say_section_outside();
-        self.plan.residual.changed().filter(|note| verdict::is_said(note)).for_each(|note| eprintln!("{note}"));
+        self.say_changed();
         let places = if left.len() == 1 { "1 place".to_owned() } else { format!("{} places", left.len()) };
         say(format!("{}: {places} cannot be linked by ldi, as is said above", self.path()));
-        Ok(Status::Refused)
+    }
+
+    /// Says what is changed in the script.
+    fn say_changed(&self) {
+        self.plan.residual.changed().filter(|note| verdict::is_said(note)).for_each(|note| eprintln!("{note}"));
+    }
+
+    /// A link that comes to no image: another linker makes it where there is a reason, else this is said.
+    fn no_image(&self, why: Option<String>, say: &dyn Fn(), status: Status) -> Status {
+        match why {
+            Some(why) => {
+                let reasons = Reasons::of_no_image(why, say, status);
+                hand_over(&reasons, self.words, self.environment, self.command.is_verbose)
+            }
+            None => {
+                say();
+                status
+            }
+        }
     }
 
     /// Says that a symbol has no value as its section is not in the image.
@@ -177,18 +203,26 @@ impl Link<'_> {
             return Ok(Some(self.refused(brought)));
         }
         if let Some(refusal) = brought.script_refused {
-            self.report();
-            messages::say_refused_script(self.plan, refusal, self.environment);
-            return Ok(Some(if refusal.is_memory() { Status::Memory } else { Status::Refused }));
+            let say = || {
+                self.report();
+                messages::say_refused_script(self.plan, refusal, self.environment);
+            };
+            let (why, status) = match refusal.is_memory() {
+                true => (None, Status::Memory),
+                false => (Some("the adapted script is outside the profile of ldi".to_owned()), Status::Refused),
+            };
+            return Ok(Some(self.no_image(why, &say, status)));
         }
         if !brought.is_good {
-            self.report();
-            let changed = self.plan.residual.changed().filter(|note| verdict::is_said(note));
-            changed.for_each(|note| eprintln!("{note}"));
-            self.notes();
             let faults = mirror.faults()?;
-            messages::say_faults(self.command, self.plan, &faults);
-            return Ok(Some(Status::Faults));
+            let say = || {
+                self.report();
+                self.say_changed();
+                self.notes();
+                messages::say_faults(self.command, self.plan, &faults);
+            };
+            let why = another::of_faults(self.command, self.plan, &faults);
+            return Ok(Some(self.no_image(why, &say, Status::Faults)));
         }
         Ok(None)
     }
@@ -241,13 +275,13 @@ impl Link<'_> {
         let wants_map = command.map_file.is_some() || command.prints_map || tables || is_compared;
         let map = if wants_map { mirror.map().map_err(session)? } else { Vec::new() };
         mirror.end();
-        self.report();
         let verdict = verdict::verdict(self.plan, &image, if is_compared { &map } else { b"" }, command.is_verbose)?;
-        verdict.lines.iter().for_each(|line| eprintln!("{line}"));
-        self.notes();
-        if verdict.differs {
-            let why = "the image would be another than GNU ld's, as is said above: none is written";
-            say(format!("{}: {why}", self.path()));
+        if let Some(why) = another::of_verdict(self.plan, &verdict) {
+            let say = || self.say_verdict(&verdict);
+            return Ok(self.no_image(Some(why), &say, Status::Faults));
+        }
+        self.say_verdict(&verdict);
+        if !verdict.prohibited.is_empty() {
             return Ok(Status::Faults);
         }
         let finished = finish(image, &self.plan.form).map_err(LinkFault::Form)?;
@@ -259,6 +293,19 @@ impl Link<'_> {
         self.write_dependencies()?;
         self.print_tables(&map);
         Ok(Status::Good)
+    }
+
+    /// Says what came of the comparison with GNU ld's image.
+    fn say_verdict(&self, verdict: &verdict::Verdict) {
+        self.report();
+        verdict.lines.iter().for_each(|line| eprintln!("{line}"));
+        self.notes();
+        if verdict.differs {
+            let why = "the image would be another than GNU ld's, as is said above: none is written";
+            say(format!("{}: {why}", self.path()));
+        }
+        let prohibited = verdict.prohibited.iter().take(GREATEST_LINES);
+        prohibited.for_each(|one| say(one.to_string()));
     }
 
     fn write_map(&self, map: &[u8]) -> Result<(), LinkFault> {

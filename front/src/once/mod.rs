@@ -1,5 +1,6 @@
 //! `ld.ldi`: one link by GNU ld's command line.
 
+mod another;
 mod ask;
 mod builds;
 mod fallback;

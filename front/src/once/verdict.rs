@@ -3,7 +3,7 @@
 use crate::checker::{check, Checked, NoImage};
 use crate::layout::evaluation::StatementKind;
 use crate::layout::Stop;
-use crate::plan::LinkPlan;
+use crate::plan::{prohibited, LinkPlan, Prohibited};
 use crate::report::link_map::LinkMap;
 use crate::residual::{Note, Topic};
 use crate::script::tree::Span;
@@ -18,6 +18,8 @@ pub(crate) struct Verdict {
     pub(crate) lines: Vec<String>,
     /// Whether the image is another than GNU ld's, and nothing that is said explains it: then none is written.
     pub(crate) differs: bool,
+    /// The references that NOCROSSREFS prohibits: then none is written either.
+    pub(crate) prohibited: Vec<Prohibited>,
 }
 
 /// Whether the map is wanted for a comparison.
@@ -32,16 +34,18 @@ pub(crate) fn wants_map(plan: &LinkPlan, collects_sections: bool) -> bool {
 pub(crate) fn verdict(plan: &LinkPlan, image: &[u8], map: &[u8], is_verbose: bool) -> Result<Verdict, NoImage> {
     let evaluation = match &plan.evaluation {
         Ok(evaluation) => evaluation,
-        Err(stop) => return Ok(Verdict { lines: unknown(plan, stop), differs: false }),
+        Err(stop) => return Ok(Verdict { lines: unknown(plan, stop), ..Verdict::default() }),
     };
     let map = if map.is_empty() { None } else { LinkMap::read(map).ok() };
     let checked = check(evaluation, plan.inputs.objects(), image, map.as_ref())?;
     let mut verdict = if checked.differences.is_empty() {
         let beside = plan.residual.changed().filter(|note| note.topic == Topic::Beside);
-        Verdict { lines: beside.map(Note::to_string).collect(), differs: false }
+        Verdict { lines: beside.map(Note::to_string).collect(), ..Verdict::default() }
     } else {
         different(plan, &checked, is_verbose)
     };
+    let inputs = &plan.inputs;
+    verdict.prohibited = prohibited(&inputs.scripts.reading.script, inputs.objects(), evaluation);
     if !verdict.differs {
         for one in &checked.not_loaded {
             let kind = kind_of(plan, one.span);
@@ -62,7 +66,7 @@ fn different(plan: &LinkPlan, checked: &Checked, is_verbose: bool) -> Verdict {
     let differences = &checked.differences;
     if !has_cause {
         lines.extend(differences.iter().map(|one| line(plan, one.span, &one.to_string())));
-        return Verdict { lines, differs: true };
+        return Verdict { lines, differs: true, ..Verdict::default() };
     }
     let shown = if is_verbose { differences.len() } else { 1 };
     let more = match differences.len() - shown {
@@ -70,7 +74,7 @@ fn different(plan: &LinkPlan, checked: &Checked, is_verbose: bool) -> Verdict {
         more => format!(", and {more} more"),
     };
     lines.extend(differences.iter().take(shown).map(|one| line(plan, one.span, &format!("changed: {one}{more}"))));
-    Verdict { lines, differs: false }
+    Verdict { lines, ..Verdict::default() }
 }
 
 /// Whether a line of what is changed is said at all: program headers and the form are written after the link.

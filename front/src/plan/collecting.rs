@@ -15,10 +15,10 @@ use crate::script::tree::{InputStatement, Name, Script, SectionStatement, Sectio
 
 /// Where a reference leads: a section of an object, or its common blocks.
 #[derive(Clone, Copy, PartialEq, Eq, Hash, Debug)]
-struct Part {
-    object: u32,
+pub(super) struct Part {
+    pub(super) object: u32,
     /// The number of the section header; `None` for the common blocks.
-    section: Option<u32>,
+    pub(super) section: Option<u32>,
 }
 
 /// The sections of an evaluation that `ldi` would leave out although GNU ld keeps them, by their indices.
@@ -131,7 +131,7 @@ impl<'a> Reach<'a> {
 }
 
 /// Where the names of a link are defined, of those that the script does not assign (docs/manual.md, 'Names').
-fn definitions<'a>(objects: &'a [Object], evaluation: &Evaluation) -> HashMap<&'a BStr, Part> {
+pub(super) fn definitions<'a>(objects: &'a [Object], evaluation: &Evaluation) -> HashMap<&'a BStr, Part> {
     let mut found: HashMap<&'a BStr, (Rank, Part)> = HashMap::new();
     for (number, object) in objects.iter().enumerate() {
         for symbol in object.globals() {

@@ -4,6 +4,7 @@
 //! profile. [`LinkPlan::replan`] is the same plan with other bytes of some objects.
 
 mod collecting;
+mod crossrefs;
 mod programs;
 mod scripts;
 mod settings;
@@ -20,6 +21,7 @@ use crate::mirror::{self, Held};
 use crate::objects::{Object, ObjectIndex};
 use crate::residual::{residual, Request, Residual};
 use crate::snapshot::Snapshot;
+pub use crossrefs::{prohibited, Prohibited};
 pub use programs::{find_program, is_own, others, own_version, Environment, WITHIN};
 pub use scripts::{Scripts, ScriptsFault};
 pub use settings::settings_of;

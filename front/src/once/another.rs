@@ -1,0 +1,163 @@
+//! Links that `ldi` does not make, and GNU ld may: why, in one line. Faults of the program are faults to both.
+
+use bstr::ByteSlice;
+
+use super::messages;
+use super::verdict::Verdict;
+use crate::command::{Command, Leniency, Orphans};
+use crate::layout::Stop;
+use crate::plan::LinkPlan;
+use crate::report::rules::FaultRule;
+use crate::report::{fault_lines, FaultLine, Value};
+use crate::residual::{Note, NoteKind};
+
+/// How sections begin whose references to what is left out are 0 to GNU ld.
+const OF_TABLES: [&[u8]; 4] = [b".eh_frame", b".gcc_except_table", b".stab", b".debug"];
+/// How names begin that GNU ld itself defines.
+const OF_GNU_LD: [&[u8]; 4] = [b"__ehdr_start", b"_GLOBAL_OFFSET_TABLE_", b".startof.", b".sizeof."];
+/// The owner of a name that the script assigns, in fault lines.
+const SCRIPT: &[u8] = b"script";
+
+/// Why GNU ld may make a link of whose script something is left.
+pub(crate) fn of_what_is_left(plan: &LinkPlan) -> Option<String> {
+    let left = plan.residual.notes.iter().filter(|note| note.kind == NoteKind::Left);
+    first(left.map(Note::to_string).collect())
+}
+
+/// Why GNU ld may make a link that has faults; `None` where they are the program's, which GNU ld has too.
+pub(crate) fn of_faults(command: &Command, plan: &LinkPlan, faults: &[u8]) -> Option<String> {
+    let stops = matches!(plan.evaluation, Err(Stop::Refused(_)));
+    let is_own = |line: FaultLine<'_>| match &line.fault {
+        Some((rule, words)) => is_own(*rule, words, command, stops),
+        None => true,
+    };
+    if fault_lines(faults).any(is_own) {
+        return None;
+    }
+    let sentences = messages::of_faults(command, plan, faults, None);
+    first(sentences.iter().map(|diagnostic| diagnostic.message()).collect())
+}
+
+/// Why GNU ld may make a link whose image would be another than GNU ld's; of a flat one nothing shows what is changed.
+pub(crate) fn of_verdict(plan: &LinkPlan, verdict: &Verdict) -> Option<String> {
+    if verdict.differs {
+        return first(verdict.lines.clone()).map(|first| format!("the image would be another than GNU ld's: {first}"));
+    }
+    let changed: Vec<String> = verdict.lines.iter().filter(|line| is_changed(line)).cloned().collect();
+    let first = first(changed).filter(|_| plan.form.is_flat)?;
+    Some(format!("a flat image would be another than GNU ld's: {first}"))
+}
+
+/// Whether a line says of more than the entry, which a flat image does not have, that it is changed.
+fn is_changed(line: &str) -> bool {
+    line.contains(": changed: ")
+        && ![": changed: ENTRY(", ": changed: the entry is "].iter().any(|entry| line.contains(entry))
+}
+
+/// The first of some lines, and how many more there are.
+fn first(lines: Vec<String>) -> Option<String> {
+    let more = lines.len().saturating_sub(1);
+    let first = lines.into_iter().next()?;
+    Some(if more == 0 { first } else { format!("{first}, and {more} more") })
+}
+
+/// Whether a fault is the program's; `stops` says that GNU ld ends in its own layout.
+fn is_own(rule: FaultRule, words: &[Value<'_>], command: &Command, stops: bool) -> bool {
+    if command.lenient.contains(&Leniency::NoInhibitExec)
+        || leniency(rule).map_or(false, |one| command.lenient.contains(&one))
+    {
+        return false;
+    }
+    let name = |at: usize| match words.get(at) {
+        Some(Value::Name(name)) => *name,
+        _ => b"",
+    };
+    let begins = |name: &[u8], fronts: &[&[u8]]| fronts.iter().any(|front| name.starts_with_str(front));
+    match rule {
+        FaultRule::DuplicateDefinition => name(1) != SCRIPT && name(2) != SCRIPT,
+        FaultRule::Orphan => command.orphans == Some(Orphans::Error),
+        FaultRule::UndefinedSymbol => !begins(name(3), &OF_GNU_LD),
+        FaultRule::TargetNotInOutput => !begins(name(1), &OF_TABLES),
+        FaultRule::NotReady
+        | FaultRule::NoValue
+        | FaultRule::MovedBack
+        | FaultRule::RegionFull
+        | FaultRule::PastAddressSpace
+        | FaultRule::AssertionFailed => stops,
+        // GNU ld does not have these, or has them for other sections.
+        FaultRule::UndefinedEntry
+        | FaultRule::EntryNotInOutput
+        | FaultRule::ImageTooLong
+        | FaultRule::AddressesMeet
+        | FaultRule::LoadAddressesMeet => false,
+        FaultRule::FieldOverflow => true,
+    }
+}
+
+/// The option with which GNU ld goes on after a fault; it does after each with `--noinhibit-exec`.
+fn leniency(rule: FaultRule) -> Option<Leniency> {
+    match rule {
+        FaultRule::DuplicateDefinition => Some(Leniency::MultipleDefinitions),
+        FaultRule::UndefinedSymbol => Some(Leniency::UndefinedNames),
+        FaultRule::FieldOverflow => Some(Leniency::RelocationOverflow),
+        FaultRule::AddressesMeet | FaultRule::LoadAddressesMeet => Some(Leniency::NoCheckSections),
+        _ => None,
+    }
+}
+
+#[cfg(test)]
+mod tests {
+    use super::*;
+
+    fn own(line: &[u8], command: &Command, stops: bool) -> Vec<bool> {
+        let of = |line: FaultLine<'_>| line.fault.map_or(true, |(rule, words)| is_own(rule, &words, command, stops));
+        fault_lines(line).map(of).collect()
+    }
+
+    #[test]
+    fn a_name_of_the_script_and_of_an_object_is_none() {
+        let found = own(b"F1 a x.o y.o\nF1 a x.o script\nF1 a script y.o\n", &Command::default(), false);
+        assert_eq!(found, [true, false, false]);
+    }
+
+    #[test]
+    fn an_orphan_is_one_where_the_words_say_so() {
+        let strict = Command { orphans: Some(Orphans::Error), ..Command::default() };
+        assert_eq!(own(b"F3 a.o .more\n", &strict, false), [true]);
+        assert_eq!(own(b"F3 a.o .more\n", &Command::default(), false), [false]);
+    }
+
+    #[test]
+    fn a_fault_of_the_layout_is_one_where_gnu_ld_has_it() {
+        for line in [&b"F5 2\n"[..], b"F7 .text r\n", b"F15 3 no\n"] {
+            assert_eq!(own(line, &Command::default(), true), [true]);
+            assert_eq!(own(line, &Command::default(), false), [false]);
+        }
+    }
+
+    #[test]
+    fn what_gnu_ld_is_to_let_pass_is_none() {
+        let lenient = |one| Command { lenient: [one].iter().copied().collect(), ..Command::default() };
+        let undefined = b"F12 a.o .text 0000000000000001 nowhere\n";
+        assert_eq!(own(undefined, &Command::default(), false), [true]);
+        assert_eq!(own(undefined, &lenient(Leniency::UndefinedNames), false), [false]);
+        assert_eq!(own(undefined, &lenient(Leniency::MultipleDefinitions), false), [true]);
+        assert_eq!(own(b"F1 a x.o y.o\n", &lenient(Leniency::MultipleDefinitions), false), [false]);
+        assert_eq!(own(b"F1 a x.o y.o\n", &lenient(Leniency::NoInhibitExec), false), [false]);
+    }
+
+    #[test]
+    fn names_and_tables_of_gnu_ld() {
+        let lines = b"F12 a.o .text 0000000000000001 __ehdr_start\nF13 a.o .eh_frame 0000000000000020 3\n\
+            F13 a.o .text 0000000000000020 3\nF13 entry\nF2 nothing\n";
+        assert_eq!(own(lines, &Command::default(), false), [false, false, true, false, false]);
+    }
+
+    #[test]
+    fn the_entry_is_no_part_of_a_flat_image() {
+        assert!(!is_changed("t.ld:1: changed: ENTRY(nothing): nothing defines it"));
+        assert!(is_changed("t.ld:1: changed: the type of .reloc"));
+        assert_eq!(first(vec!["a".into(), "b".into()]).as_deref(), Some("a, and 1 more"));
+        assert_eq!(first(Vec::new()), None);
+    }
+}
