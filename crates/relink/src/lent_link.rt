@@ -1,6 +1,12 @@
 //! The previous link, lent to the next one.
 
-use crate::previous::{EditEffect, PreviousLink};
+ghost use Rattle.std.specs.Prelude.{◌≡◌};
+ghost use Rattle.ldmodel_project.specs.Listing.{keys_of};
+ghost use Rattle.ldmodel_project.specs.ProjectState.{next_listing};
+ghost use Rattle.relink.specs.PreviousLink.{IsEffect, lent, lent_of};
+
+use crate::outcome::LinkOutcome;
+use crate::previous::{EditEffect, PreviousLink, effect_of};
 use ldmodel::memory::NoMemory;
 use ldmodel_project::project::Project;
 use ldmodel_project::staged::Staged;
@@ -11,12 +17,12 @@ use std::alloc::Global;
 /// if its names have no faults.
 #[derive(Clone, Copy)]
 pub(crate) struct LentLink<'a> {
-    pub(crate) previous: &'a PreviousLink,
-    pub(crate) effect: EditEffect,
-    pub(crate) project: &'a Project,
-    pub(crate) staged: &'a Staged,
+    previous: &'a PreviousLink,
+    effect: EditEffect,
+    project: &'a Project,
+    staged: &'a Staged,
     // those of the objects of the next project, in their order
-    pub(crate) keys: &'a [usize],
+    keys: &'a [usize],
 }
 
 impl<'a> LentLink<'a> {
@@ -46,4 +52,46 @@ impl<'a> LentLink<'a> {
             is_current: self.effect.is_current,
         }
     }
+}
+
+/// The previous link, lent, if it is known not to have the object that the edit puts.
+fn lend<'a>(
+    previous: &'a Option<PreviousLink>,
+    effect: EditEffect,
+    project: &'a Project,
+    staged: &'a Staged,
+    keys: &'a [usize],
+) -> Option<LentLink<'a>>
+    requires { keys.now ≡ keys_of (next_listing project.now staged.now).entries }
+    ensures { lent_of result ≡ lent previous.now effect.known effect project.now staged.now }
+{
+    match previous {
+        Some(previous) if effect.known => Some(LentLink {
+            previous,
+            effect,
+            project,
+            staged,
+            keys,
+        }),
+        _ => None,
+    }
+}
+
+/// What an edit does to the previous link, and that link, lent to the link of the next project, if it is known not to
+/// have the object that the edit puts. `outcome` is the present one, `same` says whether the edit replaces an object by
+/// the same one, and `keys` are those of the objects of the next project.
+pub(crate) fn lend_previous<'a>(
+    previous: &'a Option<PreviousLink>,
+    outcome: &LinkOutcome,
+    project: &'a Project,
+    staged: &'a Staged,
+    same: bool,
+    keys: &'a [usize],
+) -> (EditEffect, Option<LentLink<'a>>)
+    requires { keys.now ≡ keys_of (next_listing project.now staged.now).entries }
+    ensures effect { IsEffect project.now staged.now same outcome.now previous.now result.0 }
+    ensures lent { lent_of result.1 ≡ lent previous.now result.0.known result.0 project.now staged.now }
+{
+    let effect = effect_of(previous, outcome, project, staged, same);
+    (effect, lend(previous, effect, project, staged, keys))
 }

@@ -5,11 +5,9 @@ ghost use Rattle.std.specs.Prelude.{◌≡◌, ℕ, IfOk, IfSome, List, None, So
 ghost use Rattle.std.specs.Option.{option_copied, option_map};
 ghost use Rattle.relink_driver.specs.StayedSections.{previous_of, replaced_state};
 ghost use Rattle.ldmodel.specs.Project.{NamedObject};
-ghost use Rattle.ldmodel_project.specs.Listing.{keys_of};
-ghost use Rattle.ldmodel_project.specs.ProjectState.{next_listing};
 ghost use Rattle.relink.specs.PreviousLink.{AreOriginsFor, IsAfterFault, IsEffect, IsRecorded, IsNoneOf};
 ghost use Rattle.relink.specs.PreviousLink.{AreOriginsRefreshed, IsSince};
-ghost use Rattle.relink.specs.PreviousLink.{Knows, PutsNoneOf, changed_key, lent, lent_of, lost_key};
+ghost use Rattle.relink.specs.PreviousLink.{Knows, PutsNoneOf, changed_key, lent_of, lost_key};
 ghost use Rattle.relink.specs.PreviousLink.{origin_of, replaced_by, replaced_in, without};
 
 use crate::lent_link::LentLink;
@@ -255,30 +253,6 @@ pub(crate) fn effect_of(
         gone: lost_key(staged, same),
         same_script: leaves_script(staged),
         is_current: outcome.is_good(),
-    }
-}
-
-/// The previous link, lent to the link of the next project, if it is known not to have the object that the edit puts.
-/// `keys` are those of the objects of the next project.
-pub(crate) fn lend_previous<'a>(
-    previous: &'a Option<PreviousLink>,
-    effect: EditEffect,
-    project: &'a Project,
-    staged: &'a Staged,
-    keys: &'a [usize],
-) -> Option<LentLink<'a>>
-    requires { keys.now ≡ keys_of (next_listing project.now staged.now).entries }
-    ensures { lent_of result ≡ lent previous.now effect.known effect project.now staged.now }
-{
-    match previous {
-        Some(previous) if effect.known => Some(LentLink {
-            previous,
-            effect,
-            project,
-            staged,
-            keys,
-        }),
-        _ => None,
     }
 }
 

@@ -9,9 +9,10 @@ ghost use Rattle.relink.specs.Kept.{IsKept};
 ghost use Rattle.relink.specs.Work.{IsWholeWork};
 ghost use Rattle.relink_driver.specs.Applied.{Applied};
 
+use crate::lent_link::lend_previous;
 use crate::link_tables::LinkTables;
 use crate::outcome::LinkOutcome;
-use crate::previous::{EditEffect, PreviousLink, effect_of, lend_previous, record_outcome};
+use crate::previous::{EditEffect, PreviousLink, record_outcome};
 use crate::session_link::link_first;
 use crate::unchanged::{is_unchanged, puts_same};
 use ldmodel::edit::{Edit, EditRefusal, Linked};
@@ -145,8 +146,14 @@ impl Session {
         }
         let next = self.project.next(&staged);
         let keys = next.keys();
-        let effect = effect_of(&self.previous, &self.outcome, &self.project, &staged, same);
-        let previous = lend_previous(&self.previous, effect, &self.project, &staged, keys);
+        let (effect, previous) = lend_previous(
+            &self.previous,
+            &self.outcome,
+            &self.project,
+            &staged,
+            same,
+            keys,
+        );
         match self.tables.update(
             self.alloc,
             &self.project,

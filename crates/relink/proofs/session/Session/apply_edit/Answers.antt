@@ -54,7 +54,7 @@ update-requires c =
     let s : Staged = c.in_ok-staged.staged in
     let same = c.puts_same-same.result in
     let a : LinkOutcome = c.self.inside.outcome in
-    let e : EditEffect = c.effect_of-effect.result in
+    let e : EditEffect = c.lend_previous.result.0 in
     let previous : Option PreviousLink = c.self.inside.previous in
     let bytes : List ℕ = c.self.inside.canvas.bytes in
     let given : IsFollowing h s same bytes a previous e =
@@ -62,7 +62,7 @@ update-requires c =
     c.stage.ensures.same c.self.invariant.2 c.in_ok-staged.ensures.staged.0 c.in_ok-staged.ensures.staged.2
     c.next-next.ensures.next c.next-next.ensures.found c.keys-keys.ensures.value c.keys-keys.ensures.distinct
     c.found_where_placed.ensures c.puts_same-same.ensures.same c.puts_same-same.ensures.other
-    c.puts_same-same.ensures.named c.effect_of-effect.ensures in
+    c.puts_same-same.ensures.named c.lend_previous.ensures.effect in
     let next : Listing = next_listing h s in
     record {
       fits = c.in_ok-staged.ensures.staged.0;
@@ -71,7 +71,7 @@ update-requires c =
       kept = subst (λ (l : Listing). IsKept l c.self.inside.tables.symbol_table c.self.inside.tables.matches.items)
           (same_listing c.self.inside.project h c.stage.ensures.same) c.self.invariant.1;
       previous = subst (λ (x : Option PreviousState). IfSome x (HasPreviousImage (project_of next) bytes))
-          (sym c.lend_previous-previous.ensures)
+          (sym c.lend_previous.ensures.lent)
           (last_lent h s same bytes a e given.edit previous e.known refl given.kept given.effect);
     }
 
@@ -81,7 +81,7 @@ invariant_of-self-in-Ok c =
     let s : Staged = c.in_ok-staged.staged in
     let same = c.puts_same-same.result in
     let a : LinkOutcome = c.self.inside.outcome in
-    let e : EditEffect = c.effect_of-effect.result in
+    let e : EditEffect = c.lend_previous.result.0 in
     let previous : Option PreviousLink = c.self.inside.previous in
     let bytes : List ℕ = c.self.inside.canvas.bytes in
     let given : IsFollowing h s same bytes a previous e =
@@ -89,12 +89,12 @@ invariant_of-self-in-Ok c =
     c.stage.ensures.same c.self.invariant.2 c.in_ok-staged.ensures.staged.0 c.in_ok-staged.ensures.staged.2
     c.next-next.ensures.next c.next-next.ensures.found c.keys-keys.ensures.value c.keys-keys.ensures.distinct
     c.found_where_placed.ensures c.puts_same-same.ensures.same c.puts_same-same.ensures.other
-    c.puts_same-same.ensures.named c.effect_of-effect.ensures in
+    c.puts_same-same.ensures.named c.lend_previous.ensures.effect in
     let next : Listing = next_listing h s in
     let answers : shown bytes a ≡ link (held h) =
     c.self.invariant.0 ∙ ap link (sym (same_held c.self.inside.project h c.stage.ensures.same)) in
     let updated = subst (λ (x : Option PreviousState). HasUpdateOutcome next x bytes c.update.new.canvas.bytes
-    c.in-Ok.updated) c.lend_previous-previous.ensures c.in-Ok.ensures.updated.link in
+    c.in-Ok.updated) c.lend_previous.ensures.lent c.in-Ok.ensures.updated.link in
     ended_after h s same bytes c.update.new.canvas.bytes a c.record_outcome.new.outcome e previous
     c.record_outcome.new.previous
     c.in-Ok.updated c.commit.new.self c.update.new.self.symbol_table
@@ -108,7 +108,7 @@ returns-in-Ok-clause-counted c =
     let s : Staged = c.in_ok-staged.staged in
     let same = c.puts_same-same.result in
     let a : LinkOutcome = c.self.inside.outcome in
-    let e : EditEffect = c.effect_of-effect.result in
+    let e : EditEffect = c.lend_previous.result.0 in
     let previous : Option PreviousLink = c.self.inside.previous in
     let bytes : List ℕ = c.self.inside.canvas.bytes in
     let given : IsFollowing h s same bytes a previous e =
@@ -116,7 +116,7 @@ returns-in-Ok-clause-counted c =
     c.stage.ensures.same c.self.invariant.2 c.in_ok-staged.ensures.staged.0 c.in_ok-staged.ensures.staged.2
     c.next-next.ensures.next c.next-next.ensures.found c.keys-keys.ensures.value c.keys-keys.ensures.distinct
     c.found_where_placed.ensures c.puts_same-same.ensures.same c.puts_same-same.ensures.other
-    c.puts_same-same.ensures.named c.effect_of-effect.ensures in
+    c.puts_same-same.ensures.named c.lend_previous.ensures.effect in
     let next : Listing = next_listing h s in
     let change : Change = change_of c.args.edit in
     let stable = subst (λ (es : List Listed). KeysAreStable h.contents.entries es)
@@ -140,9 +140,9 @@ returns-in-Ok-clause-counted c =
     let answers : shown bytes a ≡ link (held h) =
     c.self.invariant.0 ∙ ap link (sym (same_held c.self.inside.project h c.stage.ensures.same)) in
     let worked = subst (λ (x : Option PreviousState). HasWorked (project_of next) x c.stage.new.meter c.update.new.meter
-    c.in-Ok.updated) c.lend_previous-previous.ensures c.in-Ok.ensures.updated.worked in
+    c.in-Ok.updated) c.lend_previous.ensures.lent c.in-Ok.ensures.updated.worked in
     let updated = subst (λ (x : Option PreviousState). HasUpdateOutcome next x bytes c.update.new.canvas.bytes
-    c.in-Ok.updated) c.lend_previous-previous.ensures c.in-Ok.ensures.updated.link in
+    c.in-Ok.updated) c.lend_previous.ensures.lent c.in-Ok.ensures.updated.link in
     let work : IsWholeWork (held h) change (project_of next) c.args.meter.now c.update.new.meter =
     whole_work h s same bytes c.update.new.canvas.bytes a e previous c.in-Ok.updated change
     c.args.meter.now c.stage.new.meter c.update.new.meter given answers updated worked small read
