@@ -156,6 +156,8 @@ fn adapted(reading: &Reading, objects: Option<&[Object]>) -> (Residual, Option<R
         has_default_entry: false,
         defines: &defines,
         kept: &[],
+        keeps_more: false,
+        collects_start_stop: false,
     });
     (result, objects.map(|_| evaluation))
 }

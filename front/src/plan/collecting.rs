@@ -21,8 +21,14 @@ pub(super) struct Part {
     pub(super) section: Option<u32>,
 }
 
-/// The sections of an evaluation that `ldi` would leave out although GNU ld keeps them, by their indices.
-pub(super) fn kept_beside(script: &Script, objects: &[Object], evaluation: &Evaluation, entry: &BStr) -> Vec<bool> {
+/// The sections of an evaluation that `ldi` would leave out although GNU ld keeps them, by their indices; and whether
+/// `ldi` keeps others that GNU ld leaves out.
+pub(super) fn kept_beside(
+    script: &Script,
+    objects: &[Object],
+    evaluation: &Evaluation,
+    entry: &BStr,
+) -> (Vec<bool>, bool) {
     let mut reach = Reach::new(objects, evaluation);
     if let Some(part) = reach.definitions.get(entry).copied() {
         reach.add(part);
@@ -41,7 +47,11 @@ pub(super) fn kept_beside(script: &Script, objects: &[Object], evaluation: &Eval
         let has_blocks = section.is_common() && commons_of(objects, section.object) > 1;
         is_live && (has_blocks || !reach.is_reached(part_of(section)))
     };
-    evaluation.sections.iter().map(is_beside).collect()
+    let has_more = evaluation.sections.iter().any(|section| {
+        let is_left_out = section.flags.has(Flags::EXCLUDE) && !section.flags.has(Flags::CREATED);
+        is_left_out && section.size > 0 && reach.is_reached(part_of(section))
+    });
+    (evaluation.sections.iter().map(is_beside).collect(), has_more)
 }
 
 fn commons_of(objects: &[Object], index: ObjectIndex) -> usize {
@@ -77,26 +87,27 @@ struct Reach<'a> {
     objects: &'a [Object],
     /// By name: where its definition is, where it is in a section.
     definitions: HashMap<&'a BStr, Part>,
-    /// The sections that may be reached: those that are linked and not left out.
-    live: HashMap<Part, SectionId>,
+    /// The sections that may be reached: those that are linked, also where GNU ld leaves them out as unused.
+    linked: HashMap<Part, SectionId>,
     reached: HashMap<Part, ()>,
     waiting: Vec<Part>,
 }
 
 impl<'a> Reach<'a> {
     fn new(objects: &'a [Object], evaluation: &Evaluation) -> Reach<'a> {
-        let mut live = HashMap::new();
+        let mut linked = HashMap::new();
         for (index, section) in evaluation.sections.iter().enumerate() {
-            if section.output().is_some() && !section.flags.has(Flags::CREATED) {
-                live.insert(part_of(section), SectionId::new(index));
+            let may_stay = section.output().is_some() || section.flags.has(Flags::EXCLUDE);
+            if may_stay && !section.flags.has(Flags::CREATED) {
+                linked.insert(part_of(section), SectionId::new(index));
             }
         }
         let definitions = definitions(objects, evaluation);
-        Reach { objects, definitions, live, reached: HashMap::new(), waiting: Vec::new() }
+        Reach { objects, definitions, linked, reached: HashMap::new(), waiting: Vec::new() }
     }
 
     fn add(&mut self, part: Part) {
-        if self.live.contains_key(&part) && self.reached.insert(part, ()).is_none() {
+        if self.linked.contains_key(&part) && self.reached.insert(part, ()).is_none() {
             self.waiting.push(part);
         }
     }

@@ -177,12 +177,12 @@ fn written(command: &Command, inputs: &Inputs, evaluation: Option<&Evaluation>) 
     let defines =
         |name: &BStr| inputs.objects().iter().any(|object| object.globals_named(name).any(|one| one.rank().is_some()));
     let entry = command.entry.as_ref().or_else(|| inputs.scripts.entry());
-    let kept = match evaluation.filter(|_| command.collects_sections) {
+    let (kept, keeps_more) = match evaluation.filter(|_| command.collects_sections) {
         Some(evaluation) => {
             let entry = entry.map_or_else(|| b"start".as_bstr(), |name| name.as_bstr());
             collecting::kept_beside(&inputs.scripts.reading.script, inputs.objects(), evaluation, entry)
         }
-        None => Vec::new(),
+        None => (Vec::new(), false),
     };
     residual(Request {
         script: &inputs.scripts.reading.script,
@@ -194,6 +194,8 @@ fn written(command: &Command, inputs: &Inputs, evaluation: Option<&Evaluation>) 
         has_default_entry: true,
         defines: &defines,
         kept: &kept,
+        keeps_more,
+        collects_start_stop: command.collects_sections && command.collects_start_stop,
     })
 }
 

@@ -55,6 +55,10 @@ pub struct Request<'a> {
     /// The input sections, by their index, that stay by KEEP alone: GNU ld's --gc-sections keeps them, and `ldi` would
     /// not by itself. Empty where there are none.
     pub kept: &'a [bool],
+    /// Whether `ldi` keeps sections that GNU ld's --gc-sections leaves out.
+    pub keeps_more: bool,
+    /// `-z start-stop-gc` with `--gc-sections`: `__start_NAME` keeps no section.
+    pub collects_start_stop: bool,
 }
 
 /// A script of the profile.

@@ -23,6 +23,8 @@ fn adapted(script: &str) -> Residual {
         has_default_entry: false,
         defines: &|_| false,
         kept: &[],
+        keeps_more: false,
+        collects_start_stop: false,
     })
 }
 

@@ -12,7 +12,7 @@ use super::rules::{translate, Reasons};
 use super::versions::Versions;
 use super::view::{Facts, View};
 use super::{segments, Request, Residual};
-use crate::layout::evaluation::{Definer, Statement, StatementKind};
+use crate::layout::evaluation::{Definer, InputSection, Statement, StatementKind};
 use crate::layout::ids::SectionId;
 use crate::script::tree::{Expr, Name, Provision, Script, Span};
 
@@ -174,6 +174,7 @@ impl<'a> Walk<'a> {
             let why = "under KEEP, as GNU ld keeps what is wanted by a name, notes, and what more references lead to";
             self.note_of(NoteKind::Rewritten, Topic::Beside, end, format!("--gc-sections: {list}: {why}"));
         }
+        self.say_provided_bounds(end);
         let evaluation = match self.request.evaluation.filter(|_| !self.request.kept.is_empty()) {
             Some(evaluation) => evaluation,
             None => return,
@@ -185,9 +186,42 @@ impl<'a> Walk<'a> {
             .filter(|id| self.request.kept.get(id.index()).copied().unwrap_or(false))
             .filter(|id| evaluation.section(*id).map_or(false, super::head::is_linked))
             .collect();
+        let is_unwinding = |one: &InputSection| {
+            one.output().is_some() && one.size > 0 && evaluation.section_name(one) == ".eh_frame"
+        };
+        let all = evaluation.sections.iter().enumerate();
+        let unwinding = all.filter(|(_, one)| self.request.keeps_more && is_unwinding(one));
+        let unwinding: Vec<SectionId> = unwinding.map(|(index, _)| SectionId::new(index)).collect();
+        if let Some(list) = self.listed(&unwinding) {
+            let why = "under KEEP: all functions that it names stay; GNU ld takes out its entries for those that go";
+            self.note_of(NoteKind::Changed, Topic::Beside, end, format!("--gc-sections: {list}: {why}"));
+        }
         if let Some(list) = self.listed(&orphans) {
             let why = "GNU ld keeps and places this, which no statement takes; here it is not in the image";
             self.note_of(NoteKind::Changed, Topic::Beside, end, format!("--gc-sections: {list}: {why}"));
+        }
+    }
+
+    /// Says that GNU ld goes by PROVIDE of `__start_NAME` where no section NAME stays.
+    fn say_provided_bounds(&mut self, at: u32) {
+        let evaluation = match self.request.evaluation.filter(|_| self.request.collects_start_stop) {
+            Some(evaluation) => evaluation,
+            None => return,
+        };
+        let mut names: Vec<String> = Vec::new();
+        super::items::for_each_assignment(self.script, &mut |assignment, _| {
+            let name = &assignment.target.node;
+            let is_provided = matches!(assignment.provision, Provision::Provide | Provision::ProvideHidden);
+            let is_bound = name.starts_with(b"__start_") || name.starts_with(b"__stop_");
+            if is_provided && is_bound && evaluation.symbol(name).map_or(false, |symbol| symbol.is_in_objects) {
+                names.push(name.to_string());
+            }
+        });
+        names.sort();
+        if !names.is_empty() {
+            let why = "GNU ld goes by it where no section of that name stays";
+            let what = format!("--gc-sections: -z start-stop-gc: PROVIDE of {}: {why}", names.join(", "));
+            self.note_of(NoteKind::Changed, Topic::Beside, at, what);
         }
     }
 
