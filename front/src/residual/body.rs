@@ -233,11 +233,9 @@ impl<'a> Walk<'a> {
             let next = aligned(end, one.own_align);
             let is_first = index == 0 && one.offset > end && one.offset == aligned(one.offset, one.own_align);
             is_regular &= one.offset == next || is_first;
-            is_regular &= !gaps.iter().any(|gap| {
-                gap.offset >= end
-                    && gap.offset < one.offset
-                    && needs_bytes(gap.fill.as_deref().unwrap_or_default(), &body.fill, gap.size)
-            });
+            is_regular &= !gaps_from(gaps, end)
+                .take_while(|gap| gap.offset < one.offset)
+                .any(|gap| needs_bytes(gap.fill.as_deref().unwrap_or_default(), &body.fill, gap.size));
             end = one.offset.wrapping_add(one.size);
         }
         if !is_fine || !is_regular {
@@ -315,8 +313,8 @@ impl<'a> Walk<'a> {
         let mut before = None;
         for (id, one) in sections.iter().filter_map(|id| Some((id, evaluation.section(*id)?))) {
             let needs_keep = self.needs_keep(*id);
-            if one.offset != aligned(body.at, one.own_align) || gaps.iter().any(|gap| gap.offset == body.at) {
-                let gap = gaps.iter().find(|gap| gap.offset == body.at);
+            let gap = gaps_from(gaps, body.at).next().filter(|gap| gap.offset == body.at);
+            if one.offset != aligned(body.at, one.own_align) || gap.is_some() {
                 let is_plain = one.offset == aligned(body.at, one.own_align)
                     && !needs_bytes(gap.and_then(|gap| gap.fill.as_deref()).unwrap_or_default(), &body.fill, 1);
                 if one.offset > body.at && !is_plain {
@@ -581,6 +579,11 @@ fn on_distances(e: &Expr, start: &Expr) -> Expr {
         _ => return e.clone(),
     };
     made(kind)
+}
+
+/// The gaps from an offset on; they ascend, as the location counter does.
+fn gaps_from(gaps: &[Gap], offset: u64) -> impl Iterator<Item = &Gap> {
+    gaps.iter().skip(gaps.partition_point(|gap| gap.offset < offset))
 }
 
 /// Whether a gap has other bytes than the profile gives it.
