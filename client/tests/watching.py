@@ -22,7 +22,8 @@ from calculator import elf  # noqa: E402
 from calculator.build import CODE, READ_ONLY, Rel, Sec, Sym, build  # noqa: E402
 from client.protocol import find_program  # noqa: E402
 
-PROGRAM = str(ROOT / "client" / "bin" / "ldi-watch")
+PROGRAM = os.path.abspath(os.environ.get("LDI_WATCH") or ROOT / "client" / "bin" / "ldi-watch")
+"""The program that the tests drive; $LDI_WATCH names another."""
 NUMBERS_AT = 0x1000
 SCRIPT = b"""ENTRY(_start)
 SECTIONS {

@@ -10,6 +10,16 @@ use std::collections::HashMap;
 use std::path::{Path, PathBuf};
 
 impl Loaded {
+    /// The places of the objects that a file is, where it is no archive.
+    pub fn places_of(&self, path: &Path) -> &[usize] {
+        self.plain.get(path).map_or(&[], Vec::as_slice)
+    }
+
+    /// Puts an object in the place of one that has the same names and sections.
+    pub fn put(&mut self, place: usize, new: Object) {
+        self.objects.get_mut(place).into_iter().for_each(|old| *old = new.clone());
+    }
+
     /// Takes other bytes of some files, which are read; says whether that is the same link but for them. Else nothing is
     /// taken, and it must be loaded anew: a file is not an object of its own, is none any more, or has another part in the
     /// choice of members of archives.

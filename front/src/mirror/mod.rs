@@ -6,6 +6,7 @@ mod session;
 use std::collections::HashMap;
 use std::ffi::OsString;
 use std::fs::File;
+use std::process::ExitStatus;
 use std::time::Duration;
 
 use bstr::BString;
@@ -66,6 +67,7 @@ pub struct Mirror {
     session: Option<Session>,
     options: Options,
     state: State,
+    last_status: Option<ExitStatus>,
 }
 
 /// What a session holds.
@@ -85,7 +87,14 @@ impl Mirror {
     /// A mirror of a session of this program, which is started by `bring`. A session that gives no answer for
     /// `patience` is taken for one that has ended.
     pub fn new(program: OsString, patience: Option<Duration>) -> Mirror {
-        Mirror { program, patience, session: None, options: Options::default(), state: State::default() }
+        Mirror {
+            program,
+            patience,
+            session: None,
+            options: Options::default(),
+            state: State::default(),
+            last_status: None,
+        }
     }
 
     /// Starts the session with these options, where it does not run with them already. It takes a while to get ready,
@@ -172,13 +181,20 @@ impl Mirror {
 
     /// Ends the session.
     pub fn end(&mut self) {
-        self.session = None;
+        if let Some(session) = self.session.take() {
+            self.last_status = session.kill();
+        }
         self.state = State::default();
     }
 
     /// Whether the session has ended by itself, as where it was killed.
     pub fn has_ended(&mut self) -> bool {
         self.session.as_mut().map_or(false, Session::has_ended)
+    }
+
+    /// How the last session ended, which may have ended by itself.
+    pub fn last_status(&self) -> Option<ExitStatus> {
+        self.last_status
     }
 
     /// The session that runs, as for its memory.

@@ -4,7 +4,7 @@ use std::ffi::{OsStr, OsString};
 use std::fs::File;
 use std::io::{self, IoSlice, Read, Write};
 use std::os::unix::io::{AsFd, AsRawFd};
-use std::process::{Child, ChildStdin, ChildStdout, Command, Stdio};
+use std::process::{Child, ChildStdin, ChildStdout, Command, ExitStatus, Stdio};
 use std::time::{Duration, Instant};
 
 use bstr::BStr;
@@ -409,6 +409,15 @@ impl Session {
     pub fn close(mut self) -> Option<i32> {
         self.to = None;
         self.child.wait().ok()?.code()
+    }
+
+    /// Ends the session, whatever it does; gives how it ended, which may have been before.
+    pub fn kill(mut self) -> Option<ExitStatus> {
+        self.to = None;
+        if matches!(self.child.try_wait(), Ok(None)) {
+            let _ = self.child.kill();
+        }
+        self.child.wait().ok()
     }
 
     /// The number of its process.

@@ -147,6 +147,11 @@ impl NewFile {
         }
     }
 
+    /// The file to write to; `None` once it is closed.
+    pub fn file(&mut self) -> Option<&mut File> {
+        self.file.as_mut()
+    }
+
     /// Closes it for writing, which is done before it is in place: who starts it there finds no writer.
     pub fn close(&mut self) {
         self.file = None;

@@ -3,6 +3,7 @@
 //! [`Inputs::load`] reads scripts and objects; [`LinkPlan::new`] lays the script out over the objects and writes it in the
 //! profile. [`LinkPlan::replan`] is the same plan with other bytes of some objects.
 
+mod alike;
 mod collecting;
 mod crossrefs;
 mod programs;

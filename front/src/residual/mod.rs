@@ -29,6 +29,7 @@ use crate::script::source::{Place, Source};
 use crate::script::tree::{Name, Script};
 
 pub use note::{Note, NoteKind, Topic};
+pub(crate) use profile::is_name as is_profile_name;
 
 /// The entry symbol of an image whose entry no name has.
 pub const NUMBER_ENTRY: &str = "ld.ldi.entry";

@@ -57,7 +57,7 @@ pub(super) fn is_in_name(byte: u8) -> bool {
 }
 
 /// Whether a text is a NAME that is not reserved.
-pub(super) fn is_name(text: &[u8]) -> bool {
+pub(crate) fn is_name(text: &[u8]) -> bool {
     let begins = text.first().map_or(false, |first| begins_name(*first));
     begins
         && text != b"."

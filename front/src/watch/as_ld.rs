@@ -1,0 +1,272 @@
+//! A link as of `ld.ldi`: archives, libraries, GNU ld's options and scripts, over the session that is kept.
+
+use std::path::{Path, PathBuf};
+
+use bstr::BString;
+
+use super::inputs::Inputs;
+use super::linking::Found;
+use super::listing::names_in;
+use super::words::Words;
+use crate::command::{path_of, read_command, Command, Input};
+use crate::finish::{finish, FileImage};
+use crate::inputs::InputFault;
+use crate::mirror::{Brought, Mirror, SessionError, Wanted};
+use crate::once::{messages, notes_of, section_outside, verdict, LinkFault};
+use crate::plan::{self, options_of, Environment, LinkPlan, PlanFault, Scripts, ScriptsFault};
+use crate::report::Diagnostic;
+use crate::residual::{Note, NoteKind};
+use crate::snapshot::Snapshot;
+
+/// A link of `ld.ldi` that is kept.
+#[derive(Debug, Default)]
+pub(super) struct AsLd {
+    command: Command,
+    plan: Option<LinkPlan>,
+    /// Whether the script is none of GNU ld.
+    pub(super) is_no_script: bool,
+    /// Whether the image of this plan was compared with what GNU ld makes.
+    is_compared: bool,
+}
+
+/// What came of an image.
+pub(super) enum Made {
+    /// The file, and what there is to say of it.
+    File(FileImage, Vec<String>),
+    /// There is none, as these lines say.
+    Refused(Vec<String>),
+}
+
+/// What the kept session says to a plan.
+pub(super) enum Said {
+    /// It has an image.
+    Image,
+    /// The link has faults.
+    Faults,
+    /// Inputs are refused.
+    Refused(Vec<(String, Diagnostic)>),
+}
+
+impl AsLd {
+    /// Takes other bytes of objects; `false` where all is to be found anew.
+    pub(super) fn take(&mut self, inputs: &mut Inputs, changed: &[PathBuf]) -> bool {
+        let mut plan = match self.plan.take() {
+            Some(plan) => plan,
+            None => return false,
+        };
+        if changed.is_empty() || plan.take_alike(&inputs.snapshot, changed) {
+            self.plan = Some(plan);
+            return true;
+        }
+        self.is_compared = false;
+        self.plan = plan.replan(&self.command, &mut inputs.snapshot, changed);
+        self.plan.is_some()
+    }
+
+    /// Finds all anew, while the session takes the objects.
+    ///
+    /// # Errors
+    /// The session gave no answer.
+    pub(super) fn find(
+        &mut self,
+        words: &Words,
+        environment: &Environment,
+        inputs: &mut Inputs,
+        mirror: &mut Mirror,
+    ) -> Result<Found, SessionError> {
+        *self = AsLd::default();
+        let loaded = self.load(words, environment, &mut inputs.snapshot);
+        let found = match loaded {
+            Ok(loaded) => loaded,
+            Err(found) => return Ok(found),
+        };
+        let held = found.held.clone();
+        let options = options_of(&self.command, None);
+        let command = &self.command;
+        let plan = std::thread::scope(|scope| {
+            let sending = scope.spawn(|| mirror.prepare(&options, &held));
+            let plan = LinkPlan::new(command, found);
+            sending.join().unwrap_or(Err(SessionError::Ended)).map(|()| plan)
+        })?;
+        self.plan = Some(plan);
+        Ok(Found::Ready)
+    }
+
+    fn load(
+        &mut self,
+        words: &Words,
+        environment: &Environment,
+        snapshot: &mut Snapshot,
+    ) -> Result<plan::Inputs, Found> {
+        let refused = |text: String| refused_of(&words.script, [text]);
+        let mut command = read_command(&words.as_ld).map_err(|fault| refused(fault.to_string()))?;
+        if !command.impossible.is_empty() {
+            return Err(refused(command.impossible.join("; ")));
+        }
+        with_lists(&mut command, snapshot)?;
+        self.command = command;
+        let scripts = match Scripts::read(&self.command, environment, snapshot) {
+            Ok(scripts) => scripts,
+            Err(ScriptsFault::NoScript(error)) => {
+                self.is_no_script = true;
+                let path = words.script.display().to_string();
+                return Err(Found::Refused(vec![(path, Diagnostic::from(&error))]));
+            }
+            Err(ScriptsFault::Missing(text)) => return Err(not_there(text)),
+        };
+        let loaded = plan::Inputs::load(&self.command, scripts, snapshot).map_err(|fault| match fault {
+            PlanFault::Input(InputFault::Missing(text)) => not_there(text),
+            fault => refused(fault.to_string()),
+        })?;
+        for path in [Some(&words.image), words.map.as_ref(), words.gdb.as_ref()].into_iter().flatten() {
+            if snapshot.read_as(path).is_some() {
+                return Err(refused(LinkFault::SameFile(path.display().to_string()).to_string()));
+            }
+        }
+        Ok(loaded)
+    }
+
+    /// Brings the session in step.
+    ///
+    /// # Errors
+    /// The session gave no answer.
+    pub(super) fn bring(
+        &mut self,
+        words: &Words,
+        environment: &Environment,
+        mirror: &mut Mirror,
+    ) -> Result<(Said, usize), SessionError> {
+        let plan = match &self.plan {
+            Some(plan) => plan,
+            None => return Ok((Said::Refused(Vec::new()), 0)),
+        };
+        let is_left = plan.residual.is_left();
+        let script: &[u8] = if is_left { b"" } else { &plan.residual.text };
+        let brought = mirror.bring(Wanted { options: &plan.options, objects: plan.held(), script })?;
+        let said = match refusals(plan, &brought, environment) {
+            refused if !refused.is_empty() => Said::Refused(refused),
+            _ if is_left => Said::Refused(listed(&words.script, left(plan))),
+            _ => match brought.script_refused {
+                Some(refusal) => {
+                    let path = plan.inputs.scripts.path.display().to_string();
+                    let said = messages::of_script(plan, refusal, environment);
+                    Said::Refused(said.into_iter().map(|one| (path.clone(), one)).collect())
+                }
+                None if brought.is_good => Said::Image,
+                None => Said::Faults,
+            },
+        };
+        Ok((said, brought.edits))
+    }
+
+    /// The messages of faults.
+    pub(super) fn faults(&self, faults: &[u8]) -> Vec<Diagnostic> {
+        self.plan.as_ref().map_or_else(Vec::new, |plan| messages::of_faults(&self.command, plan, faults, None))
+    }
+
+    /// Whether the map is wanted to compare the next image.
+    pub(super) fn wants_map(&self) -> bool {
+        let collects = self.command.collects_sections;
+        !self.is_compared && self.plan.as_ref().map_or(false, |plan| verdict::wants_map(plan, collects))
+    }
+
+    /// The script as people know it.
+    pub(super) fn script(&self) -> PathBuf {
+        self.plan.as_ref().map_or_else(PathBuf::new, |plan| plan.inputs.scripts.path.clone())
+    }
+
+    /// Makes the file of an image that the session gave.
+    pub(super) fn make(&mut self, words: &Words, image: Vec<u8>, map: &[u8]) -> Made {
+        let plan = match &self.plan {
+            Some(plan) => plan,
+            None => return Made::Refused(Vec::new()),
+        };
+        let path = plan.inputs.scripts.path.display();
+        let mut lines = Vec::new();
+        let is_first = !self.is_compared;
+        if is_first {
+            lines.extend(messages::warnings(plan).iter().map(ToString::to_string));
+            let verdict = match verdict::verdict(plan, &image, map, false) {
+                Ok(verdict) => verdict,
+                Err(fault) => return Made::Refused(vec![fault.to_string()]),
+            };
+            lines.extend(verdict.lines);
+            lines.extend(notes_of(&self.command, plan).into_iter().map(|note| format!("ld.ldi: {note}")));
+            if verdict.differs {
+                let why = "the image would be another than GNU ld's, as is said above: none is written";
+                lines.push(format!("ld.ldi: {path}: {why}"));
+                return Made::Refused(lines);
+            }
+        }
+        match finish(image, &plan.form) {
+            Ok(finished) => {
+                lines.extend(finished.notes.iter().map(|note| format!("ld.ldi: {path}: {note}")));
+                let why = "without effect here: a watch writes the image and the map";
+                lines.extend(words.without_effect.iter().map(|word| format!("{word}: {why}")));
+                self.is_compared = true;
+                Made::File(finished.file, if is_first { lines } else { Vec::new() })
+            }
+            Err(fault) => Made::Refused(vec![format!("{}: {fault}", words.image.display())]),
+        }
+    }
+}
+
+fn not_there(text: String) -> Found {
+    Found::NotThere(Some(("the link".into(), text)))
+}
+
+/// Lines that say why there is no link, as of the script.
+pub(super) fn listed(script: &Path, lines: impl IntoIterator<Item = String>) -> Vec<(String, Diagnostic)> {
+    lines.into_iter().map(|line| (script.display().to_string(), Diagnostic::error(line))).collect()
+}
+
+fn refused_of(script: &Path, lines: impl IntoIterator<Item = String>) -> Found {
+    Found::Refused(listed(script, lines))
+}
+
+/// Puts the names of the lists in their places.
+fn with_lists(command: &mut Command, snapshot: &mut Snapshot) -> Result<(), Found> {
+    let mut inputs = Vec::with_capacity(command.inputs.len());
+    for input in std::mem::take(&mut command.inputs) {
+        let list = match &input {
+            Input::File(path, flags) => {
+                path.to_str().and_then(|name| name.strip_prefix('@')).map(|list| (list, *flags))
+            }
+            _ => None,
+        };
+        match list {
+            Some((list, flags)) => {
+                let data = snapshot.read(Path::new(list)).map_err(|_| Found::NotThere(None))?;
+                inputs.extend(names_in(&data).map(|name: BString| Input::File(path_of(&name), flags)));
+            }
+            None => inputs.push(input),
+        }
+    }
+    command.inputs = inputs;
+    Ok(())
+}
+
+/// The messages of objects that are refused, with the names of their files.
+fn refusals(plan: &LinkPlan, brought: &Brought, environment: &Environment) -> Vec<(String, Diagnostic)> {
+    let mut said = Vec::new();
+    for (index, refusal) in &brought.refused {
+        let object = plan.inputs.objects().get(*index);
+        let path = object.map_or_else(String::new, |object| object.origin().path.display().to_string());
+        let messages = messages::of_object(plan, *index, *refusal, environment);
+        said.extend(messages.into_iter().map(|one| (path.clone(), one)));
+    }
+    said
+}
+
+/// What is left of the script, which `ldi` does not link.
+fn left(plan: &LinkPlan) -> Vec<String> {
+    let left = plan.residual.notes.iter().filter(|note| note.kind == NoteKind::Left);
+    let mut lines: Vec<String> = left.map(Note::to_string).collect();
+    let places = if lines.len() == 1 { "1 place".to_owned() } else { format!("{} places", lines.len()) };
+    lines.extend(section_outside(plan).map(|line| format!("ld.ldi: {line}")));
+    let changed = plan.residual.changed().filter(|note| verdict::is_said(note));
+    lines.extend(changed.map(Note::to_string));
+    let path = plan.inputs.scripts.path.display();
+    lines.push(format!("ld.ldi: {path}: {places} cannot be linked by ldi, as is said above"));
+    lines
+}

@@ -1,0 +1,119 @@
+//! When events came, and when they are dealt with.
+
+use std::time::{Duration, Instant};
+
+/// How long there is no event in a burst before those before are dealt with.
+const QUIET: Duration = Duration::from_millis(15);
+/// After so much rest an event is dealt with at once.
+const REST: Duration = Duration::from_millis(200);
+/// How long events are gathered though others still come.
+const LONGEST_GATHERING: Duration = Duration::from_millis(200);
+/// How often all inputs are looked at, for events that the system lost.
+const PERIOD: Duration = Duration::from_secs(1);
+
+/// Events that are gathered.
+#[derive(Debug)]
+pub(super) struct Gathering {
+    /// When the first of them came; `None` where there is nothing to deal with.
+    pub(super) first: Option<Instant>,
+    /// When the last event came.
+    pub(super) last: Instant,
+    /// When all is looked at.
+    pub(super) next_look: Instant,
+    /// Whether they are dealt with at once, as there was rest before.
+    is_urgent: bool,
+    /// Whether the step that is made now was for an event after rest, of which others may follow.
+    pub(super) is_eager: bool,
+}
+
+impl Gathering {
+    pub(super) fn new(now: Instant) -> Gathering {
+        Gathering { first: Some(now), last: now, next_look: now + PERIOD, is_urgent: true, is_eager: false }
+    }
+
+    /// There was an event of a file.
+    pub(super) fn event(&mut self, now: Instant) {
+        if self.first.is_none() && now.saturating_duration_since(self.last) >= REST {
+            self.is_urgent = true;
+            self.is_eager = true;
+        } else if self.first.is_some() {
+            self.is_urgent &= self.is_eager;
+        }
+        self.last = now;
+        self.note(now);
+    }
+
+    /// There is something to deal with, from now on if there was nothing before.
+    pub(super) fn note(&mut self, now: Instant) {
+        self.first = self.first.or(Some(now));
+    }
+
+    /// There is something to deal with now.
+    pub(super) fn note_urgent(&mut self, now: Instant) {
+        self.is_urgent = true;
+        self.note(now);
+    }
+
+    /// When the events that were gathered are dealt with.
+    pub(super) fn due(&self) -> Option<Instant> {
+        let first = self.first?;
+        Some(if self.is_urgent { first } else { (self.last + QUIET).min(first + LONGEST_GATHERING) })
+    }
+
+    /// They are dealt with now.
+    pub(super) fn begin(&mut self) {
+        self.first = None;
+        self.is_urgent = false;
+    }
+
+    /// The step has ended.
+    pub(super) fn end(&mut self) {
+        self.is_eager = false;
+    }
+
+    /// All was looked at.
+    pub(super) fn looked(&mut self, now: Instant) {
+        self.next_look = now + PERIOD;
+    }
+
+    /// All is looked at by then.
+    pub(super) fn look_by(&mut self, when: Instant) {
+        self.next_look = self.next_look.min(when);
+    }
+}
+
+#[cfg(test)]
+mod tests {
+    use super::{Gathering, LONGEST_GATHERING, QUIET, REST};
+    use std::time::{Duration, Instant};
+
+    fn after_rest() -> (Gathering, Instant) {
+        let now = Instant::now();
+        let mut gathering = Gathering::new(now);
+        gathering.begin();
+        (gathering, now + REST)
+    }
+
+    #[test]
+    fn an_event_after_rest_is_dealt_with_at_once_and_a_burst_is_gathered() {
+        let (mut gathering, now) = after_rest();
+        gathering.event(now);
+        assert_eq!((gathering.due(), gathering.is_eager), (Some(now), true));
+        gathering.begin();
+        gathering.end();
+        let next = now + Duration::from_millis(3);
+        gathering.event(next);
+        assert_eq!((gathering.due(), gathering.is_eager), (Some(next + QUIET), false));
+        for _ in 0..30 {
+            gathering.event(gathering.last + Duration::from_millis(10));
+        }
+        assert_eq!(gathering.due(), Some(next + LONGEST_GATHERING));
+    }
+
+    #[test]
+    fn the_end_of_a_command_is_dealt_with_at_once() {
+        let (mut gathering, now) = after_rest();
+        gathering.note_urgent(now);
+        assert_eq!(gathering.due(), Some(now));
+    }
+}

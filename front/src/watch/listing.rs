@@ -1,0 +1,118 @@
+//! The objects' names in their order: words of the command line, and lines of the files that `@LIST` names.
+
+use std::collections::{HashMap, HashSet};
+use std::ffi::OsStr;
+use std::os::unix::ffi::OsStrExt;
+use std::path::{Path, PathBuf};
+
+use bstr::{BString, ByteSlice};
+
+use super::here::real;
+use super::words::{Named, Words};
+use crate::mirror::{is_name, GREATEST_NAME};
+use crate::snapshot::{read_regular, Bytes};
+
+/// The objects that a session has at most.
+const GREATEST_COUNT: usize = 4096;
+
+/// Why a session does not take names.
+#[derive(Debug, thiserror::Error)]
+#[error("{text}")]
+pub(super) struct NamesRefused {
+    text: String,
+    /// The session's answer to them.
+    pub(super) line: &'static str,
+}
+
+fn refused<T>(text: String) -> Result<T, NamesRefused> {
+    Err(NamesRefused { text, line: "refused 6 0" })
+}
+
+/// The names of a list file: one a line; empty lines are none.
+pub(super) fn names_in(data: &[u8]) -> impl Iterator<Item = BString> + '_ {
+    data.split(|byte| *byte == b'\n').filter(|line| !line.is_empty()).map(BString::from)
+}
+
+/// The names of all objects; `lists` has the list files' bytes by their paths.
+///
+/// # Errors
+/// A session refuses them.
+pub(super) fn object_names(items: &[Named], lists: &HashMap<PathBuf, Bytes>) -> Result<Vec<BString>, NamesRefused> {
+    let mut names = Vec::new();
+    for item in items {
+        match item {
+            Named::Object(name) => names.push(name.clone()),
+            Named::List(path) => names.extend(lists.get(path).into_iter().flat_map(|data| names_in(data))),
+        }
+    }
+    check_names(&names)?;
+    Ok(names)
+}
+
+fn why_no_name(name: &[u8]) -> String {
+    let found = match name.iter().find(|byte| !(0x21..=0x7E).contains(*byte)) {
+        Some(byte) => format!("the byte {byte:#04x}"),
+        None => format!("{} bytes", name.len()),
+    };
+    format!("its name has {found}: an object's name has 1 to {GREATEST_NAME} bytes, each from `!' to `~'")
+}
+
+/// Refuses names that a session refuses, and a name that stands twice.
+fn check_names(names: &[BString]) -> Result<(), NamesRefused> {
+    let mut seen = HashSet::new();
+    for name in names {
+        if !is_name(name) {
+            return refused(format!("`{}`: {}", name.to_str_lossy(), why_no_name(name)));
+        }
+        if !seen.insert(name) {
+            return Err(NamesRefused { text: format!("`{name}` is named twice"), line: "refused 1 0" });
+        }
+    }
+    match names.len() {
+        count if count > GREATEST_COUNT => refused(format!("{count} objects are named; a session has at most 4,096")),
+        _ => Ok(()),
+    }
+}
+
+/// Refuses an output that is an input or another output; `names` are the objects'.
+///
+/// # Errors
+/// There is such an output.
+pub(super) fn check_outputs(words: &Words, names: &[BString]) -> Result<(), NamesRefused> {
+    let lists = words.objects.iter().filter_map(|item| match item {
+        Named::List(path) => Some(path.as_path()),
+        Named::Object(_) => None,
+    });
+    let objects = names.iter().map(|name| Path::new(OsStr::from_bytes(name)));
+    let inputs: HashSet<PathBuf> = [words.script.as_path()].into_iter().chain(lists).chain(objects).map(real).collect();
+    let mut taken: HashMap<PathBuf, &Path> = HashMap::new();
+    for path in [Some(&words.image), words.map.as_ref(), words.gdb.as_ref()].into_iter().flatten() {
+        let place = real(path);
+        if inputs.contains(&place) {
+            return refused(format!("`{}` is an input, and so it cannot be written", path.display()));
+        }
+        match taken.get(&place).filter(|_| place != Path::new("/dev/null")) {
+            Some(other) => {
+                let both = format!("`{}` and `{}`", other.display(), path.display());
+                return refused(format!("{both} are one file, and so they cannot both be written"));
+            }
+            None => taken.insert(place, path),
+        };
+    }
+    Ok(())
+}
+
+/// Refuses names that a session would refuse, and an output that is an input, before anything is started.
+///
+/// # Errors
+/// There are such names.
+pub(super) fn check_files(words: &Words) -> Result<(), NamesRefused> {
+    let mut lists = HashMap::new();
+    for item in &words.objects {
+        if let Named::List(path) = item {
+            // One that is not there may come.
+            lists.insert(path.clone(), read_regular(path).map(|seen| seen.data).unwrap_or_default());
+        }
+    }
+    check_outputs(words, &object_names(&words.objects, &lists)?)
+}

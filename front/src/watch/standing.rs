@@ -1,0 +1,62 @@
+//! The state that a watch is in, and since when: one that may pass is said only where it stays.
+
+use std::time::{Duration, Instant};
+
+use super::says::{NoOutput, State, Teller};
+
+/// How long an input stays refused or away before it is said.
+pub(super) const BEFORE_SAID: Duration = Duration::from_millis(300);
+
+/// The state, and whether it was said.
+#[derive(Debug)]
+pub(super) struct Standing {
+    pub(super) state: Option<State>,
+    pub(super) is_said: bool,
+    since: Instant,
+}
+
+impl Standing {
+    pub(super) fn new() -> Standing {
+        Standing { state: None, is_said: false, since: Instant::now() }
+    }
+
+    /// Makes this the state; it is said now, or where it stays.
+    ///
+    /// # Errors
+    /// It cannot be printed.
+    pub(super) fn set(&mut self, state: State, is_at_once: bool, teller: &mut Teller) -> Result<(), NoOutput> {
+        if self.state.as_ref() != Some(&state) || matches!(state, State::Good(_)) {
+            self.state = Some(state);
+            self.since = Instant::now();
+            self.is_said = false;
+        }
+        match is_at_once && !self.is_said {
+            true => self.say(teller),
+            false => Ok(()),
+        }
+    }
+
+    /// When the state is to be said, if it is not yet.
+    pub(super) fn time(&self) -> Option<Instant> {
+        self.state.as_ref().filter(|_| !self.is_said).map(|_| self.since + BEFORE_SAID)
+    }
+
+    /// Says the state if it stood for long enough.
+    ///
+    /// # Errors
+    /// It cannot be printed.
+    pub(super) fn say_in_time(&mut self, now: Instant, teller: &mut Teller) -> Result<(), NoOutput> {
+        match self.time().map_or(false, |time| now >= time) {
+            true => self.say(teller),
+            false => Ok(()),
+        }
+    }
+
+    fn say(&mut self, teller: &mut Teller) -> Result<(), NoOutput> {
+        if let Some(state) = &self.state {
+            teller.say(state)?;
+        }
+        self.is_said = true;
+        Ok(())
+    }
+}
