@@ -9,6 +9,7 @@ mod loaded;
 mod names;
 mod pages;
 mod program_headers;
+mod rights;
 
 use bstr::BString;
 
@@ -18,6 +19,7 @@ pub use image::NotAnImage;
 pub use loaded::Differs;
 pub use pages::TooFar;
 pub use program_headers::{NotWritten, WantedSegment};
+pub use rights::Rights;
 
 /// The page size of the images of `ldi`.
 pub const PAGE: u64 = 4096;
@@ -35,13 +37,22 @@ pub struct Form {
     pub segments_problem: Option<String>,
     /// Output sections that have another name in the image of `ldi`, and the names that they are to have.
     pub names: Vec<(BString, BString)>,
+    /// The rights of output sections in GNU ld's file.
+    pub rights: Vec<Rights>,
     /// Whether the bytes are wanted as they lie in memory, without headers (`--oformat binary`).
     pub is_flat: bool,
 }
 
 impl Default for Form {
     fn default() -> Form {
-        Form { page: PAGE, segments: None, segments_problem: None, names: Vec::new(), is_flat: false }
+        Form {
+            page: PAGE,
+            segments: None,
+            segments_problem: None,
+            names: Vec::new(),
+            rights: Vec::new(),
+            is_flat: false,
+        }
     }
 }
 
@@ -86,11 +97,12 @@ pub struct Finished {
 ///
 /// # Errors
 /// Where the form has no file for this image, and where the file would not load what the image loads.
-pub fn finish(image: Vec<u8>, form: &Form) -> Result<Finished, FinishError> {
+pub fn finish(mut image: Vec<u8>, form: &Form) -> Result<Finished, FinishError> {
     if form.is_flat {
         let flat = flat::flat_binary(&image)?;
         return Ok(Finished { file: FileImage::whole(flat), notes: Vec::new() });
     }
+    rights::write(&mut image, &form.rights)?;
     let mut notes = Vec::new();
     let mut plan = match &form.segments {
         Some(segments) => with_segments(&image, form, segments, &mut notes)?,

@@ -4,6 +4,7 @@ use super::image::{Image, Section, Segment};
 use super::*;
 
 /// A section of an image that is made: name, flags, address, load address, bytes (`None` without file bytes), size.
+#[derive(Clone, Copy)]
 struct Made<'a>(&'a str, u64, u64, u64, Option<&'a [u8]>, u64);
 
 /// An image as `ldi` writes it, with a segment for each section.
@@ -195,6 +196,23 @@ fn sections_get_their_names() {
     let image = Image::read(&file).unwrap();
     let names: Vec<&bstr::BStr> = image.sections.iter().map(|one| image.name(one).unwrap()).collect();
     assert_eq!(names, ["", ".text", ".text", ".b+s", ".shstrtab"]);
+}
+
+/// ldlang.c, `lang_process`: `.text` is not writable; `lang_add_section`: the flags of what is in a section.
+#[test]
+fn sections_have_the_rights_of_gnu_ld() {
+    let text = Made(".text", 5, 0x1000, 0x1000, Some(b"abcd"), 4);
+    let data = Made(".data", 0, 0x2000, 0x2000, Some(b"efgh"), 4);
+    let rights = |flags: [u64; 2]| {
+        let of = |address, flags| Rights { address, size: 4, flags };
+        let form = Form { rights: vec![of(0x1000, flags[0]), of(0x2000, flags[1])], ..Form::default() };
+        let file = finish(image(&[text, data]), &form).unwrap().file.into_vec();
+        let image = Image::read(&file).unwrap();
+        let sections: Vec<u64> = image.sections.iter().filter(|one| one.size == 4).map(|one| one.flags).collect();
+        (sections, image.segments.iter().map(|one| one.flags).collect::<Vec<u32>>())
+    };
+    assert_eq!(rights([7, 2]), (vec![7, 2], vec![7, 4]));
+    assert_eq!(rights([6, 3]), (vec![6, 3], vec![5, 6]));
 }
 
 #[test]

@@ -15,7 +15,7 @@ use std::path::PathBuf;
 use bstr::{BStr, BString, ByteSlice};
 
 use crate::command::{Command, Orphans, OutputFormat};
-use crate::finish::{Form, PAGE};
+use crate::finish::{Form, Rights, PAGE};
 use crate::inputs::{self, InputFault, Loaded, ScriptInputs};
 use crate::layout::{Evaluation, Layout, Settings, Stop};
 use crate::mirror::{self, Held};
@@ -124,7 +124,7 @@ impl LinkPlan {
     ) -> LinkPlan {
         let residual = written(command, &inputs, evaluation.as_ref().ok());
         let options = options_of(command, residual.entry.as_ref().map(|name| name.as_bstr()));
-        let form = form_of(command, &inputs.scripts, &residual);
+        let form = form_of(command, &inputs.scripts, &residual, evaluation.as_ref().ok());
         LinkPlan { inputs, evaluation, residual, options, form, layout }
     }
 
@@ -201,7 +201,7 @@ fn written(command: &Command, inputs: &Inputs, evaluation: Option<&Evaluation>) 
 }
 
 /// The form of the file that a command and a script ask for.
-fn form_of(command: &Command, scripts: &Scripts, residual: &Residual) -> Form {
+fn form_of(command: &Command, scripts: &Scripts, residual: &Residual, evaluation: Option<&Evaluation>) -> Form {
     let is_flat = match command.output_format {
         Some(format) => format == OutputFormat::Binary,
         None => scripts.is_own && scripts.parts.iter().any(is_binary),
@@ -211,8 +211,15 @@ fn form_of(command: &Command, scripts: &Scripts, residual: &Residual) -> Form {
         segments: residual.segments.clone(),
         segments_problem: residual.segments_problem.clone(),
         names: residual.names.clone(),
+        rights: evaluation.map_or_else(Vec::new, rights_of),
         is_flat,
     }
+}
+
+/// The rights of GNU ld's sections.
+fn rights_of(evaluation: &Evaluation) -> Vec<Rights> {
+    let loaded = evaluation.in_image().filter(|(_, place)| place.is_allocated() && place.size != 0);
+    loaded.map(|(_, place)| Rights { address: place.address, size: place.size, flags: place.bits }).collect()
 }
 
 fn is_binary(part: &ScriptInputs) -> bool {

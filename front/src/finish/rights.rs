@@ -1,0 +1,82 @@
+//! Sections that GNU ld makes writable or executable, or not, where the image of `ldi` has it otherwise: `.text` of
+//! writable input sections, sections of data commands alone. What is loaded stays as it is, with other rights.
+
+use std::collections::HashMap;
+
+use object::elf;
+
+use super::image::{Image, NotAnImage, Section, Segment, ELF_HEADER, PROGRAM_HEADER};
+
+/// The rights of a section.
+const RIGHTS: [(u32, u32); 2] = [(elf::SHF_WRITE, elf::PF_W), (elf::SHF_EXECINSTR, elf::PF_X)];
+const MASK: u64 = (elf::SHF_WRITE | elf::SHF_EXECINSTR) as u64;
+/// Where sh_flags stands in a section header, p_flags in a program header, and e_shoff in the header of the file.
+const FLAGS_OF_SECTION: u64 = 8;
+const FLAGS_OF_SEGMENT: u64 = 4;
+const SECTION_HEADER: u64 = 64;
+const SECTIONS_AT: usize = 40;
+
+/// The rights that the output section of a place is to have.
+#[derive(Clone, Copy, PartialEq, Eq, Debug)]
+pub struct Rights {
+    /// Its address.
+    pub address: u64,
+    /// Its bytes, more than 0.
+    pub size: u64,
+    /// SHF_WRITE and SHF_EXECINSTR, of `sh_flags`; other bits are not looked at.
+    pub flags: u64,
+}
+
+/// Writes the rights of sections into their headers, and into those of the segments that have such a section.
+pub(super) fn write(data: &mut [u8], wanted: &[Rights]) -> Result<(), NotAnImage> {
+    for (at, bytes) in changes(data, wanted)? {
+        let place = usize::try_from(at).ok().and_then(|at| data.get_mut(at..at.checked_add(bytes.len())?));
+        if let Some(place) = place {
+            place.copy_from_slice(&bytes);
+        }
+    }
+    Ok(())
+}
+
+/// The bytes that become others, with their places in the file.
+fn changes(data: &[u8], wanted: &[Rights]) -> Result<Vec<(u64, Vec<u8>)>, NotAnImage> {
+    let wanted: HashMap<(u64, u64), u64> = wanted.iter().map(|one| ((one.address, one.size), one.flags)).collect();
+    let mut image = Image::read(data)?;
+    let headers_at = data.get(SECTIONS_AT..SECTIONS_AT + 8).and_then(|bytes| bytes.try_into().ok());
+    let headers_at = headers_at.map_or(0, u64::from_le_bytes);
+    let (mut found, mut changed) = (Vec::new(), Vec::new());
+    for (number, section) in image.sections.iter_mut().enumerate().filter(|(_, one)| one.is_allocated()) {
+        let own = wanted.get(&(section.address, section.size));
+        let flags = own.map_or(section.flags, |own| section.flags & !MASK | own & MASK);
+        if flags != section.flags {
+            section.flags = flags;
+            let at = headers_at.wrapping_add(SECTION_HEADER * number as u64).wrapping_add(FLAGS_OF_SECTION);
+            found.push((at, flags.to_le_bytes().to_vec()));
+            changed.push(number);
+        }
+    }
+    let is_changed = |segment: &Segment| {
+        changed.iter().any(|number| image.sections.get(*number).map_or(false, |section| is_in(section, segment)))
+    };
+    for (number, segment) in image.segments.iter().enumerate().filter(|(_, segment)| is_changed(segment)) {
+        let at = ELF_HEADER + PROGRAM_HEADER * number as u64 + FLAGS_OF_SEGMENT;
+        found.push((at, rights_of(segment, &image.sections).to_le_bytes().to_vec()));
+    }
+    Ok(found)
+}
+
+/// R, with the rights of the sections that are not empty.
+fn rights_of(segment: &Segment, sections: &[Section]) -> u32 {
+    let inside = sections.iter().filter(|one| one.is_allocated() && one.size != 0 && is_in(one, segment));
+    let flags = inside.fold(0, |flags, section| flags | section.flags);
+    RIGHTS.iter().filter(|(flag, _)| flags & u64::from(*flag) != 0).fold(elf::PF_R, |rights, (_, right)| rights | right)
+}
+
+/// Whether a segment has a section, by its address and by its place in the file.
+fn is_in(section: &Section, segment: &Segment) -> bool {
+    let within = section.address.checked_sub(segment.address);
+    let room = segment.memory_size.checked_sub(section.size);
+    within
+        .zip(room)
+        .map_or(false, |(within, room)| within <= room && section.offset.wrapping_sub(segment.offset) == within)
+}
