@@ -7,7 +7,7 @@ export LDI
 
 .PHONY: help demo ldi install check test test-client rules fmt examples bench check-real check-images check-model \
         check-link check-readers check-session check-counts check-no-memory check-memory mutants soak-client row lint
-.PHONY: self dist dist-test
+.PHONY: self dist dist-test front test-front
 
 help: ## this list
 	@awk -F ':.*## ' '/^[a-z-]+:.*## / { printf "make %-14s %s\n", $$1, $$2 }' Makefile
@@ -44,6 +44,12 @@ test-client: ## the tests of the client's programs, over the program that `make 
 soak-client: ## runs ldi-watch over 2,000 rounds of random rewrites and ld.ldi over 500, and judges every image
 	@/usr/bin/python3 -m client.tests.soak 2000
 	@/usr/bin/python3 -m client.tests.soak_server 500
+
+front: ## builds the compiled front end, front/target/release/ldi-front
+	@tools/build-front
+
+test-front: ## rustfmt, clippy and the unit tests of the compiled front end
+	@tools/test-front
 
 lint: ## looks over the client's programs by `mypy --strict`, and by ruff where that is installed
 	@tools/lint
