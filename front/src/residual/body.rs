@@ -246,7 +246,9 @@ impl<'a> Walk<'a> {
             let kept: Vec<SectionId> = sections.iter().copied().filter(|id| self.needs_keep(*id)).collect();
             self.kept_by_name.extend(kept);
             let text = self.explicit_with(&sections, gaps, false, body);
-            return self.edits.replace(self.text, span, text);
+            // The statement itself takes what `ldi` keeps besides.
+            let rest = if super::input::is_plain(node) { self.slice(span).to_string() } else { String::new() };
+            return self.edits.replace(self.text, span, format!("{text} {rest}"));
         }
         if let Some(first) = places.first() {
             if first.offset != aligned(body.at, first.own_align) && first.offset > body.at {

@@ -248,7 +248,7 @@ fn all_patterns(node: &InputStatement) -> impl Iterator<Item = &Pattern> {
 }
 
 /// Whether a statement is one of the profile as it stands.
-fn is_plain(node: &InputStatement) -> bool {
+pub(super) fn is_plain(node: &InputStatement) -> bool {
     let (file, sections) = match (&node.file, &node.sections) {
         (Some(file), Some(sections)) if node.section_flags.is_empty() => (&file.node, sections),
         _ => return false,

@@ -186,9 +186,8 @@ impl<'a> Walk<'a> {
             .filter(|id| self.request.kept.get(id.index()).copied().unwrap_or(false))
             .filter(|id| evaluation.section(*id).map_or(false, super::head::is_linked))
             .collect();
-        let is_unwinding = |one: &InputSection| {
-            one.output().is_some() && one.size > 0 && evaluation.section_name(one) == ".eh_frame"
-        };
+        let is_unwinding =
+            |one: &InputSection| one.output().is_some() && one.size > 0 && evaluation.section_name(one) == ".eh_frame";
         let all = evaluation.sections.iter().enumerate();
         let unwinding = all.filter(|(_, one)| self.request.keeps_more && is_unwinding(one));
         let unwinding: Vec<SectionId> = unwinding.map(|(index, _)| SectionId::new(index)).collect();
