@@ -81,5 +81,7 @@ pub fn session<R: Read + Drop, W: Write + Drop>(
 {
     // the linker is made here and lent, so that few values are in hand at each end
     let mut linker = Session::new(alloc, seed, options)?;
-    answer(alloc, &mut linker, reader, writer)
+    let ended = answer(alloc, &mut linker, reader, writer);
+    linker.close();
+    ended
 }

@@ -121,6 +121,10 @@ impl Session {
         })
     }
 
+    /// Gives back the memory of a session that is over. A crate that lets a session go by itself is proved to give back
+    /// each part of it; one that calls this need not be.
+    pub fn close(self) {}
+
     /// Stages an edit, updates the tables and links; commits the next project and records its link only after that. If
     /// an object replaces one of the same bytes, nothing changes, and the link that is there answers.
     fn apply_edit(&mut self, edit: Edit<'_>, meter: &mut Meter) -> Result<Linked, EditRefusal>

@@ -1,7 +1,7 @@
 use Rattle.ldi.proofs.session_command.session.Goals as goal
 
 pub returns-clause-answers : goal.returns-clause-answers
-returns-clause-answers g c = rw c.in_ok-linker.ensures at c.answer.ensures.answers
+returns-clause-answers g c = rw c.in_ok-linker.ensures at c.answer-ended.ensures.answers
 
 pub returns-clause-ran : goal.returns-clause-ran
-returns-clause-ran g c = rw c.in_ok-linker.ensures at c.answer.ensures.ran
+returns-clause-ran g c = rw c.in_ok-linker.ensures at c.answer-ended.ensures.ran
