@@ -113,7 +113,7 @@ class OtherHandsTest(FolderTest):
         watching = self.opened()
         os.kill(watching.process.pid, signal.SIGKILL)
         watching.wait()
-        left = f".image.{watching.process.pid}.0.new"
+        left = f".image.{watching.process.pid}.{0:032x}.new"
         (self.folder / left).write_bytes(b"half")
         used = beside(str(self.folder / "image"))
         with open(used, "wb"):

@@ -129,6 +129,7 @@ pub(super) fn apply(state: &mut State, changes: &[Change<'_>], answers: &[Answer
         match answer {
             Some(Answer::Linked { is_good, length }) => {
                 state.last = Some((*is_good, *length));
+                state.accepted += 1;
                 accept(state, change);
             }
             Some(Answer::Refused(refusal)) => refuse(state, change, *refusal),
@@ -160,8 +161,14 @@ fn accept(state: &mut State, change: &Change<'_>) {
 
 /// A position past the end comes of an earlier refusal: the object itself is not refused then.
 fn refuse(state: &mut State, change: &Change<'_>, refusal: Refusal) {
-    if let (Change::Add(held, _) | Change::Replace(held), true) = (change, refusal.number != 3) {
-        state.refused.insert(held.name.clone(), (held.data.clone(), refusal));
+    match change {
+        Change::Add(held, _) | Change::Replace(held) if refusal.number != 3 => {
+            state.refused.insert(held.name.clone(), (held.data.clone(), refusal));
+        }
+        Change::Add(held, _) | Change::Replace(held) | Change::Move(held, _) => {
+            state.stuck.push((held.name.clone(), refusal));
+        }
+        Change::Remove(name) => state.stuck.push((name.clone(), refusal)),
     }
 }
 

@@ -57,6 +57,11 @@ pub struct Brought {
     pub script_refused: Option<Refusal>,
     /// How many edits were sent.
     pub edits: usize,
+    /// How many of them were accepted, after which the session has another link.
+    pub accepted: usize,
+    /// Edits of other objects or of the order that were refused, by the names of the objects: the session is not what is
+    /// wanted, and the link is not good.
+    pub stuck: Vec<(BString, Refusal)>,
 }
 
 /// A session, started where one is needed, and what it holds.
@@ -81,6 +86,10 @@ pub(crate) struct State {
     last: Option<(bool, u64)>,
     /// Objects that it refused, and why: these bytes under this name are not sent again.
     refused: HashMap<BString, (Bytes, Refusal)>,
+    /// Edits that were refused and say nothing of bytes, as of the last round.
+    stuck: Vec<(BString, Refusal)>,
+    /// How many edits were accepted.
+    accepted: usize,
 }
 
 impl Mirror {
@@ -137,18 +146,22 @@ impl Mirror {
             let is_other = state.script.as_ref() != Some(&script);
             let count = edits::between(state, wanted.objects).len() + usize::from(is_other);
             let mut brought = Brought::default();
+            let accepted = state.accepted;
             if count > HANDFUL && can_wait && state.script.as_deref() != Some(SCRIPT_WITHOUT_LINK) {
                 send_script(session, state, &Bytes::from(SCRIPT_WITHOUT_LINK.to_vec()))?;
                 brought.edits += 1;
             }
             brought.edits += send_objects(session, state, wanted.objects)?;
             brought.refused = refused_of(state, wanted.objects);
-            if brought.refused.is_empty() && state.script.as_ref() != Some(&script) {
+            brought.stuck = state.stuck.clone();
+            let is_in_step = brought.refused.is_empty() && brought.stuck.is_empty();
+            if is_in_step && state.script.as_ref() != Some(&script) {
                 brought.script_refused = send_script(session, state, &script)?;
                 brought.edits += 1;
             }
             let (is_good, length) = state.last.unwrap_or_default();
-            Ok(Brought { is_good, length, ..brought })
+            let accepted = state.accepted - accepted;
+            Ok(Brought { is_good: is_good && brought.stuck.is_empty(), length, accepted, ..brought })
         })
     }
 
@@ -234,6 +247,7 @@ fn send_script(session: &mut Session, state: &mut State, script: &Bytes) -> Resu
         Answer::Linked { is_good, length } => {
             state.last = Some((is_good, length));
             state.script = Some(script.clone());
+            state.accepted += 1;
             Ok(None)
         }
         Answer::Refused(refusal) => Ok(Some(refusal)),
@@ -247,6 +261,7 @@ fn send_objects(session: &mut Session, state: &mut State, objects: &[Held]) -> R
     let mut count = 0;
     for _ in 0..ROUNDS {
         let changes = edits::between(state, objects);
+        state.stuck.clear();
         if changes.is_empty() {
             break;
         }
@@ -254,6 +269,9 @@ fn send_objects(session: &mut Session, state: &mut State, objects: &[Held]) -> R
         let sent: Vec<Edit<'_>> = changes.iter().filter_map(edits::Change::edit).collect();
         let answers = session.edit(&sent)?;
         edits::apply(state, &changes, &answers);
+    }
+    if edits::between(state, objects).is_empty() {
+        state.stuck.clear();
     }
     Ok(count)
 }

@@ -5,7 +5,7 @@ use std::path::{Path, PathBuf};
 use bstr::BString;
 
 use super::inputs::Inputs;
-use super::linking::Found;
+use super::linking::{stuck, Found};
 use super::listing::names_in;
 use super::words::Words;
 use crate::command::{path_of, read_command, Command, Input};
@@ -27,6 +27,8 @@ pub(super) struct AsLd {
     pub(super) is_no_script: bool,
     /// Whether the image of this plan was compared with what GNU ld makes.
     is_compared: bool,
+    /// Whether memory was refused.
+    pub(super) is_out_of_memory: bool,
 }
 
 /// What came of an image.
@@ -80,6 +82,11 @@ impl AsLd {
             Ok(loaded) => loaded,
             Err(found) => return Ok(found),
         };
+        if mirror.session().is_some() {
+            // it has most of the objects already
+            self.plan = Some(LinkPlan::new(&self.command, found));
+            return Ok(Found::Ready);
+        }
         let held = found.held.clone();
         let options = options_of(&self.command, None);
         let command = &self.command;
@@ -143,6 +150,9 @@ impl AsLd {
         let is_left = plan.residual.is_left();
         let script: &[u8] = if is_left { b"" } else { &plan.residual.text };
         let brought = mirror.bring(Wanted { options: &plan.options, objects: plan.held(), script })?;
+        let objects = brought.refused.iter().map(|(_, refusal)| refusal);
+        let all = objects.chain(brought.stuck.iter().map(|(_, refusal)| refusal)).chain(&brought.script_refused);
+        self.is_out_of_memory = all.into_iter().any(|refusal| refusal.is_memory());
         let said = match refusals(plan, &brought, environment) {
             refused if !refused.is_empty() => Said::Refused(refused),
             _ if is_left => Said::Refused(listed(&words.script, left(plan))),
@@ -156,7 +166,7 @@ impl AsLd {
                 None => Said::Faults,
             },
         };
-        Ok((said, brought.edits))
+        Ok((said, brought.accepted))
     }
 
     /// The messages of faults.
@@ -255,6 +265,7 @@ fn refusals(plan: &LinkPlan, brought: &Brought, environment: &Environment) -> Ve
         let messages = messages::of_object(plan, *index, *refusal, environment);
         said.extend(messages.into_iter().map(|one| (path.clone(), one)));
     }
+    said.extend(brought.stuck.iter().flat_map(|(name, refusal)| stuck(name, *refusal, environment)));
     said
 }
 

@@ -1,18 +1,23 @@
 //! What is written of a link: the image, and with it the map and the script of `--gdb`.
 
-use std::fs::File;
-use std::io::{self, Read, Seek, SeekFrom};
+use std::fs::{File, OpenOptions};
+use std::io::{self, Read, Seek, SeekFrom, Write};
+use std::os::unix::fs::OpenOptionsExt;
+use std::os::unix::io::AsRawFd;
 use std::path::{Path, PathBuf};
 
+use nix::errno::Errno;
+use nix::poll::{poll, PollFd, PollFlags};
 use rustix::fs::Mode;
 
 use super::here::{real, real_folder};
 use super::linking::Refusals;
+use super::stops::Stops;
 use super::words::Words;
 use crate::finish::FileImage;
 use crate::mirror::{Mirror, SessionError, TakeError};
 use crate::once::{pieces_of, zeros_of};
-use crate::place::{remove_left, write_in_place, NewFile, NotWritten, Opened, Reader, PROGRAM, TEXT};
+use crate::place::{remove_left, NewFile, NotWritten, Opened, PROGRAM, TEXT};
 use crate::snapshot::{look, Stamp};
 
 /// The bytes of files that are compared at once.
@@ -104,12 +109,12 @@ impl Output {
     }
 
     /// Puts what was prepared in place; gives the name of the old file.
-    fn commit(&mut self) -> Result<Option<PathBuf>, NotWritten> {
+    fn commit(&mut self, stops: &Stops) -> Result<Option<PathBuf>, NotWritten> {
         let done = match self.new.take() {
             None => return Ok(None),
             Some(Opened::InPlace(target)) => {
                 let data = std::mem::take(&mut self.data);
-                write_in_place(&target, &[&data], Reader::IsNeeded).map(|()| None)
+                write_in_place(&target, &data, stops).map(|()| None)
             }
             Some(Opened::Beside(new)) => {
                 let done = new.commit();
@@ -172,6 +177,32 @@ impl Output {
     }
 }
 
+/// Writes to something that is no regular file. A pipe that nobody reads is an error; one that is full is waited for, until
+/// a signal ends the program.
+fn write_in_place(path: &Path, mut data: &[u8], stops: &Stops) -> io::Result<()> {
+    let flags = libc::O_NONBLOCK | libc::O_NOCTTY;
+    let mut file = OpenOptions::new().write(true).custom_flags(flags).open(path)?;
+    while !data.is_empty() {
+        match file.write(data) {
+            Ok(0) => return Err(io::ErrorKind::WriteZero.into()),
+            Ok(count) => data = data.get(count..).unwrap_or_default(),
+            Err(fault) if fault.kind() == io::ErrorKind::Interrupted => {}
+            Err(fault) if fault.kind() == io::ErrorKind::WouldBlock => {
+                let sources = [(file.as_raw_fd(), PollFlags::POLLOUT), (stops.as_raw_fd(), PollFlags::POLLIN)];
+                match poll(&mut sources.map(|(source, wanted)| PollFd::new(source, wanted)), -1) {
+                    Ok(_) | Err(Errno::EINTR) => stops.drain(),
+                    Err(fault) => return Err(fault.into()),
+                }
+                if stops.ending().is_some() {
+                    return Err(io::ErrorKind::Interrupted.into());
+                }
+            }
+            Err(fault) => return Err(fault),
+        }
+    }
+    Ok(())
+}
+
 fn have_same_bytes(mut old: File, mut new: &File) -> io::Result<bool> {
     if old.metadata()?.len() != new.metadata()?.len() {
         return Ok(false);
@@ -179,7 +210,7 @@ fn have_same_bytes(mut old: File, mut new: &File) -> io::Result<bool> {
     new.seek(SeekFrom::Start(0))?;
     loop {
         let (mut one, mut other) = (Vec::new(), Vec::new());
-        old.by_ref().take(BLOCK as u64).read_to_end(&mut one)?;
+        Read::by_ref(&mut old).take(BLOCK as u64).read_to_end(&mut one)?;
         new.take(BLOCK as u64).read_to_end(&mut other)?;
         if one != other {
             return Ok(false);
@@ -312,9 +343,9 @@ impl Image {
     ///
     /// # Errors
     /// One cannot be put there.
-    pub(super) fn commit(&mut self) -> Result<(), NotWritten> {
+    pub(super) fn commit(&mut self, stops: &Stops) -> Result<(), NotWritten> {
         let mut old = Vec::new();
-        let done = self.outputs().try_for_each(|output| output.commit().map(|name| old.extend(name)));
+        let done = self.outputs().try_for_each(|output| output.commit(stops).map(|name| old.extend(name)));
         self.old.append(&mut old);
         done
     }
@@ -329,11 +360,11 @@ impl Image {
     ///
     /// # Errors
     /// It cannot be written.
-    pub(super) fn write_gdb(&mut self) -> Result<(), NotWritten> {
+    pub(super) fn write_gdb(&mut self, stops: &Stops) -> Result<(), NotWritten> {
         if let Some(path) = &self.gdb {
             let mut output = Output::new(path, TEXT);
             output.prepare(&[&crate::gdb::script_of(&self.map_text).unwrap_or_default()])?;
-            let old = output.commit()?;
+            let old = output.commit(stops)?;
             self.old.extend(old);
         }
         Ok(())

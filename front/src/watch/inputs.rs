@@ -35,6 +35,8 @@ pub(super) struct Inputs {
     /// The files of which it was asked whether somebody writes them.
     asked: HashMap<PathBuf, FileId>,
     dirty: HashSet<PathBuf>,
+    /// Those that were inputs before the last search that found others, and may be again.
+    spare: HashSet<PathBuf>,
     /// What changed since the last search that came to an end.
     changed: IndexSet<PathBuf>,
     /// Whether more than bytes may be other than at the last search.
@@ -55,6 +57,7 @@ impl Inputs {
             writers: IndexMap::new(),
             asked: HashMap::new(),
             dirty: HashSet::new(),
+            spare: HashSet::new(),
             changed: IndexSet::new(),
             is_other: true,
             is_out_of_memory: false,
@@ -120,7 +123,7 @@ impl Inputs {
             let is_known = self.places.has(path);
             is_new |= self.places.put(path, &mut self.watcher)?;
             if self.snapshot.seen(path).is_some() {
-                if !is_known {
+                if !is_known && !self.spare.contains(path) {
                     self.after.insert(path.clone());
                 }
                 self.ask(path);
@@ -128,11 +131,14 @@ impl Inputs {
         }
         let now: HashSet<&PathBuf> = paths.iter().collect();
         let gone: Vec<PathBuf> = self.places.all().filter(|path| !now.contains(path)).cloned().collect();
-        for path in gone {
-            self.places.forget(&path);
-            self.writers.remove(&path);
-            self.asked.remove(&path);
-            self.after.remove(&path);
+        for path in &gone {
+            self.places.forget(path);
+            self.writers.remove(path);
+            self.asked.remove(path);
+            self.after.remove(path);
+        }
+        if !gone.is_empty() {
+            self.spare = gone.into_iter().collect();
         }
         if is_new {
             self.look_again(); // there were no events of what happened before the folder was watched

@@ -5,15 +5,17 @@ use std::path::PathBuf;
 use std::process::ExitStatus;
 use std::time::Duration;
 
+use bstr::{BString, ByteSlice};
+
 use super::as_ld::{listed, AsLd, Made, Said};
 use super::image::{Image, ImageFault};
 use super::inputs::{Changed, Inputs};
 use super::plain::Plain;
 use super::stops::Stops;
 use super::words::Words;
-use crate::mirror::{Mirror, SessionError, Wanted};
+use crate::mirror::{Mirror, Refusal, SessionError, Wanted};
 use crate::plan::{find_program, Environment};
-use crate::report::Diagnostic;
+use crate::report::{refusals_of_object, Diagnostic, RefusedInput};
 use crate::snapshot::Bytes;
 
 /// How long a session may give no answer before it is taken for one that has ended.
@@ -64,7 +66,7 @@ pub(super) struct Linking {
     pub(super) is_out_of_memory: bool,
     /// The status with which the session ended last.
     pub(super) status: Option<ExitStatus>,
-    /// How many edits were sent so far.
+    /// How many edits were accepted so far.
     pub(super) edits: usize,
     environment: Environment,
     mode: Mode,
@@ -171,6 +173,7 @@ impl Linking {
             Mode::AsLd => {
                 let (said, edits) = self.as_ld.bring(words, &self.environment, &mut self.mirror)?;
                 self.edits += edits;
+                self.is_out_of_memory = self.as_ld.is_out_of_memory;
                 match said {
                     Said::Image => Outcome::Image,
                     Said::Refused(refusals) => Outcome::Refused(refusals),
@@ -191,11 +194,15 @@ impl Linking {
         self.note_session(stops);
         let wanted = Wanted { options: &plain.options, objects: &plain.held, script: &plain.sent };
         let brought = self.mirror.bring(wanted)?;
-        self.edits += brought.edits;
+        self.edits += brought.accepted;
         let mut refusals = Refusals::new();
         self.is_out_of_memory = brought.refused.iter().any(|(_, refusal)| refusal.is_memory());
         for (index, refusal) in &brought.refused {
             refusals.extend(plain.refused_object(*index, *refusal, &self.environment));
+        }
+        for (name, refusal) in &brought.stuck {
+            self.is_out_of_memory |= refusal.is_memory();
+            refusals.extend(stuck(name, *refusal, &self.environment));
         }
         if let Some(refusal) = brought.script_refused {
             self.is_out_of_memory |= refusal.is_memory();
@@ -256,6 +263,13 @@ impl Linking {
     pub(super) fn ends_always(&self) -> bool {
         self.ends >= MOST_ENDS
     }
+}
+
+/// The messages of an object that is none of the link and that the session did not take out, or move.
+pub(super) fn stuck(name: &BString, refusal: Refusal, environment: &Environment) -> Refusals {
+    let ldi = find_program("ldi", environment);
+    let input = RefusedInput { name: name.as_bstr(), refusal, data: None, ldi: &ldi };
+    refusals_of_object(&input, None).into_iter().map(|one| (name.to_str_lossy().into_owned(), one)).collect()
 }
 
 /// What there is to say of a link of `ld.ldi`.

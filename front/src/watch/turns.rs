@@ -353,7 +353,6 @@ impl<'a> Watch<'a> {
     }
 
     fn refused(&mut self, refusals: Refusals) -> Result<Round, StepFault> {
-        self.image.is_current = false;
         self.set(State::Refused(refusals), false)?;
         Ok(Round::Done)
     }
@@ -394,11 +393,11 @@ impl<'a> Watch<'a> {
         let is_written = !self.image.is_there();
         let is_new = !self.image.is_current;
         if is_written {
-            self.image.commit()?;
+            self.image.commit(self.stops)?;
         }
         let good = self.good(is_written);
         if is_written {
-            if let Err(fault) = self.image.write_gdb() {
+            if let Err(fault) = self.image.write_gdb(self.stops) {
                 let why = format!("it cannot be written: {}", plain(&fault.fault));
                 self.teller.note(&fault.path.display().to_string(), &why).map_err(WatchFault::from)?;
             }
