@@ -1,5 +1,6 @@
 //! Objects: their sections, symbols and relocations; an object made one of the profile.
 
+mod commons;
 mod elf;
 mod filter;
 mod names;
@@ -9,6 +10,7 @@ mod symbol;
 #[cfg(test)]
 pub(crate) mod tests;
 
+pub use commons::{with_common_section, BlockPlace, CommonSection};
 pub use elf::Elf;
 pub(crate) use filter::NameFilter;
 pub use names::{Definition, LinkNames};

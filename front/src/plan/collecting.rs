@@ -10,7 +10,7 @@ use bstr::{BStr, ByteSlice};
 use crate::layout::evaluation::{InputSection, Origin, StatementKind};
 use crate::layout::ids::SectionId;
 use crate::layout::{Evaluation, Flags};
-use crate::objects::{Binding, Home, Object, ObjectIndex, Rank, SectionIndex, Symbol};
+use crate::objects::{Binding, Home, Object, Rank, SectionIndex, Symbol};
 use crate::script::tree::{InputStatement, Name, Script, SectionStatement, SectionsStatement, Span, Statement};
 
 /// Where a reference leads: a section of an object, or its common blocks.
@@ -44,18 +44,13 @@ pub(super) fn kept_beside(
     reach.follow();
     let is_beside = |section: &InputSection| {
         let is_live = section.output().is_some() && !section.flags.has(Flags::EXCLUDE | Flags::CREATED);
-        let has_blocks = section.is_common() && commons_of(objects, section.object) > 1;
-        is_live && (has_blocks || !reach.is_reached(part_of(section)))
+        is_live && !reach.is_reached(part_of(section))
     };
     let has_more = evaluation.sections.iter().any(|section| {
         let is_left_out = section.flags.has(Flags::EXCLUDE) && !section.flags.has(Flags::CREATED);
         is_left_out && section.size > 0 && reach.is_reached(part_of(section))
     });
     (evaluation.sections.iter().map(is_beside).collect(), has_more)
-}
-
-fn commons_of(objects: &[Object], index: ObjectIndex) -> usize {
-    objects.get(index.0 as usize).map_or(0, |object| object.commons().count())
 }
 
 fn part_of(section: &InputSection) -> Part {

@@ -5,6 +5,7 @@
 
 mod alike;
 mod collecting;
+mod commons;
 mod crossrefs;
 mod programs;
 mod scripts;
@@ -96,6 +97,8 @@ pub struct LinkPlan {
     /// The form of the file.
     pub form: Form,
     layout: Option<Layout>,
+    /// The objects as the session is to hold them, where these are others than were read.
+    changed: Option<Vec<Held>>,
 }
 
 /// The options of a session for a command; `entry` is the entry symbol where the script cannot name it.
@@ -125,7 +128,9 @@ impl LinkPlan {
         let residual = written(command, &inputs, evaluation.as_ref().ok());
         let options = options_of(command, residual.entry.as_ref().map(|name| name.as_bstr()));
         let form = form_of(command, &inputs.scripts, &residual, evaluation.as_ref().ok());
-        LinkPlan { inputs, evaluation, residual, options, form, layout }
+        let places = |evaluation| commons::with_places(&inputs.held, inputs.objects(), evaluation);
+        let changed = evaluation.as_ref().ok().and_then(places);
+        LinkPlan { inputs, evaluation, residual, options, form, layout, changed }
     }
 
     /// The same plan where some files have other bytes now; `None` where all must be planned anew, as these files are no
@@ -158,7 +163,7 @@ impl LinkPlan {
 
     /// The objects as the session holds them.
     pub fn held(&self) -> &[Held] {
-        &self.inputs.held
+        self.changed.as_ref().unwrap_or(&self.inputs.held)
     }
 }
 
