@@ -8,7 +8,7 @@ use indexmap::{IndexMap, IndexSet};
 
 use super::events::{has_writer, identity, plain, Event, Kind, NotWatched, Watcher};
 use super::places::Places;
-use crate::snapshot::{read_regular, FileId, ReadFault, Snapshot};
+use crate::snapshot::{read_regular, Changes, FileId, ReadFault, Snapshot};
 
 /// How long nothing is heard of a writer who has not closed his file before it is read as it is.
 pub(super) const LONGEST_WRITING: Duration = Duration::from_secs(5);
@@ -37,6 +37,8 @@ pub(super) struct Inputs {
     dirty: HashSet<PathBuf>,
     /// Those that were inputs before the last search that found others, and may be again.
     spare: HashSet<PathBuf>,
+    /// Those that could not be read.
+    failing: HashSet<PathBuf>,
     /// What changed since the last search that came to an end.
     changed: IndexSet<PathBuf>,
     /// Whether more than bytes may be other than at the last search.
@@ -58,6 +60,7 @@ impl Inputs {
             asked: HashMap::new(),
             dirty: HashSet::new(),
             spare: HashSet::new(),
+            failing: HashSet::new(),
             changed: IndexSet::new(),
             is_other: true,
             is_out_of_memory: false,
@@ -78,12 +81,14 @@ impl Inputs {
             self.places.put(&path, &mut self.watcher)?;
             let old = self.snapshot.seen(&path).map(|seen| seen.data.clone());
             match self.snapshot.read(&path) {
-                Ok(new) if old.as_ref().map_or(false, |old| old.is_identical(&new)) => self.ask(&path),
-                Ok(_) => {
+                Ok(new) => {
+                    let is_same = old.as_ref().map_or(false, |old| old.is_identical(&new));
                     self.is_other |= old.is_none();
                     self.after.insert(path.clone());
                     self.ask(&path);
-                    self.changed.insert(path);
+                    if !is_same {
+                        self.changed.insert(path);
+                    }
                 }
                 Err(_) => self.is_other = true,
             }
@@ -123,10 +128,13 @@ impl Inputs {
             let is_known = self.places.has(path);
             is_new |= self.places.put(path, &mut self.watcher)?;
             if self.snapshot.seen(path).is_some() {
-                if !is_known && !self.spare.contains(path) {
+                let is_new = !is_known && !self.spare.contains(path);
+                if self.failing.remove(path) || is_new {
                     self.after.insert(path.clone());
                 }
                 self.ask(path);
+            } else {
+                self.failing.insert(path.clone());
             }
         }
         let now: HashSet<&PathBuf> = paths.iter().collect();
@@ -136,6 +144,7 @@ impl Inputs {
             self.writers.remove(path);
             self.asked.remove(path);
             self.after.remove(path);
+            self.failing.remove(path);
         }
         if !gone.is_empty() {
             self.spare = gone.into_iter().collect();
@@ -254,11 +263,30 @@ impl Inputs {
         !closed.is_empty()
     }
 
+    /// Does something, and meanwhile marks the inputs whose files are not what was last read of them.
+    pub(super) fn look_beside<T>(&mut self, act: impl FnOnce() -> T) -> T {
+        let snapshot = &mut self.snapshot;
+        let (changes, done) = std::thread::scope(|scope| {
+            let look = std::thread::Builder::new().spawn_scoped(scope, || snapshot.changed());
+            let done = act();
+            (look.ok().and_then(|look| look.join().ok()), done)
+        });
+        match changes {
+            Some(changes) => self.mark(changes),
+            None => self.look_again(), // there was no thread
+        }
+        done
+    }
+
+    fn mark(&mut self, changes: Changes) {
+        self.is_other |= changes.has_other_inputs;
+        self.dirty.extend(changes.files);
+    }
+
     /// Marks the inputs whose files are not what was last read of them; looks for the files that were not there, too.
     pub(super) fn look_again(&mut self) {
         let changes = self.snapshot.changed();
-        self.is_other |= changes.has_other_inputs;
-        self.dirty.extend(changes.files);
+        self.mark(changes);
     }
 
     /// Looks at all inputs, for events that the system lost; says whether there is something to do.

@@ -300,6 +300,7 @@ impl<'a> Watch<'a> {
         for _ in 0..MOST_ROUNDS {
             match self.round()? {
                 Round::Done => return Ok(()),
+                Round::Changed if self.inputs.watcher.is_disturbed => self.look_at_all(Instant::now())?,
                 Round::Changed => {}
                 Round::Again => self.inputs.search_anew(),
             }
@@ -333,7 +334,8 @@ impl<'a> Watch<'a> {
             return self.refused(refusals);
         }
         let edits = self.linking.edits;
-        let outcome = self.linking.bring(self.words, self.stops)?;
+        let (linking, words, stops) = (&mut self.linking, self.words, self.stops);
+        let outcome = self.inputs.look_beside(|| linking.bring(words, stops))?;
         if self.linking.edits != edits {
             self.image.is_current = false;
         }
@@ -383,7 +385,8 @@ impl<'a> Watch<'a> {
     }
 
     fn try_place(&mut self) -> Result<Round, PlaceFault> {
-        let report = self.linking.take_image(self.words, &mut self.image)?;
+        let (linking, image, words) = (&mut self.linking, &mut self.image, self.words);
+        let report = self.inputs.look_beside(|| linking.take_image(words, image))?;
         if self.has_changed()? {
             return Ok(Round::Changed);
         }
@@ -415,15 +418,14 @@ impl<'a> Watch<'a> {
         Ok(Round::Done)
     }
 
-    /// Whether a file is not what was last read of it, or an event says so; it is read again then.
+    /// Whether a file is not what was last read of it, as a look or an event says; it is read again then.
     fn has_changed(&mut self) -> Result<bool, WatchFault> {
-        self.inputs.look_again();
         self.drain()?;
         if self.inputs.watcher.is_disturbed {
             self.gathering.next_look = Instant::now();
             return Ok(true);
         }
-        Ok(self.inputs.are_dirty() || !self.commands.is_made())
+        Ok(self.inputs.are_dirty())
     }
 
     fn good(&mut self, is_written: bool) -> State {
