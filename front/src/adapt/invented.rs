@@ -46,8 +46,17 @@ fn instance(glob: &[u8]) -> Option<BString> {
     (glob.first() != Some(&b'*')).then(|| name.into())
 }
 
+/// Sizes and alignments of the sections that are invented.
+#[derive(Clone, Copy, PartialEq, Eq, Debug)]
+pub(crate) enum Kind {
+    /// Some bytes, aligned to 8.
+    Small,
+    /// Odd sizes, and greater alignments: what is written for both kinds in the same words holds for others too.
+    Large,
+}
+
 /// Two objects with a section for each pattern of a script.
-pub(crate) fn objects(script: &Script) -> Vec<Object> {
+pub(crate) fn objects(script: &Script, kind: Kind) -> Vec<Object> {
     let mut names = BTreeSet::new();
     for statement in &script.statements {
         if let Statement::Sections(items) = &statement.node {
@@ -70,13 +79,17 @@ pub(crate) fn objects(script: &Script) -> Vec<Object> {
         .enumerate()
         .map(|(index, name)| {
             let origin = Origin::of_file(std::path::Path::new(name));
-            Object::new(BString::from(*name), origin, Bytes::from(object(&names, 24 + 8 * index as u64)))
+            let (size, align) = match kind {
+                Kind::Small => (24 + 8 * index as u64, 8),
+                Kind::Large => (0x1203 + 0x741 * index as u64, 64),
+            };
+            Object::new(BString::from(*name), origin, Bytes::from(object(&names, size, align)))
         })
         .collect()
 }
 
 /// An object with sections of these names, each of so many bytes.
-fn object(names: &[BString], size: u64) -> Vec<u8> {
+fn object(names: &[BString], size: u64, align: u64) -> Vec<u8> {
     let mut strings = vec![0];
     let mut headers = vec![0; 64];
     let contents_at = 64;
@@ -89,7 +102,7 @@ fn object(names: &[BString], size: u64) -> Vec<u8> {
             headers.extend(word.to_le_bytes());
         }
         headers.extend([0; 8]);
-        for word in [8_u64, 0] {
+        for word in [align, 0] {
             headers.extend(word.to_le_bytes());
         }
     };
@@ -122,7 +135,7 @@ mod tests {
     fn each_pattern_takes_something() {
         let script = b"SECTIONS { .t : { *(.text .text.*) } .d : { *(.data[ab]) *(COMMON) } .r : { *(*) } }";
         let reading = crate::script::parse(std::path::Path::new("s"), script).unwrap();
-        let objects = objects(&reading.script);
+        let objects = objects(&reading.script, Kind::Small);
         assert_eq!(objects.len(), 2);
         assert!(objects.iter().all(|object| object.fault().is_none()));
         let names: Vec<String> = objects[0].sections().map(|section| section.name.to_string()).collect();

@@ -8,7 +8,7 @@ use std::io::Write;
 use std::path::{Path, PathBuf};
 use std::process::{Command as Process, Stdio};
 
-use bstr::BStr;
+use bstr::{BStr, ByteSlice};
 
 use crate::checker::check;
 use crate::layout::{evaluate, Evaluation, Settings, Stop};
@@ -17,7 +17,7 @@ use crate::objects::{Object, Origin};
 use crate::place::{write_file, Reader as PipeReader, TEXT};
 use crate::plan::{find_program, Environment};
 use crate::report::link_map::LinkMap;
-use crate::residual::{residual, NoteKind, Request, Residual};
+use crate::residual::{residual, Note, NoteKind, Request, Residual, Topic};
 use crate::script::{Disk, Reader, Reading, ScriptError};
 use crate::snapshot::Bytes;
 use words::{Call, USAGE};
@@ -134,18 +134,44 @@ fn read_script(call: &Call) -> Result<Reading, AdaptFault> {
 
 /// The script in the profile: by what GNU ld makes of it over the objects, or over invented ones.
 fn adapted(reading: &Reading, objects: Option<&[Object]>) -> (Residual, Option<Result<Evaluation, Stop>>) {
-    let settings = Settings::default();
-    let invented;
-    let own = match objects {
-        Some(objects) => objects,
-        None => {
-            invented = invented::objects(&reading.script);
-            &invented
+    match objects {
+        Some(objects) => {
+            let (result, evaluation) = adapted_over(reading, objects, false);
+            (result, Some(evaluation))
         }
+        None => (adapted_over_any(reading), None),
+    }
+}
+
+/// Without objects: what is written in the same words over two kinds of them. The rest is left.
+fn adapted_over_any(reading: &Reading) -> Residual {
+    let over = |kind| adapted_over(reading, &invented::objects(&reading.script, kind), true);
+    let ((mut result, evaluation), (other, _)) = (over(invented::Kind::Small), over(invented::Kind::Large));
+    if let Err(stop) = &evaluation {
+        let place = reading.source.place(stop.span().map_or(0, |span| span.start));
+        let sentence = format!("it is not known whether GNU ld makes the same of it: {stop}");
+        result.notes.push(Note { kind: NoteKind::Changed, topic: Topic::Statement, place, sentence });
+    }
+    let lines = |text: &[u8]| text.lines().map(<[u8]>::to_vec).collect::<Vec<_>>();
+    let (own, others) = (lines(&result.text), lines(&other.text));
+    for (index, line) in own.iter().enumerate() {
+        if others.get(index) != Some(line) || own.len() != others.len() {
+            let place = result.lines.get(index).cloned().unwrap_or_default();
+            let sentence = "what stands here depends on the objects: give them by --objects".into();
+            result.notes.push(Note { kind: NoteKind::Left, topic: Topic::Statement, place, sentence });
+        }
+    }
+    result
+}
+
+/// The script in the profile over objects, and what GNU ld makes of it. Where these are invented, the objects of the link
+/// may define any name.
+fn adapted_over(reading: &Reading, objects: &[Object], is_invented: bool) -> (Residual, Result<Evaluation, Stop>) {
+    let evaluation = evaluate(&reading.script, objects, &Settings::default());
+    let names: Vec<&BStr> = objects.iter().map(|object| object.name()).collect();
+    let defines = |name: &BStr| {
+        is_invented || objects.iter().any(|object| object.globals_named(name).any(|one| one.rank().is_some()))
     };
-    let evaluation = evaluate(&reading.script, own, &settings);
-    let names: Vec<&BStr> = own.iter().map(|object| object.name()).collect();
-    let defines = |name: &BStr| own.iter().any(|object| object.globals_named(name).any(|one| one.rank().is_some()));
     let result = residual(Request {
         script: &reading.script,
         source: &reading.source,
@@ -159,7 +185,7 @@ fn adapted(reading: &Reading, objects: Option<&[Object]>) -> (Residual, Option<R
         keeps_more: false,
         collects_start_stop: false,
     });
-    (result, objects.map(|_| evaluation))
+    (result, evaluation)
 }
 
 /// What is another in the image of the objects than GNU ld makes, where `ldi` can be had and links them.

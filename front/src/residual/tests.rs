@@ -10,7 +10,7 @@ use crate::layout::{evaluate, Settings};
 
 fn adapted(script: &str) -> Residual {
     let reading = crate::script::parse(Path::new("t.ld"), script.as_bytes()).unwrap();
-    let objects = invented::objects(&reading.script);
+    let objects = invented::objects(&reading.script, invented::Kind::Small);
     let evaluation = evaluate(&reading.script, &objects, &Settings::default());
     let names: Vec<&BStr> = objects.iter().map(|object| object.name()).collect();
     residual(Request {
