@@ -17,3 +17,4 @@ pub mod Placed
 pub mod OrderedTables
 pub mod PassingSymbols
 pub mod PassingSections
+pub mod Relocated

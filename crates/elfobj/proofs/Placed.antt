@@ -42,7 +42,7 @@ as_many file ls ss ps all spans a r =
     ∙ sym (ap length a.names)
     ∙ length-map ps (name_in file)
 
-mapped : {X Y Z : Type 0} (f : X → Y) (g : Y → Z) (xs : List X) → map g (map f xs) ≡ map (λ x. g (f x)) xs
+pub mapped : {X Y Z : Type 0} (f : X → Y) (g : Y → Z) (xs : List X) → map g (map f xs) ≡ map (λ x. g (f x)) xs
 mapped f g [] = refl
 mapped f g (x ∷ xs) = ap (λ zs. g (f x) ∷ zs) (mapped f g xs)
 

@@ -1,9 +1,9 @@
 -- What the tests of the section headers leave known of them.
-use Rattle.std.specs.Prelude.{◌≡◌, ℕ, ◌+◌, ◌≤◌, List, length, map, None, true, false}
+use Rattle.std.specs.Prelude.{◌≡◌, ℕ, ◌+◌, ◌≤◌, List, Bool, length, map, None, true, false}
 use Rattle.std.specs.Option.{option_map_or}
 use Rattle.elfobj_file.specs.ElfHeader.{e_shstrndx}
 use Rattle.elfobj_file.specs.Names.{is_name}
-use Rattle.elfobj.specs.Places.{AreRead, AreNamed, ArePlaced, IsFileWithin, name_in, bytes_in, IsWithin}
+use Rattle.elfobj.specs.Places.{AreRead, AreNamed, ArePlaced, IsFileWithin, name_in, bytes_in, is_relocated, IsWithin}
 use Rattle.elfobj_file.specs.Refusal.{object_refusal, holds}
 use Rattle.elfobj_file.specs.SectionHeaders.{header}
 use Rattle.elfobj_file.specs.Sections.{sections_of, LinkedSection, section_of, name_of}
@@ -46,8 +46,9 @@ pub record ArePartsOf (file : List ℕ) (sections : List Section) (places : List
   pub symbols_read : AreNamed file (symbols_of file) symbols names
   pub relocations_read : ArePlaced (map (λ s. s.relocations) (sections_of file)) relocations places
 
--- what an object keeps: bytes that no test refuses, and what was read of them
+-- what an object keeps: bytes that no test refuses, what was read of them, and which sections have relocations
 pub record IsObject (file : List ℕ) (sections : List Section) (places : List Place) (symbols : List Symbol)
-    (names : List Span) (relocations : List Relocation) : Type 0 where
+    (names : List Span) (relocations : List Relocation) (relocated : List Bool) : Type 0 where
   pub refusal : object_refusal file ≡ None
   pub read : ArePartsOf file sections places symbols names relocations
+  pub relocated_are : relocated ≡ map is_relocated places

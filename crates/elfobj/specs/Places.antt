@@ -1,5 +1,5 @@
 -- What it means that places in a file or a list are those of names, bytes or relocations.
-use Rattle.std.specs.Prelude.{◌≡◌, ℕ, ◌+◌, ◌≤◌, List, length, map}
+use Rattle.std.specs.Prelude.{◌≡◌, ℕ, ◌+◌, ◌≤◌, List, Bool, length, map, nat_lt}
 use Rattle.std.specs.List.{All, slice_range}
 use Rattle.elfobj_file.specs.Sections.{LinkedSection, section_of}
 use Rattle.elfobj_file.specs.Symbols.{NamedSymbol}
@@ -40,6 +40,10 @@ pub record AreRead (file : List ℕ) (linked : List LinkedSection) (read : List 
 -- part of a list of relocations
 abbrev pub relocations_in : List Relocation → Span → List Relocation
 relocations_in all s = slice_range all s.start s.end
+
+-- it has relocations
+abbrev pub is_relocated : Place → Bool
+is_relocated p = nat_lt p.relocations.start p.relocations.end
 
 -- the symbols as callers see them, and the places of their names
 pub record AreNamed (file : List ℕ) (named : List NamedSymbol) (read : List Symbol) (places : List Span) : Type 0 where

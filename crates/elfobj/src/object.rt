@@ -1,7 +1,7 @@
 //! An object: its bytes, and what was read of them.
 
-ghost use Rattle.std.specs.Prelude.{◌≡◌, ◌≢◌, ◌<◌, ◌^◌, ◌⊎◌, IfErr, IfNone, IfOk, IfSome, None, Some, find};
-ghost use Rattle.std.specs.Prelude.{length, map};
+ghost use Rattle.std.specs.Prelude.{◌≡◌, ◌≢◌, ◌<◌, ◌≤◌, ◌^◌, ◌⊎◌, IfErr, IfNone, IfOk, IfSome, None, Some};
+ghost use Rattle.std.specs.Prelude.{find, length, map, nat_lt};
 ghost use Rattle.std.specs.List.{All, AllPairs, slice_get};
 ghost use Rattle.elfobj.specs.Raised.{raised};
 ghost use Rattle.elfobj.specs.declared.meter.Count.TheVariants.{Objects};
@@ -29,6 +29,8 @@ pub struct Object {
     symbols: Vec<Symbol>,
     names: Vec<Span>,
     relocations: Vec<Relocation>,
+    /// For each section whether it has relocations: a byte, in place of a look at its place.
+    relocated: Vec<bool>,
 }
 
 impl Model for Object {
@@ -40,7 +42,7 @@ impl Model for Object {
     ghost view = { λ object. object_of object.bytes.items };
 
     ghost invariant = { λ object. IsObject object.bytes.items object.sections.items object.places.items
-        object.symbols.items object.names.items object.relocations.items };
+        object.symbols.items object.names.items object.relocations.items object.relocated.items };
 }
 
 impl Object {
@@ -73,6 +75,7 @@ impl Object {
                     linked,
                     symbols,
                     relocations,
+                    relocated,
                 } = parts;
                 Ok(Object {
                     bytes,
@@ -81,6 +84,7 @@ impl Object {
                     symbols: symbols.symbols,
                     names: symbols.names,
                     relocations,
+                    relocated,
                 })
             }
             Err(refusal) => Err((bytes, refusal)),
@@ -169,6 +173,22 @@ impl Object {
             ≡ Some (bytes_at self.now.text result) }
     {
         self.names[symbol.0 as usize]
+    }
+
+    /// How many relocations there are in all, those that tables share in the file counted once: no section has more.
+    pub fn count_relocations(&self) -> usize
+        ensures { All (λ section. length section.relocations ≤ result) self.now.sections }
+    {
+        self.relocations.len()
+    }
+
+    /// Whether a section has relocations. It costs less than `relocations`.
+    pub fn has_relocations(&self, section: LinkedIndex) -> bool
+        requires { section.0 < length self.now.sections }
+        ensures { slice_get (map (λ entry. nat_lt 0 (length entry.relocations)) self.now.sections) section.0
+            ≡ Some result }
+    {
+        self.relocated[section.0]
     }
 
     /// The relocations of a section, in the order of their table. Each is of one of `symbols` and lies in its section,

@@ -1,13 +1,14 @@
 //! The places of the parts of a linked section: its name, its bytes and its relocations.
 
-ghost use Rattle.std.specs.Prelude.{◌≡◌, ℕ, List, length, map};
+ghost use Rattle.std.specs.Prelude.{◌≡◌, ℕ, IfOk, List, length, map};
 ghost use Rattle.elfobj_file.specs.Sections.{contents};
 ghost use Rattle.elfobj_file.specs.Spans.{IsInside, bytes_at};
-ghost use Rattle.elfobj.specs.Places.{IsWithin, IsFileWithin, bytes_in};
+ghost use Rattle.elfobj.specs.Places.{IsWithin, IsFileWithin, bytes_in, is_relocated};
 
 use crate::section::SectionKind;
 use elfobj_file::section_header::SectionHeader;
 use elfobj_file::span::{EMPTY_SPAN, Span};
+use std::alloc::{AllocError, Global};
 
 /// The places of the parts of a section.
 #[derive(Clone, Copy)]
@@ -60,4 +61,23 @@ pub fn place_relocations(places: &mut [Place], spans: &[Span])
     for (at, place) in places.iter_mut().enumerate() {
         place.relocations = spans[at];
     }
+}
+
+impl Place {
+    /// Whether the section has relocations.
+    pub fn is_relocated(&self) -> bool
+        ensures { result ≡ is_relocated self.now }
+    {
+        self.relocations.start < self.relocations.end
+    }
+}
+
+/// For each place whether its section has relocations.
+pub fn relocated_places(alloc: Global, places: &[Place]) -> Result<Vec<bool>, AllocError>
+    ensures { IfOk result (λ list. list.items ≡ map is_relocated places.now) }
+{
+    places
+        .iter()
+        .map(|place| place.is_relocated())
+        .collect(alloc)
 }

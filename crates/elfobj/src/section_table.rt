@@ -1,6 +1,7 @@
 //! The tests of the section headers, and the reading of the rest of the file.
 
-ghost use Rattle.std.specs.Prelude.{◌≡◌, ◌⊎◌, ◌++◌, IfErr, IfNone, IfOk, IfSome, None, OnOk, Some, false, find, true};
+ghost use Rattle.std.specs.Prelude.{◌≡◌, ◌⊎◌, ◌++◌, IfErr, IfNone, IfOk, IfSome, None, OnOk, Some, false, find, map};
+ghost use Rattle.std.specs.Prelude.{true};
 ghost use Rattle.std.specs.List.{list_any};
 ghost use Rattle.elfobj.specs.Linkable.{ArePartsOf, IsNameTable, PassesTests};
 ghost use Rattle.elfobj_file.specs.ElfHeader.{e_shstrndx};
@@ -8,13 +9,13 @@ ghost use Rattle.elfobj_file.specs.Refusal.{holds, is_out_of_bounds, is_outside_
 ghost use Rattle.elfobj_file.specs.Refusal.{object_refusal, relocation_refusals, symbol_refusals};
 ghost use Rattle.elfobj_file.specs.SectionHeaders.{header, headers as headers_of};
 ghost use Rattle.elfobj_file.specs.SectionTable.{HasSectionTable};
-ghost use Rattle.elfobj.specs.Places.{AreRead};
+ghost use Rattle.elfobj.specs.Places.{AreRead, is_relocated};
 ghost use Rattle.elfobj_file.specs.Sections.{sections_of};
 ghost use Rattle.elfobj_file.specs.TableOf.{table_of};
 ghost use Rattle.elfobj_file.specs.declared.refusal.ObjectRefusal.TheVariants.{NoMemory, SectionBounds, SectionProfile};
 
 use crate::linked::{LinkedSections, linked_sections, passing_sections};
-use crate::place::place_relocations;
+use crate::place::{place_relocations, relocated_places};
 use crate::refusal::ObjectRefusal;
 use crate::relocation::Relocation;
 use crate::relocation_run::Relocations;
@@ -121,6 +122,8 @@ pub struct Parts {
     pub symbols: Symbols,
     /// The relocations of all linked sections.
     pub relocations: Vec<Relocation>,
+    /// For each linked section whether it has relocations.
+    pub relocated: Vec<bool>,
 }
 
 /// Reads the other parts of a file whose section headers have passed their tests, or returns its refusal.
@@ -138,6 +141,7 @@ fn read_tables(
     ensures read { IfOk result
         (λ p. ArePartsOf bytes.now p.linked.sections.items p.linked.places.items p.symbols.symbols.items
         p.symbols.names.items p.relocations.items) }
+    ensures relocated { IfOk result (λ p. p.relocated.items ≡ map is_relocated p.linked.places.items) }
     ensures refused { IfErr result
         (λ e. (e ≡ NoMemory) ⊎ (find (holds bytes.now) (symbol_refusals ++ relocation_refusals) ≡ Some e)) }
 {
@@ -151,10 +155,12 @@ fn read_tables(
         count,
     )?;
     place_relocations(&mut linked.places, &spans);
+    let relocated = relocated_places(alloc, &linked.places)?;
     Ok(Parts {
         linked,
         symbols,
         relocations: all,
+        relocated,
     })
 }
 
@@ -164,6 +170,7 @@ pub fn read_parts(alloc: Global, bytes: &[u8]) -> Result<Parts, ObjectRefusal>
     ensures read { IfOk result
         (λ parts. ArePartsOf bytes.now parts.linked.sections.items parts.linked.places.items parts.symbols.symbols.items
         parts.symbols.names.items parts.relocations.items) }
+    ensures relocated { IfOk result (λ parts. parts.relocated.items ≡ map is_relocated parts.linked.places.items) }
     ensures refused { IfErr result (λ refusal. (refusal ≡ NoMemory) ⊎ (object_refusal bytes.now ≡ Some refusal)) }
     ensures memory { IfErr result (λ refusal. refusal ≡ NoMemory → find (holds bytes.now) header_refusals ≡ None) }
 {

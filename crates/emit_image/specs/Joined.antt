@@ -1,5 +1,5 @@
--- Drawings in which input sections that stay, with no gap between them, are joined to one: what they have in common with
--- the drawings that have each input section.
+-- Drawings in which input sections that stay, with no gap between them, are joined to one: what they have in common
+-- with the drawings that have each input section.
 use Rattle.std.specs.Prelude.{◌≡◌, ℕ, List, [], Option, None, find, filter, map, true}
 use Rattle.std.specs.List.{All, AllZip}
 use Rattle.std.specs.Option.{option_map}

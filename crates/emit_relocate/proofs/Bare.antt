@@ -1,9 +1,11 @@
 -- A section without relocations: there is nothing to evaluate.
 use Rattle.std.proofs.Common.{◌≡◌, ◌<◌, ◌^◌, List, [], ◌∷◌, length, map, Option, Some, None, filter}
 use Rattle.std.proofs.Common.{refl, ap, sym, ◌∙◌, arith, append-nil, subst}
-use Rattle.std.specs.Prelude.{Contains, slice_get}
+use Rattle.std.specs.Prelude.{Bool, Contains, false, nat_lt, slice_get}
 use Rattle.std.specs.List.{filter_map}
-use Rattle.std.specs.Option.{option_map_or}
+use Rattle.std.specs.Option.{option_map, option_map_or}
+use Rattle.std.proofs.lemmas.Bool.{ltb-false}
+use Rattle.std.proofs.lemmas.Option.{same_Some, slice_get-map}
 use Rattle.elfobj.specs.Sections.{LinkedSection}
 use Rattle.elfobj.specs.declared.relocation.Relocation.{Relocation}
 use Rattle.emit_fields.specs.Patches.{patched_byte}
@@ -23,19 +25,25 @@ use Rattle.emit_relocate.specs.Links.{IsAtHand}
 use Rattle.emit_relocate.specs.declared.previous_link_info.FileRange.{FileRange}
 use Rattle.emit_relocate.specs.declared.input_section.InputSection.{InputSection}
 use Rattle.emit_relocate.proofs.Added.{tried_nothing}
-use Rattle.emit_relocate.proofs.Found.{relocations_of, there_of}
+use Rattle.emit_relocate.proofs.Found.{there_of}
 use Rattle.ldmodel_laws.proofs.Members.{none_in_nil}
 
 empty : {X : Type 0} (xs : List X) → length xs ≡ 0 → xs ≡ []
 empty [] e = refl
 empty (x ∷ xs) e = absurd (omega (arith, e))
 
--- the section at hand has these relocations, and they are none
-pub bare_at_hand : (l : KnownLink) (m : InputSection) (s : ObjectSection) (rs : List Relocation) → IsAtHand l m s
-    → slice_get (map (λ (x : LinkedSection). x.relocations) m.object.now.sections) m.index.0 ≡ Some rs
-    → length rs ≡ 0 → s.section.relocations ≡ []
-bare_at_hand l m s rs h of none =
-    sym (relocations_of m.object.now.sections m.index.0 rs of s.section (there_of l m s h)) ∙ empty rs none
+abbrev has_any : LinkedSection → Bool
+has_any x = nat_lt 0 (length x.relocations)
+
+-- the section at hand has none
+pub bare_at_hand : (l : KnownLink) (m : InputSection) (s : ObjectSection) → IsAtHand l m s
+    → slice_get (map (λ (x : LinkedSection). nat_lt 0 (length x.relocations)) m.object.now.sections) m.index.0
+    ≡ Some false → s.section.relocations ≡ []
+bare_at_hand l m s h flag =
+    let none : has_any s.section ≡ false =
+    same_Some _ _ (sym (slice_get-map has_any m.object.now.sections m.index.0
+    ∙ ap (option_map has_any) (there_of l m s h)) ∙ flag) in
+    empty s.section.relocations (omega (arith, ltb-false 0 (length s.section.relocations) none))
 
 module _ (old : GoodLink) (l : KnownLink) (s : ObjectSection) (bare : s.section.relocations ≡ []) where
   abbrev nothing : Evaluated

@@ -19,11 +19,11 @@ use Rattle.ldmodel.specs.declared.names.ObjectPlace.{ObjectPlace}
 use Rattle.ldmodel.specs.declared.sections.SectionKey.{SectionKey}
 use Rattle.emit_relocate.specs.Changes.{Adds, AreChanged, Evaluated, IsEvaluatedAt, IsEvaluatedOf, IsMoved, IsRetained}
 use Rattle.emit_relocate.specs.Changes.{Results, file_patch_at, own_sites, section_key}
-use Rattle.emit_relocate.specs.PreviousLinkInfo.{HasStayedAt, IsKept, has_moved}
+use Rattle.emit_relocate.specs.PreviousLinkInfo.{HasStayedAt, IsKept, IsKnownAt, has_moved}
 use Rattle.emit_relocate.specs.Fields.{IsCounted, faults_of}
 use Rattle.emit_relocate.specs.Filled.{IsOrder, ObjectSection, ends_of, sections_in, sections_of}
 use Rattle.emit_relocate.specs.KnownLink.{KnownLink, named_object}
-use Rattle.emit_relocate.specs.Links.{IsKeptAt, IsKnownAt}
+use Rattle.emit_relocate.specs.Links.{IsKeptAt}
 use Rattle.emit_relocate.specs.declared.previous_link_info.FileRange.{FileRange}
 use Rattle.emit_relocate.proofs.Added.{counted_more, raise_none}
 use Rattle.emit_relocate.proofs.Filling.{as_many}

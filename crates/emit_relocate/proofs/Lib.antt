@@ -17,3 +17,4 @@ mod Bare
 mod Renewing
 mod Paired
 mod Patching
+mod Settled

@@ -3,12 +3,14 @@
 use Rattle.std.specs.Prelude.{◌≡◌, IfSome, IsSome, List, Option, None, Some, slice_get}
 use Rattle.elfobj.specs.declared.relocation.Relocation.{Relocation}
 use Rattle.ldmodel.specs.Layout.{PlacedPiece}
+use Rattle.ldmodel.specs.Project.{NamedObject}
 use Rattle.ldmodel.specs.Relocations.{Site}
 use Rattle.ldmodel.specs.Stayed.{GoodLink}
 use Rattle.ldmodel.specs.SymbolValues.{placed_part}
+use Rattle.ldmodel.specs.declared.names.ObjectPlace.{ObjectPlace}
 use Rattle.ldmodel.specs.declared.sections.Part.TheVariants.{InTable}
 use Rattle.ldmodel.specs.declared.sections.SectionKey.{SectionKey}
-use Rattle.emit_relocate.specs.PreviousLinkInfo.{HasStayedAt}
+use Rattle.emit_relocate.specs.PreviousLinkInfo.{HasSameValues, HasStayedAt, IsKept, IsStill}
 use Rattle.emit_relocate.specs.Fields.{sites_among}
 use Rattle.emit_relocate.specs.Filled.{EndBelow, ObjectSection}
 use Rattle.emit_relocate.specs.KnownLink.{KnownLink, named_object}
@@ -74,13 +76,14 @@ pub record IsKeptAt (old : GoodLink) (link : KnownLink) (range : SectionKey → 
   -- and is so
   pub stayed : HasStayedAt old link key r
 
--- the input section of a key stayed, as is known and is so
-pub record IsKnownAt (old : GoodLink) (link : KnownLink) (range : SectionKey → Option FileRange) (key : SectionKey)
+-- nothing is to be evaluated of an object: its sections stayed, as is known and is so, or are not in the output, and no
+-- symbol of it has another value, if one stayed
+pub record IsSettled (old : GoodLink) (link : KnownLink) (range : SectionKey → Option FileRange) (object : NamedObject)
     : Type 0 where
-  -- what is known
-  pub known : IsSome (range key)
-  -- and is so
-  pub stayed : IfSome (range key) (HasStayedAt old link key)
+  pub place : ObjectPlace
+  pub named : named_object link place ≡ Some object
+  pub still : IsStill old link range place
+  pub values : IsKept range place → HasSameValues old link place
 
 -- an input section is that at hand, with the values that the symbols of its object had in the previous link
 pub record IsStayedAt (m : StayedSection) (old : GoodLink) (link : KnownLink) (s : ObjectSection) : Type 0 where

@@ -1,13 +1,15 @@
 -- What is known of a previous link beside a new one.
-use Rattle.std.specs.Prelude.{◌≡◌, Option, None, Some, Contains, IsSome, Bool, true, false, not, ◌==◌}
+use Rattle.std.specs.Prelude.{◌≡◌, ◌⊎◌, Option, None, Some, Contains, IfSome, IsSome, Bool, true, false, not, ◌==◌}
+use Rattle.elfobj.specs.declared.section.SectionIndex.{SectionIndex}
 use Rattle.ldmodel.specs.Relocations.{Site, site_value}
 use Rattle.ldmodel.specs.Stayed as model
 use Rattle.ldmodel.specs.Stayed.{GoodLink, LinkedPiece, has_stayed, link_pieces}
 use Rattle.ldmodel.specs.SymbolValues.{SymbolValue, Number, NotDefined, NotInOutput}
 use Rattle.ldmodel.specs.declared.names.ObjectPlace.{ObjectPlace}
 use Rattle.ldmodel.specs.declared.sections.Part.{Part}
+use Rattle.ldmodel.specs.declared.sections.Part.TheVariants.{InTable}
 use Rattle.ldmodel.specs.declared.sections.SectionKey.{SectionKey}
-use Rattle.emit_relocate.specs.KnownLink.{KnownLink, name_of_object, named_object}
+use Rattle.emit_relocate.specs.KnownLink.{KnownLink, name_of_object, named_object, start_of}
 use Rattle.emit_relocate.specs.declared.previous_link_info.FileRange.{FileRange}
 
 -- the link without what keys stand for
@@ -27,6 +29,25 @@ range_of r = record { offset = r.offset; length = r.length }
 abbrev pub HasStayedAt : GoodLink → KnownLink → SectionKey → FileRange → Type 0
 HasStayedAt old link key r =
     (piece : LinkedPiece) → IsPieceOf link key piece → (has_stayed old piece ≡ true) × (piece.range ≡ range_of r)
+
+-- the input section of a key stayed, as is known and is so
+pub record IsKnownAt (old : GoodLink) (link : KnownLink) (range : SectionKey → Option FileRange) (key : SectionKey)
+    : Type 0 where
+  -- what is known
+  pub known : IsSome (range key)
+  -- and is so
+  pub stayed : IfSome (range key) (HasStayedAt old link key)
+
+-- it is not known to have stayed, and is not in the output
+pub record IsAbsentAt (link : KnownLink) (range : SectionKey → Option FileRange) (key : SectionKey) : Type 0 where
+  pub unknown : range key ≡ None
+  pub absent : start_of link key ≡ None
+
+-- each section of an object stayed, as is known and is so, or is not in the output
+abbrev pub IsStill : GoodLink → KnownLink → (SectionKey → Option FileRange) → ObjectPlace → Type 0
+IsStill old link range place =
+    (number : SectionIndex) → IsKnownAt old link range (record { object = place; part = InTable number })
+    ⊎ IsAbsentAt link range (record { object = place; part = InTable number })
 
 -- some section of an object is known to have stayed
 abbrev pub IsKept : (SectionKey → Option FileRange) → ObjectPlace → Type 0

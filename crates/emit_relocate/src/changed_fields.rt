@@ -8,8 +8,8 @@ ghost use Rattle.emit_relocate.specs.Changes.{Adds, AreChanged, IsEvaluatedOf, I
 ghost use Rattle.emit_relocate.specs.Changes.{results_of, section_key};
 ghost use Rattle.emit_relocate.specs.Filled.{EndBelow, IsOrder, ObjectSection, sections_in, sections_of};
 ghost use Rattle.emit_relocate.specs.KnownLink.{KnownLink, named_object};
-ghost use Rattle.emit_relocate.specs.Links.{AreLinks, IsAtHand, IsKeptAt, IsKnownAt};
-ghost use Rattle.emit_relocate.specs.PreviousLinkInfo.{HasSameValues};
+ghost use Rattle.emit_relocate.specs.Links.{AreLinks, IsAtHand, IsKeptAt, IsSettled};
+ghost use Rattle.emit_relocate.specs.PreviousLinkInfo.{HasSameValues, IsKnownAt};
 ghost use Rattle.emit_relocate.specs.SymbolValues.{HasSymbolValues};
 
 use crate::fields::add_fields;
@@ -25,7 +25,6 @@ use ldmodel::fault::Fault;
 use ldmodel::memory::NoMemory;
 use ldmodel::meter::Meter;
 use ldmodel::names::ObjectPlace;
-use ldmodel::sections::{Part, SectionKey};
 use std::alloc::Global;
 
 /// The fields of a link that change, and the faults of its relocations.
@@ -127,23 +126,42 @@ impl<'a, L: LinkInfo, E: PreviousLinkInfo> Links<'a, L, E> {
         self.previous.has_stayed(section.section_key())
     }
 
-    /// Adds what there is to evaluate of a section: nothing if it has no relocations, or if it stayed and no symbol of
-    /// its object has another value; if it stayed, the fields whose symbol has another value; else all.
+    /// Whether there is nothing to evaluate of an object: each section of it that is in the output stayed, and none of
+    /// its symbols has another value.
+    fn is_settled(&self, place: ObjectPlace) -> bool
+        ensures { result ≡ true → (old : GoodLink) (link : KnownLink) (object : NamedObject)
+            → AreLinks L.knows E.knows self.now old link → named_object link place ≡ Some object
+            → IsSettled old link (E.range self.now.previous.now) object }
+    {
+        if self.previous.is_dirty(place) {
+            return false;
+        }
+        self.previous.is_still(place)
+    }
+
+    /// Adds what there is to evaluate of a section: nothing if its object is settled, if it has no relocations, or if
+    /// it stayed and no symbol of its object has another value; if it stayed, the fields whose symbol has another
+    /// value; else all.
     fn add_evaluated(
         &self,
         alloc: Global,
         section: &InputSection<'_>,
+        settled: bool,
         fields: &mut ChangedFields,
         meter: &mut Meter,
     ) -> Result<(), NoMemory>
         ensures { OnOk result ((old : GoodLink) (link : KnownLink) (s : ObjectSection)
             → AreLinks L.knows E.knows self.now old link → IsAtHand link section.now s
+            → (settled ≡ true → IsSettled old link (E.range self.now.previous.now) s.object)
             → Adds link (IsEvaluatedOf old link (E.range self.now.previous.now) s) (results_of fields.old meter.old)
             (results_of fields.new meter.new)) }
     {
         // for the prover: brings in that the count of fields fits a u64
         let _fields = meter.fields();
-        if section.object.relocations(section.index).is_empty() {
+        if settled {
+            return Ok(());
+        }
+        if !section.object.has_relocations(section.index) {
             return Ok(());
         }
         if self.is_unchanged(section) {
@@ -161,20 +179,22 @@ impl<'a, L: LinkInfo, E: PreviousLinkInfo> Links<'a, L, E> {
         }
     }
 
-    /// Adds what there is to evaluate of a section, and the end of its fields.
+    /// Adds what there is to evaluate of a section, and the end of its fields. `settled` says that there is nothing.
     fn add_section(
         &self,
         alloc: Global,
         section: &InputSection<'_>,
+        settled: bool,
         fields: &mut ChangedFields,
         meter: &mut Meter,
     ) -> Result<(), NoMemory>
         ensures { OnOk result ((old : GoodLink) (link : KnownLink) (s : ObjectSection)
             → AreLinks L.knows E.knows self.now old link → IsAtHand link section.now s
+            → (settled ≡ true → IsSettled old link (E.range self.now.previous.now) s.object)
             → AreChanged old link (E.range self.now.previous.now) (s ∷ []) (results_of fields.old meter.old)
             (results_of fields.new meter.new)) }
     {
-        self.add_evaluated(alloc, section, fields, meter)?;
+        self.add_evaluated(alloc, section, settled, fields, meter)?;
         let end = fields.patches.len();
         fields.ends.push(end)?;
         Ok(())
@@ -196,10 +216,11 @@ impl<'a, L: LinkInfo, E: PreviousLinkInfo> Links<'a, L, E> {
     {
         // for the prover: brings in that the count of fields fits a u64
         let _fields = meter.fields();
+        let settled = self.is_settled(place);
         let values = self.symbols.row(place, object.symbols().len());
         for index in 0..object.sections().len() {
             let section = InputSection::new(place, object, LinkedIndex(index), values);
-            self.add_section(alloc, &section, fields, meter)?;
+            self.add_section(alloc, &section, settled, fields, meter)?;
         }
         Ok(())
     }
@@ -227,46 +248,13 @@ impl<'a, L: LinkInfo, E: PreviousLinkInfo> Links<'a, L, E> {
     }
 }
 
-/// How many fields there may be, so that memory for them is taken once.
+/// How many fields there may be, so that memory for them is taken once: as many as relocations.
 #[derive(Clone, Copy)]
 struct Expected {
-    /// The relocations of sections that are in the output and did not stay. Nearly all have a field.
+    /// The relocations of objects of which a section in the output did not stay.
     renewed: usize,
-    /// Those of sections that stayed.
+    /// Those of objects whose sections all stayed.
     retargeted: usize,
-}
-
-/// Adds what there may be of an object of which a symbol has another value.
-fn plus_object<L: LinkInfo, E: PreviousLinkInfo>(
-    link: &L,
-    previous: &E,
-    place: ObjectPlace,
-    object: &Object,
-    expected: Expected,
-) -> Expected {
-    let Expected {
-        renewed: mut renewed,
-        retargeted: mut retargeted,
-    } = expected;
-    for index in 0..object.sections().len() {
-        let count = object.relocations(LinkedIndex(index)).len();
-        if count > 0 {
-            let part = Part::InTable(object.sections()[index].number);
-            let section = SectionKey {
-                object: place,
-                part,
-            };
-            if previous.has_stayed(section) {
-                retargeted = retargeted.saturating_add(count);
-            } else if link.start(section).is_some() {
-                renewed = renewed.saturating_add(count);
-            }
-        }
-    }
-    Expected {
-        renewed,
-        retargeted,
-    }
 }
 
 /// How many fields there may be of these objects. An object of which no symbol has another value is left out: what
@@ -276,18 +264,24 @@ fn expected_fields<L: LinkInfo, E: PreviousLinkInfo>(
     previous: &E,
     objects: &[ObjectPlace],
 ) -> Expected {
-    let mut expected = Expected {
-        renewed: 0,
-        retargeted: 0,
-    };
+    let mut renewed: usize = 0;
+    let mut retargeted: usize = 0;
     for place in objects {
         if previous.is_dirty(*place) {
             if let Some(object) = link.object(*place) {
-                expected = plus_object(link, previous, *place, object, expected);
+                let count = object.count_relocations();
+                if previous.is_still(*place) {
+                    retargeted = retargeted.saturating_add(count);
+                } else {
+                    renewed = renewed.saturating_add(count);
+                }
             }
         }
     }
-    expected
+    Expected {
+        renewed,
+        retargeted,
+    }
 }
 
 /// An empty list, with memory for this many fields if it is granted: the list can also grow, and most often fewer fields
@@ -338,7 +332,7 @@ pub fn changed_fields<L: LinkInfo, E: PreviousLinkInfo>(
     let _fields = meter.fields();
     let expected = expected_fields(link, previous, objects);
     let mut fields = ChangedFields {
-        patches: Vec::with_capacity(alloc, expected.renewed)?,
+        patches: list_for(alloc, expected.renewed),
         ends: Vec::with_capacity(alloc, count_sections(link, objects))?,
         retargeted: list_for(alloc, expected.retargeted),
         faults: Vec::new(alloc),

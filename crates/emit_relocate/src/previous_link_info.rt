@@ -1,10 +1,10 @@
 //! What a linker knows of a previous link when it evaluates relocations of a new one.
 
-ghost use Rattle.std.specs.Prelude.{◌≡◌, Option, IfSome, Some, false, is_some, length};
+ghost use Rattle.std.specs.Prelude.{◌≡◌, Option, IfSome, Some, false, is_some, length, true};
 ghost use Rattle.ldmodel.specs.Project.{NamedObject};
 ghost use Rattle.ldmodel.specs.Stayed.{GoodLink};
 ghost use Rattle.ldmodel.specs.declared.sections.SectionKey.{SectionKey};
-ghost use Rattle.emit_relocate.specs.PreviousLinkInfo.{HasSameValues, HasStayedAt, IsKept};
+ghost use Rattle.emit_relocate.specs.PreviousLinkInfo.{HasSameValues, HasStayedAt, IsKept, IsStill};
 ghost use Rattle.emit_relocate.specs.KnownLink.{KnownLink, named_object};
 ghost use Rattle.emit_relocate.specs.SymbolValues.{AreValuesOf};
 ghost use Rattle.emit_relocate.specs.declared.previous_link_info.FileRange.{FileRange};
@@ -43,6 +43,11 @@ pub trait PreviousLinkInfo {
         ensures is { result ≡ is_some (range self.now section) }
         ensures sound { (old : GoodLink) (link : KnownLink) → knows self.now old link
             → IfSome (range self.now section) (HasStayedAt old link section) };
+
+    /// Whether each section of an object that is in the output stayed, as far as is known.
+    fn is_still(&self, object: ObjectPlace) -> bool
+        ensures { (old : GoodLink) (link : KnownLink) → knows self.now old link → result ≡ true
+            → IsStill old link (range self.now) object };
 
     /// Whether a symbol of this object, of which a section stayed, may have another value than in the previous link. If
     /// the answer is no, none has.

@@ -4,6 +4,7 @@ mod Kept
 mod Standings
 mod Ranges
 mod Columns
+mod Still
 mod Fixed
 mod Seen
 mod Symbols

@@ -1,10 +1,11 @@
 -- Which sections of the objects of a link stayed, as flags under their numbers.
-use Rattle.std.specs.Prelude.{◌≡◌, ◌+◌, ◌≤◌, ◌<◌, ℕ, Bool, false, List, length, nat_lt, Option, Some, is_some}
+use Rattle.std.specs.Prelude.{◌≡◌, ◌||◌, ◌+◌, ◌≤◌, ◌<◌, ℕ, Bool, true, false, List, length, nat_lt, not, Option, Some}
+use Rattle.std.specs.Prelude.{is_some}
 use Rattle.std.specs.Prelude.{if◌then◌else◌, option_and_then, slice_index_or}
 use Rattle.elfobj.specs.declared.section.SectionIndex.{SectionIndex}
 use Rattle.ldmodel.specs.declared.names.ObjectPlace.{ObjectPlace}
 use Rattle.ldmodel.specs.declared.sections.SectionKey.{SectionKey}
-use Rattle.place.specs.IndexedLayout.{table_key}
+use Rattle.place.specs.IndexedLayout.{place_in, table_key}
 use Rattle.place.specs.declared.indexed_layout.IndexedLayout.{IndexedLayout}
 use Rattle.place.specs.declared.indexed_layout.SectionAddress.{SectionAddress}
 use Rattle.place.specs.declared.link_layout.LinkLayout.{LinkLayout}
@@ -46,6 +47,24 @@ pub record IsRowAdded (stays : ℕ → Bool) (old new : List Bool) : Type 0 wher
   pub long : length old ≤ length new
   pub kept : (i : ℕ) → i < length old → slice_index_or new i false ≡ slice_index_or old i false
   pub are : (k : ℕ) → slice_index_or new (length old + k) false ≡ stays k
+
+-- a section that stayed, or is not in the output
+abbrev pub IsStillAt : Bool → Option SectionAddress → Type 0
+IsStillAt stays now = (stays || not (is_some now)) ≡ true
+
+-- each section of object number n stayed, or is not in the output
+abbrev pub IsStillIn : PreviousState → IndexedLayout → ℕ → Type 0
+IsStillIn previous now n = (k : ℕ) → IsStillAt (kept_number previous now n k) (place_in now (key_at n k))
+
+-- what the column says of object number n
+abbrev pub still_in : StayedColumn → ℕ → Bool
+still_in c n = slice_index_or c.still.items n false
+
+-- each section of an object of which the column says so stayed, or is not in the output
+abbrev pub IsStillColumn : Option PreviousState → IndexedLayout → StayedColumn → Type 0
+IsStillColumn previous now column =
+    (object : ObjectPlace) → still_in column object.0 ≡ true → (number : SectionIndex)
+    → IsStillAt (is_some (kept_range previous now (table_key object number))) (place_in now (table_key object number))
 
 -- the column says of each section whether it stayed
 abbrev pub IsStayedColumn : Option PreviousState → IndexedLayout → StayedColumn → Type 0

@@ -1,10 +1,11 @@
 //! Which sections of the objects of a link stayed where the previous link has them: found once, for all of them.
 
-ghost use Rattle.std.specs.Prelude.{◌≡◌, ◌&&◌, IfOk, None, OnOk, Some, is_some, false, slice_index_or};
+ghost use Rattle.std.specs.Prelude.{◌≡◌, ◌&&◌, ◌||◌, ℕ, IfOk, None, OnOk, Some, is_some, false, not, true};
+ghost use Rattle.std.specs.Prelude.{slice_index_or};
 ghost use Rattle.relink_driver.specs.FixedOutputs.{AreFixedOutputs, same_address};
 ghost use Rattle.relink_driver.specs.PreviousLink.{previous_of, previous_state};
-ghost use Rattle.relink_driver.specs.StayedColumn.{IsRowAdded, IsStayedColumn, flag_of, kept_between, kept_number};
-ghost use Rattle.relink_driver.specs.StayedColumn.{stays_in};
+ghost use Rattle.relink_driver.specs.StayedColumn.{IsRowAdded, IsStayedColumn, IsStillAt, IsStillColumn, IsStillIn};
+ghost use Rattle.relink_driver.specs.StayedColumn.{flag_of, kept_between, kept_number, stays_in, still_in};
 
 use crate::fixed_outputs::fixed_outputs;
 use crate::section_location::range_if_stayed;
@@ -34,6 +35,8 @@ pub(crate) struct StayedColumn {
     rows: Vec<FlagRow>,
     /// The flags, one object after another.
     flags: Vec<bool>,
+    /// Under the place of each object whether all its sections that are in the output stayed.
+    still: Vec<bool>,
 }
 
 /// Whether two addresses are the same.
@@ -117,7 +120,16 @@ fn address_at(addresses: &[Option<SectionAddress>], number: usize) -> Option<Sec
     addresses.get(number).copied().unwrap_or(None)
 }
 
-/// Adds the flags of the sections of an object, which are at `now` and were at `before`. Fails where memory runs out.
+/// Whether `still` holds, and a section that is at `now` stayed, if it is in the output.
+#[inline(always)]
+fn is_still_with(still: bool, stayed: bool, now: Option<SectionAddress>) -> bool
+    ensures { result ≡ (still && (stayed || not (is_some now))) }
+{
+    still && (stayed || now.is_none())
+}
+
+/// Adds the flags of the sections of an object, which are at `now` and were at `before`; says whether all that are in
+/// the output stayed. Fails where memory runs out.
 fn add_flags(
     previous: &LinkLayout,
     before: &[Option<SectionAddress>],
@@ -125,42 +137,50 @@ fn add_flags(
     now: &[Option<SectionAddress>],
     fixed: &[bool],
     flags: &mut Vec<bool>,
-) -> Result<(), NoMemory>
+) -> Result<bool, NoMemory>
     requires fixed { AreFixedOutputs previous.now link_layout.now fixed.now }
-    ensures { OnOk result (IsRowAdded (λ k. is_some (kept_between previous.now (slice_index_or before.now k None)
+    ensures flags { OnOk result (IsRowAdded (λ k. is_some (kept_between previous.now (slice_index_or before.now k None)
         link_layout.now (slice_index_or now.now k None))) flags.old.items flags.new.items) }
+    ensures still { IfOk result (λ still. still ≡ true → (k : ℕ)
+        → IsStillAt (is_some (kept_between previous.now (slice_index_or before.now k None) link_layout.now
+        (slice_index_or now.now k None))) (slice_index_or now.now k None)) }
 {
     let count = now.len();
     flags.reserve(count)?;
+    let mut still = true;
     for number in 0..count {
         let stood = address_at(before, number);
         let lies = address_at(now, number);
-        flags.push_reserved(is_stayed(previous, stood, link_layout, lies, fixed));
+        let stayed = is_stayed(previous, stood, link_layout, lies, fixed);
+        still = is_still_with(still, stayed, lies);
+        flags.push_reserved(stayed);
     }
-    Ok(())
+    Ok(still)
 }
 
-/// Adds the flags of the sections of an object; none where the previous link does not have it. Fails where memory runs
-/// out.
+/// Adds the flags of the sections of an object; none where the previous link does not have it. Says whether all that
+/// are in the output are known to have stayed. Fails where memory runs out.
 fn add_object(
     previous: &PreviousView<'_>,
     indexed_layout: &IndexedLayout,
     object: ObjectPlace,
     fixed: &[bool],
     flags: &mut Vec<bool>,
-) -> Result<(), NoMemory>
+) -> Result<bool, NoMemory>
     requires fixed { AreFixedOutputs previous.now.snapshot.now.indexed_layout.link_layout
         indexed_layout.now.link_layout fixed.now }
-    ensures { OnOk result (IsRowAdded (kept_number (previous_state previous.now) indexed_layout.now object.0)
+    ensures flags { OnOk result (IsRowAdded (kept_number (previous_state previous.now) indexed_layout.now object.0)
         flags.old.items flags.new.items) }
+    ensures still { IfOk result (λ still. still ≡ true
+        → IsStillIn (previous_state previous.now) indexed_layout.now object.0) }
 {
     let Some(from) = previous.place(object) else {
-        return Ok(());
+        return Ok(false);
     };
     let stood = &previous.snapshot.indexed_layout;
     let before = stood.addresses_of(ObjectPlace(from));
     let now = indexed_layout.addresses_of(object);
-    add_flags(
+    let still = add_flags(
         &stood.link_layout,
         before,
         &indexed_layout.link_layout,
@@ -168,7 +188,7 @@ fn add_object(
         fixed,
         flags,
     )?;
-    Ok(())
+    Ok(still)
 }
 
 /// The column beside a previous link. Fails where memory runs out.
@@ -177,16 +197,18 @@ fn column_beside(
     previous: &PreviousView<'_>,
     indexed_layout: &IndexedLayout,
 ) -> Result<StayedColumn, NoMemory>
-    ensures { IfOk result (IsStayedColumn (Some (previous_state previous.now)) indexed_layout.now) }
+    ensures flags { IfOk result (IsStayedColumn (Some (previous_state previous.now)) indexed_layout.now) }
+    ensures still { IfOk result (IsStillColumn (Some (previous_state previous.now)) indexed_layout.now) }
 {
     let objects = previous.from.len();
     let stood = &previous.snapshot.indexed_layout;
     let fixed = fixed_outputs(alloc, &stood.link_layout, &indexed_layout.link_layout)?;
     let mut rows = Vec::with_capacity(alloc, objects)?;
     let mut flags = Vec::new(alloc);
+    let mut still = Vec::with_capacity(alloc, objects)?;
     for place in 0..objects {
         let begin = flags.len();
-        add_object(
+        let is_still = add_object(
             previous,
             indexed_layout,
             ObjectPlace(place),
@@ -195,8 +217,9 @@ fn column_beside(
         )?;
         let count = flags.len() - begin;
         rows.push(FlagRow { begin, count })?;
+        still.push(is_still)?;
     }
-    Ok(StayedColumn { rows, flags })
+    Ok(StayedColumn { rows, flags, still })
 }
 
 impl StayedColumn {
@@ -210,12 +233,14 @@ impl StayedColumn {
         previous: Option<PreviousView<'_>>,
         indexed_layout: &IndexedLayout,
     ) -> Result<StayedColumn, NoMemory>
-        ensures { IfOk result (IsStayedColumn (previous_of previous.entry) indexed_layout.now) }
+        ensures flags { IfOk result (IsStayedColumn (previous_of previous.entry) indexed_layout.now) }
+        ensures still { IfOk result (IsStillColumn (previous_of previous.entry) indexed_layout.now) }
     {
         match previous {
             None => Ok(StayedColumn {
                 rows: Vec::new(alloc),
                 flags: Vec::new(alloc),
+                still: Vec::new(alloc),
             }),
             Some(previous) => column_beside(alloc, &previous, indexed_layout),
         }
@@ -233,6 +258,13 @@ impl StayedColumn {
             None => false,
             Some(at) => self.flags.get(at).copied().unwrap_or(false),
         }
+    }
+
+    /// Whether all sections of an object that are in the output are known to have stayed.
+    pub(crate) fn is_still(&self, object: ObjectPlace) -> bool
+        ensures { result ≡ still_in self.now object.0 }
+    {
+        self.still.get(object.0).copied().unwrap_or(false)
     }
 
     /// Whether a section of an object stayed.

@@ -10,7 +10,7 @@ ghost use Rattle.emit.specs.relocate.PreviousLinkInfo.{IsComplete};
 ghost use Rattle.emit.specs.relocate.KnownLink.{KnownLink};
 ghost use Rattle.emit.specs.relocate.SymbolValues.{AreSymbolValues, AreValuesOf};
 ghost use Rattle.relink_driver.specs.PreviousLink.{previous_address, previous_of, previous_state};
-ghost use Rattle.relink_driver.specs.StayedColumn.{IsStayedColumn};
+ghost use Rattle.relink_driver.specs.StayedColumn.{IsStayedColumn, IsStillColumn};
 
 use crate::link_snapshot::LinkSnapshot;
 use crate::section_location::{range_at, range_if_stayed};
@@ -100,6 +100,7 @@ pub struct StayedSections<'a> {
     /// Which sections of objects stayed.
     pub(crate) column: &'a StayedColumn,
     ghost found: { IsStayedColumn (previous_of previous) indexed_layout.now column.now },
+    ghost found_still: { IsStillColumn (previous_of previous) indexed_layout.now column.now },
 }
 
 impl<'a> StayedSections<'a> {
@@ -169,6 +170,10 @@ impl<'a> PreviousLinkInfo for StayedSections<'a> {
     #[inline(always)]
     fn has_stayed(&self, section: SectionKey) -> bool {
         self.is_known(section)
+    }
+
+    fn is_still(&self, object: ObjectPlace) -> bool {
+        self.column.is_still(object)
     }
 
     fn is_dirty(&self, object: ObjectPlace) -> bool {

@@ -23,7 +23,7 @@ returns g c =
 pub loop-place-init : goal.loop-place-init
 loop-place-init g c =
     λ old l k e all low order.
-    changed_none old l (g.E.PreviousLinkInfo.range c.args.previous.now) _ _ c.in_ok-with_capacity.ensures.items
-    c.in_ok-with_capacity-2.ensures.items
-    c.list_for.ensures c.new.ensures.items refl
+    changed_none old l (g.E.PreviousLinkInfo.range c.args.previous.now) _ _ c.list_for.ensures
+    c.in_ok-with_capacity.ensures.items
+    c.list_for-2.ensures c.new.ensures.items refl
     (omega (arith, c.fields-fields.type_inv, c.fields-fields.ensures))

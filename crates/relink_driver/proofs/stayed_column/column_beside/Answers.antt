@@ -3,13 +3,19 @@ use Rattle.std.proofs.lemmas.List.{get_or_past}
 use Rattle.relink_driver.specs.PreviousLink.{previous_state}
 use Rattle.relink_driver.specs.StayedColumn.{key_at, kept_number}
 use Rattle.relink_driver.proofs.Columns.{column_done, none_where_new}
+use Rattle.relink_driver.proofs.Still.{rows_done}
 use Rattle.relink_driver.proofs.stayed_column.column_beside.Goals as goal
 
-pub returns : goal.returns
-returns c = λ object number.
+pub returns-clause-flags : goal.returns-clause-flags
+returns-clause-flags c = λ object number.
     let x = previous_state c.args.previous.now in
     let t = c.args.indexed_layout.now in
     column_done (kept_number x t) _ _ c.loop-place.place object.0 number.0
     (λ past. none_where_new x t (key_at object.0 number.0)
     (get_or_past x.from object.0 None (omega (arith, past, c.loop-place-test.false))))
-    c.loop-place.invariant
+    c.loop-place.invariant.flags
+
+pub returns-clause-still : goal.returns-clause-still
+returns-clause-still c = λ object so number.
+    rows_done (previous_state c.args.previous.now) c.args.indexed_layout.now _ c.loop-place.place object.0
+    c.loop-place.invariant.still so number.0

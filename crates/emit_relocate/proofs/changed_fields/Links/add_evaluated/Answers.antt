@@ -4,20 +4,27 @@ use Rattle.emit_relocate.specs.PreviousLinkInfo.{HasStayedAt}
 use Rattle.emit_relocate.proofs.Bare.{bare_added, bare_at_hand}
 use Rattle.emit_relocate.proofs.Changing.{known_as, retained, retained_as}
 use Rattle.emit_relocate.proofs.Moving.{moved_in_none}
+use Rattle.emit_relocate.proofs.Settled.{settled_added}
 use Rattle.emit_relocate.proofs.changed_fields.Links.add_evaluated.Goals as goal
 
-pub returns-then-is_empty : goal.returns-then-is_empty
-returns-then-is_empty g c =
-    λ old l s k h.
+pub returns-then-settled : goal.returns-then-settled
+returns-then-settled g c =
+    λ old l s k h is.
+    settled_added old l (g.E.PreviousLinkInfo.range c.args.self.now.previous.now) s (is c.if-settled.true)
+    (results_of c.args.fields.now c.args.meter.now) (omega (arith, c.fields-fields.type_inv, c.fields-fields.ensures))
+
+pub returns-then-not-has_relocations : goal.returns-then-not-has_relocations
+returns-then-not-has_relocations g c =
+    λ old l s k h is.
     bare_added old l s
-    (bare_at_hand l c.args.section.now s c.relocations.result.now h c.relocations.ensures.value
-    (grind (arith, c.if-is_empty.true, c.is_empty.ensures)))
+    (bare_at_hand l c.args.section.now s h
+    (c.has_relocations.ensures ∙ ap Some c.if-not-has_relocations.true))
     (g.E.PreviousLinkInfo.range c.args.self.now.previous.now) c.args.section.now.place h.object_is
     (results_of c.args.fields.now c.args.meter.now) (omega (arith, c.fields-fields.type_inv, c.fields-fields.ensures))
 
 pub returns-then-is_unchanged : goal.returns-then-is_unchanged
 returns-then-is_unchanged g c =
-    λ old l s k h.
+    λ old l s k h _.
     let range = g.E.PreviousLinkInfo.range c.args.self.now.previous.now in
     let a = results_of c.args.fields.now c.args.meter.now in
     let is = c.is_unchanged.ensures c.if-is_unchanged.true old l s k h in
@@ -28,7 +35,7 @@ returns-then-is_unchanged g c =
 
 pub returns-in_ok-add_renewed-in-None : goal.returns-in_ok-add_renewed-in-None
 returns-in_ok-add_renewed-in-None g c =
-    λ old l s k h.
+    λ old l s k h _.
     let range = g.E.PreviousLinkInfo.range c.args.self.now.previous.now in
     known_as old l range s c.args.section.now.place h.object_is None
     (c.in-None.ensures.range ∙ ap range (c.section_key.ensures l s h)) _ _
@@ -36,7 +43,7 @@ returns-in_ok-add_renewed-in-None g c =
 
 pub returns-in_ok-add_moved-in-Some : goal.returns-in_ok-add_moved-in-Some
 returns-in_ok-add_moved-in-Some g c =
-    λ old l s k h.
+    λ old l s k h _.
     let range = g.E.PreviousLinkInfo.range c.args.self.now.previous.now in
     let same = c.section_key.ensures l s h in
     let known = c.in-Some.ensures.range ∙ ap range same in

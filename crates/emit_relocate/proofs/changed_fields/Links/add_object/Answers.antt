@@ -25,7 +25,8 @@ loop-index-preserved g c =
     c.loop-index.index (omega (arith, many, c.loop-index-test.true))
     (c.loop-index.invariant old l o k named same)
     (λ x is. c.in_ok-add_section.ensures old l _ k (c.new-section.ensures l o x named same
-    (ap (λ (r : ObjectData). slice_get r.sections c.loop-index.index) same ∙ is) row))
+    (ap (λ (r : ObjectData). slice_get r.sections c.loop-index.index) same ∙ is) row)
+    (λ yes. c.is_settled-settled.ensures yes old l o k named))
 
 pub returns : goal.returns
 returns g c =

@@ -5,10 +5,11 @@ use Rattle.place.specs.IndexedLayout.{table_key}
 use Rattle.relink_driver.specs.PreviousLink.{kept_range, previous_of}
 use Rattle.relink_driver.specs.StayedColumn.{flag_of, no_flags}
 use Rattle.relink_driver.proofs.Columns.{empty_column}
+use Rattle.relink_driver.proofs.Still.{no_row_is_still}
 use Rattle.relink_driver.proofs.stayed_column.StayedColumn.of.Goals as goal
 
-pub returns-in-None : goal.returns-in-None
-returns-in-None c = λ object number.
+pub returns-in-None-clause-flags : goal.returns-in-None-clause-flags
+returns-in-None-clause-flags c = λ object number.
     let t = c.args.indexed_layout.now in
     let key = table_key object number in
     let flags = c.new-in-None.result.items in
@@ -16,3 +17,7 @@ returns-in-None c = λ object number.
     (omega (arith, ap length c.new.ensures.items)))
     ∙ empty_column t key flags number.0
     ∙ ap (λ m. is_some (kept_range m t key)) (sym (ap previous_of c.in-None.is))
+
+pub returns-in-None-clause-still : goal.returns-in-None-clause-still
+returns-in-None-clause-still c = λ object so number.
+    absurd (no_row_is_still c.new-in-None-2.result.items object.0 c.new-in-None-2.ensures.items so)

@@ -1,0 +1,36 @@
+-- A section of an object of which nothing is to be evaluated.
+use Rattle.std.proofs.Common.{◌≡◌, ◌∙◌, ◌<◌, ◌^◌, None, Option, Some, ap, refl, sym, ⊎_elim}
+use Rattle.std.specs.Prelude.{IsSome, is_some}
+use Rattle.ldmodel.specs.Layout.{PlacedPiece}
+use Rattle.ldmodel.specs.Stayed.{GoodLink}
+use Rattle.ldmodel.specs.SymbolValues.{placed_part}
+use Rattle.ldmodel.specs.declared.names.ObjectPlace.{ObjectPlace}
+use Rattle.ldmodel.specs.declared.sections.Part.TheVariants.{InTable}
+use Rattle.ldmodel.specs.declared.sections.SectionKey.{SectionKey}
+use Rattle.emit_relocate.specs.Changes.{Adds, IsEvaluatedOf, Results, section_key}
+use Rattle.emit_relocate.specs.Filled.{ObjectSection}
+use Rattle.emit_relocate.specs.KnownLink.{KnownLink}
+use Rattle.emit_relocate.specs.Links.{IsSettled}
+use Rattle.emit_relocate.specs.PreviousLinkInfo.{IsAbsentAt, IsKnownAt}
+use Rattle.emit_relocate.specs.declared.previous_link_info.FileRange.{FileRange}
+use Rattle.emit_relocate.proofs.Changing.{known_as, retained, retained_as}
+use Rattle.emit_relocate.proofs.Filling.{none_in, renewed_none, start_is}
+use Rattle.emit_relocate.proofs.Moving.{moved_in_none}
+
+pub settled_added : (old : GoodLink) (l : KnownLink) (range : SectionKey → Option FileRange) (s : ObjectSection)
+    → IsSettled old l range s.object → (a : Results) → a.counts.fields < 2 ^ 64
+    → Adds l (IsEvaluatedOf old l range s) a a
+settled_added old l range s is a h = ⊎_elim stayed out (is.still s.section.number)
+  where
+    stayed : IsKnownAt old l range (section_key is.place s) → Adds l (IsEvaluatedOf old l range s) a a
+    stayed known =
+        retained_as old l range s is.place is.named known a a (λ r kept.
+        retained old l range s (section_key is.place s) r a a kept.stayed refl refl
+        (moved_in_none old l s is.place is.named (is.values (_, known.known)) r a.patches a.faults a.counts h))
+
+    out : IsAbsentAt l range (section_key is.place s) → Adds l (IsEvaluatedOf old l range s) a a
+    out absent =
+        known_as old l range s is.place is.named None (sym absent.unknown) a a
+        (renewed_none l s
+        (none_in (placed_part l.layout s.object.name (InTable s.section.number))
+        (sym absent.absent ∙ start_is l s is.place is.named)) a h)
