@@ -245,11 +245,14 @@ SECTIONS { . = 0; .header : { *(.header) } . = ALIGN(512); .text : { *(.data) . 
         self.assertEqual(self.compare("-T", "t.ld", "a.o", env=NONE), "")
 
     def test_sections_that_are_not_loaded(self) -> None:
-        """`.reloc` without the flag ALLOC, as memtest86+ has it: the link goes to GNU ld, or none is made."""
+        """`.reloc` without the flag ALLOC, as memtest86+ has it: it is linked, or the link goes to GNU ld, or none is
+        made."""
         self.compile("a.s", '.section .header, "a"\n.ascii "MZ"\n.data\n.long 4\n.section .reloc\n.long 5, 6\n'
                             '.section .sbat, "a"\n.ascii "sbat"\n')
         self.write("t.ld", self.SCRIPT)
-        self.assertIn(".reloc", self.compare("-T", "t.ld", "a.o", env={}))
+        said = self.compare("-T", "t.ld", "a.o", env={})
+        if said:  # a linker that does not link such sections
+            self.assertIn(".reloc", said)
         done = self.ld("-T", "t.ld", "a.o", "-o", "none", env=NONE)
         if done.returncode == 0:  # a linker that links such sections
             self.assertEqual(self.read("none"), self.read("gnu"))

@@ -14,7 +14,7 @@ pub use commons::{with_common_section, BlockPlace, CommonSection};
 pub use elf::Elf;
 pub(crate) use filter::NameFilter;
 pub use names::{Definition, LinkNames};
-pub use profile::{binary_object, session_name, without_retain, GREATEST_NAME};
+pub use profile::{binary_object, session_name, with_loaded, without_retain, GREATEST_NAME};
 pub use section::{Relocation, Section, SectionFlags, SectionIndex, SectionKind};
 pub use symbol::{Binding, Home, Rank, Symbol, SymbolIndex, SymbolKind, Visibility};
 

@@ -49,6 +49,24 @@ fn retained_sections(data: &[u8]) -> Option<Vec<(SectionIndex, usize, u64)>> {
     Some(found.collect())
 }
 
+/// The bytes of an object whose sections of these numbers have SHF_ALLOC, without flags that `ldi` does not link; `None`
+/// where its table of sections is not whole.
+pub fn with_loaded(data: &[u8], sections: &[SectionIndex]) -> Option<Vec<u8>> {
+    const FLAGS_AT: usize = 8;
+    let header = FileHeader64::<Little>::parse(data).ok()?;
+    let headers = header.section_headers(Little, data).ok()?;
+    let begin = usize::try_from(header.e_shoff(Little)).ok()?;
+    let kept = [SectionFlags::WRITE, SectionFlags::EXECINSTR, SectionFlags::MERGE, SectionFlags::STRINGS];
+    let kept = kept.iter().fold(0, |kept, flag| kept | flag.0);
+    let mut changed = data.to_vec();
+    for number in sections {
+        let flags = headers.get(number.0 as usize)?.sh_flags(Little) & kept | SectionFlags::ALLOC.0;
+        let at = begin + number.0 as usize * std::mem::size_of::<SectionHeader64<Little>>() + FLAGS_AT;
+        changed.get_mut(at..at + 8)?.copy_from_slice(&flags.to_le_bytes());
+    }
+    Some(changed)
+}
+
 /// A name that the session of `ldi` takes, and none of those in use, to which it is added: bytes outside of `!` to `~`
 /// are `_`, long names lose their front, and a name in use gets `#2`, `#3` and so on.
 pub fn session_name(name: &[u8], used: &mut HashSet<BString>) -> BString {

@@ -313,3 +313,13 @@ fn the_full_name_of_a_member_has_its_archive() {
     let member = Origin { path: "lib.a".into(), archive: Some("lib.a".into()), name: "a.o".into() };
     assert_eq!(member.full_name(), "lib.a(a.o)");
 }
+
+/// GNU ld loads all that stands in a section that is loaded.
+#[test]
+fn sections_become_loaded() {
+    let debug = WrittenSection { name: ".reloc", kind: 1, flags: 0x30 | 0x200, data: b"abc\0" };
+    let data = with_loaded(&object(&[debug], &[], &[]), &[SectionIndex(1)]).unwrap();
+    let tables = Elf::parse(data.into()).unwrap();
+    assert_eq!(tables.section(SectionIndex(1)).unwrap().flags, SectionFlags(0x32));
+    assert_eq!(with_loaded(b"no object", &[SectionIndex(1)]), None);
+}

@@ -48,7 +48,10 @@ pub(crate) fn verdict(plan: &LinkPlan, image: &[u8], map: &[u8], is_verbose: boo
     verdict.prohibited = prohibited(&inputs.scripts.reading.script, inputs.objects(), evaluation);
     if !verdict.differs {
         for one in &checked.not_loaded {
-            let kind = kind_of(plan, one.span);
+            let kind = match kind_of(plan, one.span) {
+                Some(kind) => kind,
+                None => continue,
+            };
             let what = format!("{kind} of {}: its {:#x} bytes are not in the image", one.name, one.size);
             verdict.lines.push(line(plan, one.span, &format!("changed: {what}; GNU ld's has them, not loaded")));
         }
@@ -98,16 +101,16 @@ fn unknown(plan: &LinkPlan, stop: &Stop) -> Vec<String> {
     lines
 }
 
-/// The words in parentheses of an output section's head.
-fn kind_of(plan: &LinkPlan, span: Option<Span>) -> String {
-    let evaluation = plan.evaluation.as_ref().ok();
-    let is_output = span
-        .and_then(|span| evaluation?.statement_at(span))
-        .map_or(false, |statement| matches!(statement.kind, StatementKind::Output(_)));
-    let text = span.filter(|_| is_output).map(|span| plan.inputs.scripts.reading.source.slice(span).to_string());
-    let head = text.as_deref().and_then(|text| text.split('{').next());
-    let inside = head.and_then(|head| head.split_once('(')).and_then(|(_, rest)| rest.split_once(')'));
-    inside.map_or_else(|| "the type".into(), |(word, _)| format!("({})", word.trim()))
+/// The type in the head of an output section, as `(INFO)`, where it has one by which it is not loaded.
+fn kind_of(plan: &LinkPlan, span: Option<Span>) -> Option<String> {
+    let statement = plan.evaluation.as_ref().ok()?.statement_at(span?)?;
+    if !matches!(statement.kind, StatementKind::Output(_)) {
+        return None;
+    }
+    let text = plan.inputs.scripts.reading.source.slice(span?).to_string();
+    let mut words = text.split('{').next()?.split(|byte| byte == '(' || byte == ')').map(str::trim);
+    let word = words.find(|word| ["COPY", "DSECT", "INFO", "OVERLAY"].contains(word))?;
+    Some(format!("({word})"))
 }
 
 /// A line with its place in the script.

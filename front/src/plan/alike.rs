@@ -2,7 +2,7 @@
 
 use std::path::PathBuf;
 
-use super::{held_of, LinkPlan};
+use super::LinkPlan;
 use crate::inputs::Archive;
 use crate::objects::{Elf, Object, Section, SectionFlags, SectionKind};
 use crate::snapshot::Snapshot;
@@ -40,7 +40,7 @@ impl LinkPlan {
         for (place, new) in taken {
             self.inputs.loaded.put(place, new);
         }
-        self.inputs.held = held_of(&self.inputs.loaded.objects);
+        self.hold_again();
         true
     }
 }

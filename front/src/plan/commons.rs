@@ -9,17 +9,12 @@ use crate::layout::Evaluation;
 use crate::mirror::Held;
 use crate::objects::{with_common_section, BlockPlace, CommonSection, Object};
 
-/// The objects as the session is to hold them, those with common blocks with a section of them; `None` where none has
-/// any.
-pub(super) fn with_places(held: &[Held], objects: &[Object], evaluation: &Evaluation) -> Option<Vec<Held>> {
-    if !objects.iter().any(|object| object.has_commons()) {
-        return None;
-    }
+/// The objects with common blocks with a section of them.
+pub(super) fn with_places(held: &mut [Held], objects: &[Object], evaluation: &Evaluation) {
     let own = |section: &&InputSection| section.is_common();
     let sections: HashMap<u32, &InputSection> =
         evaluation.sections.iter().filter(own).map(|section| (section.object.0, section)).collect();
-    let mut placed = held.to_vec();
-    for (number, (held, object)) in placed.iter_mut().zip(objects).enumerate() {
+    for (number, (held, object)) in held.iter_mut().zip(objects).enumerate() {
         let number = number as u32;
         if !object.has_commons() {
             continue;
@@ -30,7 +25,6 @@ pub(super) fn with_places(held: &[Held], objects: &[Object], evaluation: &Evalua
             held.data = data.into();
         }
     }
-    Some(placed)
 }
 
 /// What becomes of the common block of a name in an object; `None` where a definition or the script takes its place.

@@ -7,6 +7,7 @@ mod alike;
 mod collecting;
 mod commons;
 mod crossrefs;
+mod loaded;
 mod programs;
 mod scripts;
 mod settings;
@@ -24,6 +25,7 @@ use crate::objects::{Object, ObjectIndex};
 use crate::residual::{residual, Request, Residual};
 use crate::snapshot::Snapshot;
 pub use crossrefs::{prohibited, Prohibited};
+use loaded::MadeLoaded;
 pub use programs::{find_program, is_own, others, own_version, Environment, WITHIN};
 pub use scripts::{Scripts, ScriptsFault};
 pub use settings::settings_of;
@@ -97,6 +99,8 @@ pub struct LinkPlan {
     /// The form of the file.
     pub form: Form,
     layout: Option<Layout>,
+    /// The sections that are loaded though their objects do not say so.
+    made_loaded: MadeLoaded,
     /// The objects as the session is to hold them, where these are others than were read.
     changed: Option<Vec<Held>>,
 }
@@ -123,14 +127,14 @@ impl LinkPlan {
         command: &Command,
         inputs: Inputs,
         layout: Option<Layout>,
-        evaluation: Result<Evaluation, Stop>,
+        mut evaluation: Result<Evaluation, Stop>,
     ) -> LinkPlan {
+        let made_loaded = evaluation.as_mut().map_or_else(|_| MadeLoaded::new(), loaded::load);
         let residual = written(command, &inputs, evaluation.as_ref().ok());
         let options = options_of(command, residual.entry.as_ref().map(|name| name.as_bstr()));
         let form = form_of(command, &inputs.scripts, &residual, evaluation.as_ref().ok());
-        let places = |evaluation| commons::with_places(&inputs.held, inputs.objects(), evaluation);
-        let changed = evaluation.as_ref().ok().and_then(places);
-        LinkPlan { inputs, evaluation, residual, options, form, layout, changed }
+        let changed = evaluation.as_ref().ok().and_then(|evaluation| changed_of(&inputs, evaluation, &made_loaded));
+        LinkPlan { inputs, evaluation, residual, options, form, layout, made_loaded, changed }
     }
 
     /// The same plan where some files have other bytes now; `None` where all must be planned anew, as these files are no
@@ -161,10 +165,31 @@ impl LinkPlan {
         Some(LinkPlan::with_layout(command, self.inputs, layout, evaluation))
     }
 
+    /// Holds the objects as they are now, where all of the plan but their bytes stays.
+    fn hold_again(&mut self) {
+        self.inputs.held = held_of(&self.inputs.loaded.objects);
+        let evaluation = self.evaluation.as_ref().ok();
+        self.changed = evaluation.and_then(|evaluation| changed_of(&self.inputs, evaluation, &self.made_loaded));
+    }
+
     /// The objects as the session holds them.
     pub fn held(&self) -> &[Held] {
         self.changed.as_ref().unwrap_or(&self.inputs.held)
     }
+}
+
+/// The objects as the session is to hold them; `None` where they are those that were read.
+fn changed_of(inputs: &Inputs, evaluation: &Evaluation, made_loaded: &MadeLoaded) -> Option<Vec<Held>> {
+    let has_commons = inputs.objects().iter().any(|object| object.has_commons());
+    if made_loaded.is_empty() && !has_commons {
+        return None;
+    }
+    let mut held = inputs.held.clone();
+    loaded::with_flags(&mut held, made_loaded);
+    if has_commons {
+        commons::with_places(&mut held, inputs.objects(), evaluation);
+    }
+    Some(held)
 }
 
 fn laid_out(inputs: &Inputs, settings: &Settings) -> (Option<Layout>, Result<Evaluation, Stop>) {
