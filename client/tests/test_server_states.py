@@ -204,6 +204,8 @@ class StoppedTest(ServerTest):
 
     def test_another_version_of_the_client(self) -> None:
         """The same where a file of the client is another, also one that the server does not import."""
+        if Path(LD_LDI).resolve().read_bytes()[:4] == b"\x7fELF":
+            self.skipTest("the client is one program: test_another_program")
         client = self.folder / "copy" / "client"
         shutil.copytree(Path(LD_LDI).parent.parent, client, ignore=shutil.ignore_patterns("tests", "__pycache__"))
         program = str(client / "bin" / "ld.ldi")
@@ -219,6 +221,23 @@ class StoppedTest(ServerTest):
         self.assertEqual(self.run_program(program, *WORDS, env=self.env()).returncode, 0)
         self.started.add(self.server())
         self.assertEqual(self.image(), self.expected())
+
+    def test_another_program(self) -> None:
+        """The same where the client is one program, and that is another file: the old server ends."""
+        if Path(LD_LDI).resolve().read_bytes()[:4] != b"\x7fELF":
+            self.skipTest("the client is no program of one file")
+        program = self.folder / "ld.ldi"
+        shutil.copy(Path(LD_LDI).resolve(), program)
+        self.assertEqual(self.run_program(program, *WORDS, env=self.env()).returncode, 0)
+        pid = self.server()
+        self.started.add(pid)
+        program.rename(self.folder / "old")
+        shutil.copy(self.folder / "old", program)
+        self.compile("b.c", "int other = 5; int b(int x) { return x + 44; }")
+        self.assertEqual(self.run_program(program, *WORDS, env=self.env()).returncode, 0)
+        self.wait(lambda: not is_running(pid), "the old server stays")
+        self.assertEqual(self.image(), self.expected())
+        self.started.add(self.server())
 
 
 class WantedTest(ServerTest):

@@ -16,18 +16,12 @@
 /// Prints a line on standard error. Those of the standard library panic where it cannot be written, as on a full disk or
 /// where its reader has gone away.
 macro_rules! eprintln {
-    ($($words:tt)*) => {{
-        use std::io::Write;
-        let _ = writeln!(std::io::stderr(), $($words)*);
-    }};
+    ($($words:tt)*) => { $crate::streams::print_line($crate::streams::Stream::Errors, format_args!($($words)*)) };
 }
 
 /// Prints a line on standard output, in the same way.
 macro_rules! println {
-    ($($words:tt)*) => {{
-        use std::io::Write;
-        let _ = writeln!(std::io::stdout(), $($words)*);
-    }};
+    ($($words:tt)*) => { $crate::streams::print_line($crate::streams::Stream::Output, format_args!($($words)*)) };
 }
 
 pub mod checker;
@@ -44,6 +38,7 @@ pub mod residual;
 pub mod script;
 pub mod server;
 pub mod snapshot;
+pub mod streams;
 pub mod watch;
 
 pub mod adapt;

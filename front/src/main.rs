@@ -11,6 +11,7 @@ fn program_of(name: &OsStr) -> Option<fn(&[OsString]) -> u8> {
         "ld.ldi" | "ld" | "ld.bfd" => Some(ldi_front::once::main),
         "ldi-adapt" => Some(ldi_front::adapt::main),
         "ldi-gdb" => Some(ldi_front::gdb::main),
+        "ldi-server" => Some(ldi_front::server::main),
         "ldi-watch" => Some(ldi_front::watch::main),
         _ => None,
     }

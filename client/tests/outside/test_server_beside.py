@@ -17,8 +17,11 @@ NOBODY = 65534
 
 
 def made(trace: str, folder: Path) -> list[tuple[str, str]]:
-    """The names and flags of the files that were made in a folder, as `strace` shows it."""
+    """The names and flags of the files that were made in a folder, as `strace` shows it: those of new files that were
+    made without a name too, when they get one, which is never another file's."""
     calls = re.findall(r'open(?:at)?\((?:AT_FDCWD, |\d+, )?"([^"]*)", ([A-Z_|0-9]+)', trace)
+    named = re.findall(r'linkat\((?:AT_FDCWD, |\d+, )?"[^"]*", (?:AT_FDCWD, |\d+, )?"([^"]*)"', trace)
+    calls += [(name, "O_CREAT|O_EXCL") for name in named]
     return [(name, flags) for name, flags in calls
             if "O_CREAT" in flags and (not name.startswith("/") or name.startswith(f"{folder}/"))]
 
@@ -31,7 +34,7 @@ class TracedTest(ProjectTest):
         """What a process makes in the folder in a call, or what a program with these words makes there."""
         trace = self.folder / "trace"
         trace.unlink(missing_ok=True)
-        command = ["strace", "-f", "-qq", "-e", "trace=open,openat,creat", "-s", "4000", "-o", str(trace)]
+        command = ["strace", "-f", "-qq", "-e", "trace=open,openat,creat,linkat", "-s", "4000", "-o", str(trace)]
         if pid is None:
             done = self.run_program(*command, *words, cwd="p")
             self.skip_without_tracing(done.stderr)

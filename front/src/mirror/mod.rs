@@ -7,6 +7,8 @@ use std::collections::HashMap;
 use std::ffi::OsString;
 use std::fs::File;
 use std::process::ExitStatus;
+use std::sync::atomic::{AtomicU32, Ordering};
+use std::sync::Arc;
 use std::time::Duration;
 
 use bstr::BString;
@@ -73,6 +75,7 @@ pub struct Mirror {
     options: Options,
     state: State,
     last_status: Option<ExitStatus>,
+    process: Arc<AtomicU32>,
 }
 
 /// What a session holds.
@@ -103,6 +106,7 @@ impl Mirror {
             options: Options::default(),
             state: State::default(),
             last_status: None,
+            process: Arc::default(),
         }
     }
 
@@ -111,7 +115,9 @@ impl Mirror {
     pub fn start(&mut self, options: &Options) -> Result<(), SessionError> {
         if self.session.is_none() || self.options != *options {
             self.end();
-            self.session = Some(Session::start(&self.program, options, self.patience)?);
+            let session = Session::start(&self.program, options, self.patience)?;
+            self.process.store(session.process(), Ordering::SeqCst);
+            self.session = Some(session);
             self.options = options.clone();
         }
         Ok(())
@@ -197,6 +203,7 @@ impl Mirror {
         if let Some(session) = self.session.take() {
             self.last_status = session.kill();
         }
+        self.process.store(0, Ordering::SeqCst);
         self.state = State::default();
     }
 
@@ -213,6 +220,11 @@ impl Mirror {
     /// The session that runs, as for its memory.
     pub fn session(&self) -> Option<&Session> {
         self.session.as_ref()
+    }
+
+    /// The number of the session's process, for other threads; 0 where there is none.
+    pub fn process(&self) -> Arc<AtomicU32> {
+        Arc::clone(&self.process)
     }
 
     /// The script that the session has.

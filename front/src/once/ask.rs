@@ -6,15 +6,17 @@ use bstr::ByteSlice;
 
 use crate::command::{help, Ask, Command};
 use crate::plan::{own_version, Environment, Scripts};
+use crate::streams::{self, Stream};
 
 /// The release of GNU ld whose command line this is; the last word of the version, which builds ask for.
 const FOLLOWS: &str = "2.40";
 
 /// Prints it.
 pub(super) fn print(command: &Command, scripts: Option<&Scripts>, environment: &Environment) {
-    let mut out = std::io::stdout();
-    // A reader that has gone away is no fault of the link.
-    let _ = write(&mut out, command, scripts, environment).and_then(|()| out.flush());
+    let mut out = Vec::new();
+    // Memory takes all that is written.
+    let _ = write(&mut out, command, scripts, environment);
+    streams::print(Stream::Output, &out);
 }
 
 fn write(

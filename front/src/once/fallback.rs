@@ -9,6 +9,7 @@ use std::process::Command as Process;
 use super::builds::is_first;
 use super::{say, Status};
 use crate::plan::{is_own, others, Environment};
+use crate::streams::{self, Printed};
 
 /// The variable that names another linker.
 const VARIABLE: &str = "LDI_FALLBACK";
@@ -18,7 +19,7 @@ const NONE: &str = "none";
 const OTHERS: [&str; 2] = ["ld.bfd", "ld"];
 
 /// Why another linker is needed.
-pub(super) struct Reasons<'a> {
+pub(crate) struct Reasons<'a> {
     lines: Vec<String>,
     /// What is the same for links that need it for the same reason, of whatever objects; else the lines are.
     kind: Option<String>,
@@ -51,6 +52,13 @@ impl<'a> Reasons<'a> {
         Reasons { first: Some(first), ..self }
     }
 
+    /// The status of a link with faults that no other linker is to make: what there is to say is said.
+    pub(crate) fn faults_without(&self, environment: &Environment) -> Option<Status> {
+        let status = self.status.filter(|status| *status == Status::Faults && is_forbidden(environment))?;
+        self.say_more();
+        Some(status)
+    }
+
     fn say_more(&self) {
         if let Some(say_more) = self.say_more {
             say_more();
@@ -58,9 +66,67 @@ impl<'a> Reasons<'a> {
     }
 }
 
+/// Why another linker is needed, with all that is to be said of it, for the process that starts it.
+#[derive(Clone, PartialEq, Eq, Debug, Default)]
+pub(crate) struct HandedOver {
+    /// The lines of [`Reasons`].
+    pub(crate) lines: Vec<String>,
+    /// What is the same for links of one kind.
+    pub(crate) kind: Option<String>,
+    /// What is said before the lines, where nothing links or with `--verbose`.
+    pub(crate) more: Vec<Printed>,
+    /// What is said in their place where the other linker links.
+    pub(crate) first: Option<String>,
+    /// `--verbose`
+    pub(crate) is_verbose: bool,
+    /// Whether no other linker is to link.
+    pub(crate) is_forbidden: bool,
+    /// The status where nothing links, and no line says so.
+    pub(crate) status: Option<Status>,
+}
+
+impl HandedOver {
+    /// All of the reasons.
+    pub(crate) fn of(reasons: &Reasons<'_>, environment: &Environment, is_verbose: bool) -> HandedOver {
+        let ((), more) = streams::keep(streams::error_style(), || reasons.say_more());
+        HandedOver {
+            lines: reasons.lines.clone(),
+            kind: reasons.kind.clone(),
+            more,
+            first: reasons.first.map(|first| first()),
+            is_verbose,
+            is_forbidden: is_forbidden(environment),
+            status: reasons.status,
+        }
+    }
+
+    /// Runs the other linker in place of this process; gives a status where there is none.
+    pub(crate) fn run(&self, words: &[OsString], environment: &Environment) -> Status {
+        let mut environment = environment.clone();
+        if self.is_forbidden {
+            forbid(&mut environment);
+        }
+        let say_more = || self.more.iter().for_each(|one| streams::print(one.stream, &one.text));
+        let first = || self.first.clone().unwrap_or_default();
+        let reasons = Reasons {
+            lines: self.lines.clone(),
+            kind: self.kind.clone(),
+            say_more: Some(&say_more),
+            first: if self.first.is_some() { Some(&first) } else { None },
+            status: self.status,
+        };
+        hand_over(&reasons, words, &environment, self.is_verbose)
+    }
+}
+
 /// From now on no other linker is to link (`--no-fallback`).
 pub(super) fn forbid(environment: &mut Environment) {
     environment.insert(VARIABLE.into(), NONE.into());
+}
+
+/// Whether no other linker is to link.
+fn is_forbidden(environment: &Environment) -> bool {
+    environment.get(OsStr::new(VARIABLE)).map_or(false, |name| name == NONE)
 }
 
 /// Why LDI_FALLBACK names no linker.

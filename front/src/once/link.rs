@@ -1,13 +1,13 @@
 //! One link, from the command to the files.
 
-use std::ffi::{OsStr, OsString};
-use std::io::Write;
+use std::ffi::OsStr;
 use std::os::unix::ffi::OsStrExt;
 use std::path::{Path, PathBuf};
 
 use bstr::{BStr, ByteSlice};
 
-use super::fallback::{hand_over, Reasons};
+use super::fallback::Reasons;
+use super::host::{Asked, Host};
 use super::{another, messages, say, tables, verdict};
 use crate::checker::NoImage;
 use crate::command::Command;
@@ -16,11 +16,12 @@ use crate::inputs::InputFault;
 use crate::layout::stop::RefusedReason;
 use crate::layout::Stop;
 use crate::mirror::{Brought, Mirror, SessionError, Wanted};
-use crate::place::{write_file, NotWritten, Reader, PROGRAM, TEXT};
-use crate::plan::{find_program, options_of, Environment, Inputs, LinkPlan, PlanFault, Scripts, ScriptsFault};
+use crate::place::{NotWritten, PROGRAM, TEXT};
+use crate::plan::{find_program, options_of, Inputs, LinkPlan, PlanFault, Scripts, ScriptsFault};
 use crate::residual::{Note, NoteKind, Topic};
 use crate::script::tree::{Script, SectionsStatement, Statement};
 use crate::snapshot::Snapshot;
+use crate::streams::{self, Stream};
 
 /// The refused objects that are named.
 const GREATEST_LIST: usize = 20;
@@ -41,6 +42,14 @@ pub enum Status {
     Device = 3,
     /// Memory ran out.
     Memory = 4,
+}
+
+impl Status {
+    /// The status of a number; `None` where it has none.
+    pub(crate) fn of(number: u8) -> Option<Status> {
+        let all = [Status::Good, Status::Faults, Status::Refused, Status::Device, Status::Memory];
+        all.into_iter().find(|status| *status as u8 == number)
+    }
 }
 
 /// Why a link ends without a status of its own.
@@ -91,36 +100,58 @@ impl From<PlanFault> for LinkFault {
     }
 }
 
-/// Links, and gives the exit status.
-pub(super) fn link(
+/// A link that was planned.
+#[derive(Debug)]
+pub(crate) struct Planned {
+    /// The command, with the output that a script names.
+    pub(crate) command: Command,
+    /// The plan.
+    pub(crate) plan: LinkPlan,
+}
+
+/// Reads the inputs and plans the link, while the session takes the objects.
+pub(crate) fn plan_link(
     mut command: Command,
     scripts: Scripts,
-    mut snapshot: Snapshot,
-    words: &[OsString],
-    environment: &Environment,
-) -> Result<Status, LinkFault> {
-    let inputs = Inputs::load(&command, scripts, &mut snapshot)?;
+    snapshot: &mut Snapshot,
+    mirror: &mut Mirror,
+    asked: &Asked<'_>,
+) -> Result<Planned, LinkFault> {
+    let inputs = Inputs::load(&command, scripts, snapshot)?;
     if let (Some(output), false) = (inputs.scripts.output(), command.has_output) {
         command.output = PathBuf::from(OsStr::from_bytes(output));
     }
     if command.traces {
         inputs.held.iter().for_each(|held| println!("{}", held.name));
     }
-    check_outputs(&command, &snapshot)?;
-    let mut mirror = Mirror::new(find_program("ldi", environment), None);
-    let program = find_program("ldi", environment);
-    let session = |fault| LinkFault::Session { program: program.to_string_lossy().into_owned(), fault };
-    let plan = opened(&command, inputs, &mut mirror).map_err(session)?;
-    let link = Link { command: &command, plan: &plan, words, environment };
+    check_outputs(&command, snapshot)?;
+    let plan = opened(&command, inputs, mirror).map_err(|fault| session_fault(fault, asked))?;
+    Ok(Planned { command, plan })
+}
+
+/// Links what is planned, and gives the exit status.
+pub(crate) fn make(
+    planned: &Planned,
+    mirror: &mut Mirror,
+    asked: Asked<'_>,
+    host: &dyn Host,
+) -> Result<Status, LinkFault> {
+    let session = |fault| session_fault(fault, &asked);
+    let Planned { command, plan } = planned;
+    let link = Link { command, plan, asked, host };
     if plan.residual.is_left() {
-        return link.left(&mut mirror).map_err(session);
+        return link.left(mirror).map_err(session);
     }
     let wanted = Wanted { options: &plan.options, objects: plan.held(), script: &plan.residual.text };
     let brought = mirror.bring(wanted).map_err(session)?;
-    match link.not_good(&brought, &mut mirror).map_err(session)? {
+    match link.not_good(&brought, mirror).map_err(session)? {
         Some(status) => Ok(status),
-        None => link.good(&mut mirror, &session),
+        None => link.good(mirror, &session),
     }
+}
+
+fn session_fault(fault: SessionError, asked: &Asked<'_>) -> LinkFault {
+    LinkFault::Session { program: find_program("ldi", asked.environment).to_string_lossy().into_owned(), fault }
 }
 
 /// The plan, made while the session takes the objects.
@@ -141,8 +172,8 @@ fn opened(command: &Command, inputs: Inputs, mirror: &mut Mirror) -> Result<Link
 struct Link<'a> {
     command: &'a Command,
     plan: &'a LinkPlan,
-    words: &'a [OsString],
-    environment: &'a Environment,
+    asked: Asked<'a>,
+    host: &'a dyn Host,
 }
 
 impl Link<'_> {
@@ -183,7 +214,7 @@ impl Link<'_> {
         match why {
             Some(why) => {
                 let reasons = Reasons::of_no_image(why, say, status);
-                hand_over(&reasons, self.words, self.environment, self.command.is_verbose)
+                self.host.hand_over(&reasons, &self.asked)
             }
             None => {
                 say();
@@ -205,7 +236,7 @@ impl Link<'_> {
         if let Some(refusal) = brought.script_refused {
             let say = || {
                 self.report();
-                messages::say_refused_script(self.plan, refusal, self.environment);
+                messages::say_refused_script(self.plan, refusal, self.asked.environment);
             };
             let (why, status) = match refusal.is_memory() {
                 true => (None, Status::Memory),
@@ -232,7 +263,7 @@ impl Link<'_> {
         let name = |index: usize| self.plan.held().get(index).map_or_else(String::new, |held| held.name.to_string());
         let say_more = || {
             for (index, refusal) in brought.refused.iter().take(GREATEST_LIST) {
-                messages::say_refused_object(self.plan, *index, *refusal, self.environment);
+                messages::say_refused_object(self.plan, *index, *refusal, self.asked.environment);
             }
         };
         if brought.refused.iter().any(|(_, refusal)| refusal.is_memory()) {
@@ -245,9 +276,9 @@ impl Link<'_> {
             count => format!(" and {} others", count - 1),
         };
         let line = format!("{first}{more}: outside the profile of ldi");
-        let detail = || messages::detail(self.plan, &brought.refused, self.environment);
+        let detail = || messages::detail(self.plan, &brought.refused, self.asked.environment);
         let reasons = Reasons::of_kind(line, "outside the profile of ldi", &say_more).with_first(&detail);
-        hand_over(&reasons, self.words, self.environment, self.command.is_verbose)
+        self.host.hand_over(&reasons, &self.asked)
     }
 
     /// What was done to the script: with `--verbose` all of it.
@@ -274,7 +305,9 @@ impl Link<'_> {
         let is_compared = verdict::wants_map(self.plan, command.collects_sections);
         let wants_map = command.map_file.is_some() || command.prints_map || tables || is_compared;
         let map = if wants_map { mirror.map().map_err(session)? } else { Vec::new() };
-        mirror.end();
+        if !self.host.keeps_session() {
+            mirror.end();
+        }
         let verdict = verdict::verdict(self.plan, &image, if is_compared { &map } else { b"" }, command.is_verbose)?;
         if let Some(why) = another::of_verdict(self.plan, &verdict) {
             let say = || self.say_verdict(&verdict);
@@ -289,7 +322,7 @@ impl Link<'_> {
             say(format!("{}: {note}", self.path()));
         }
         self.write_map(&map)?;
-        write(&command.output, &finished.file, PROGRAM)?;
+        self.write_image(&finished.file)?;
         self.write_dependencies()?;
         self.print_tables(&map);
         Ok(Status::Good)
@@ -308,16 +341,19 @@ impl Link<'_> {
         prohibited.for_each(|one| say(one.to_string()));
     }
 
+    fn write_image(&self, file: &FileImage) -> Result<(), LinkFault> {
+        let zeros = zeros_of(file);
+        self.host.write(&self.command.output, &pieces_of(file, &zeros), PROGRAM).map_err(LinkFault::NotWritten)
+    }
+
     fn write_map(&self, map: &[u8]) -> Result<(), LinkFault> {
         let path = map_path(self.command);
         let is_printed = path.as_deref() == Some(Path::new("-"));
         if self.command.prints_map || is_printed {
-            let mut out = std::io::stdout();
-            // A reader that has gone away is no fault of the link.
-            let _ = out.write_all(map).and_then(|()| out.flush());
+            streams::print(Stream::Output, map);
         }
         match path.filter(|_| !is_printed) {
-            Some(path) => write_file(&path, &[map], TEXT, Reader::IsWaitedFor).map_err(LinkFault::NotWritten),
+            Some(path) => self.host.write(&path, &[map], TEXT).map_err(LinkFault::NotWritten),
             None => Ok(()),
         }
     }
@@ -343,7 +379,7 @@ impl Link<'_> {
         for name in names {
             text.extend([b"\n", name, b":\n"].concat());
         }
-        write_file(path, &[&text], TEXT, Reader::IsWaitedFor).map_err(LinkFault::NotWritten)
+        self.host.write(path, &[&text], TEXT).map_err(LinkFault::NotWritten)
     }
 
     fn print_tables(&self, map: &[u8]) {
@@ -352,8 +388,7 @@ impl Link<'_> {
         }
         if self.command.prints_memory_usage {
             if let Ok(evaluation) = &self.plan.evaluation {
-                let mut out = std::io::stdout();
-                let _ = out.write_all(tables::memory_usage(evaluation).as_bytes()).and_then(|()| out.flush());
+                streams::print(Stream::Output, tables::memory_usage(evaluation).as_bytes());
             }
         }
     }
@@ -391,11 +426,6 @@ fn has_section(script: &Script, name: &[u8]) -> bool {
         }),
         _ => false,
     })
-}
-
-fn write(path: &Path, file: &FileImage, mode: rustix::fs::Mode) -> Result<(), LinkFault> {
-    let zeros = zeros_of(file);
-    write_file(path, &pieces_of(file, &zeros), mode, Reader::IsWaitedFor).map_err(LinkFault::NotWritten)
 }
 
 /// The zeros of the greatest gap between two pieces.

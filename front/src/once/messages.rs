@@ -8,16 +8,14 @@ use bstr::ByteSlice;
 use crate::command::Command;
 use crate::mirror::Refusal;
 use crate::plan::{find_program, Environment, LinkPlan};
-use crate::report::{
-    fault_diagnostics, refusals_of_object, refusals_of_script, Diagnostic, Inputs, RefusedInput, Style,
-};
+use crate::report::{fault_diagnostics, refusals_of_object, refusals_of_script, Diagnostic, Inputs, RefusedInput};
 use crate::script::{Place, ScriptError};
 
 /// The faults of a link that are said.
 const GREATEST_FAULTS: usize = 1000;
 
 fn say_all(diagnostics: &[Diagnostic]) {
-    let style = Style::of(&std::io::stderr());
+    let style = crate::streams::error_style();
     diagnostics.iter().for_each(|diagnostic| eprintln!("{}", diagnostic.render(style)));
 }
 

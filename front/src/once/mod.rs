@@ -4,6 +4,7 @@ mod another;
 mod ask;
 mod builds;
 mod fallback;
+mod host;
 mod link;
 pub(crate) mod messages;
 mod tables;
@@ -14,13 +15,16 @@ use std::os::unix::ffi::OsStrExt;
 
 use bstr::BString;
 
-use crate::command::{expand_words, read_command, Ask, Command};
+use crate::command::{expand_words, read_command, Ask, Command, WordsRefused};
 use crate::inputs::InputFault;
-use crate::plan::{Environment, PlanFault, Scripts, ScriptsFault};
+use crate::mirror::Mirror;
+use crate::plan::{find_program, Environment, PlanFault, Scripts, ScriptsFault};
 use crate::snapshot::Snapshot;
-use fallback::Reasons;
-#[allow(unused_imports)] // for the server and the watch
-pub(crate) use link::{map_path, notes_of, pieces_of, section_outside, zeros_of};
+pub(crate) use fallback::{HandedOver, Reasons};
+use host::Alone;
+pub(crate) use host::{Asked, Host};
+use link::plan_link;
+pub(crate) use link::{make, notes_of, pieces_of, section_outside, zeros_of, Planned};
 pub use link::{LinkFault, Status};
 
 /// A line for people.
@@ -31,75 +35,117 @@ fn say(text: impl AsRef<str>) {
 /// The program `ld.ldi`; gives its exit status.
 pub fn main(words: &[OsString]) -> u8 {
     let environment: Environment = std::env::vars_os().collect();
-    let status = match run(words, &environment) {
-        Ok(status) => status,
+    crate::server::call(words, &environment, |words| by_itself(words, &environment))
+}
+
+/// Links without a server.
+fn by_itself(words: &[OsString], environment: &Environment) -> u8 {
+    let mut mirror = Mirror::new(find_program("ldi", environment), None);
+    let asked = Asked { words, environment, is_verbose: false };
+    said(run(asked, &mut Snapshot::new(), &mut mirror, &Alone)).0 as u8
+}
+
+/// Says why a link ended, where it did; gives its status, and the plan that it went by.
+pub(crate) fn said(done: Result<Done, LinkFault>) -> Done {
+    match done {
+        Ok(done) => done,
         Err(fault) => {
             match &fault {
                 LinkFault::Plan(PlanFault::Script(ScriptsFault::NoScript(error))) => messages::say_no_script(error),
                 _ => say(fault.to_string()),
             }
-            fault.status()
+            Done(fault.status(), None)
         }
-    };
-    status as u8
+    }
+}
+
+/// What came of a link.
+#[derive(Debug)]
+pub(crate) struct Done(pub(crate) Status, pub(crate) Option<Planned>);
+
+impl From<Status> for Done {
+    fn from(status: Status) -> Done {
+        Done(status, None)
+    }
+}
+
+/// The words with those of response files, and what they ask for.
+pub(crate) fn read_words(words: &[OsString]) -> (Vec<BString>, Result<Command, WordsRefused>) {
+    let own: Vec<BString> = words.iter().map(|word| BString::from(word.as_bytes())).collect();
+    let expanded = expand_words(&own).words;
+    let read = read_command(&expanded);
+    (expanded, read)
 }
 
 /// Does what the words ask for.
-fn run(words: &[OsString], environment: &Environment) -> Result<Status, LinkFault> {
-    let own: Vec<BString> = words.iter().map(|word| BString::from(word.as_bytes())).collect();
-    let expanded = expand_words(&own);
-    let read = read_command(&expanded.words);
+pub(crate) fn run(
+    asked: Asked<'_>,
+    snapshot: &mut Snapshot,
+    mirror: &mut Mirror,
+    host: &dyn Host,
+) -> Result<Done, LinkFault> {
+    let (expanded, read) = read_words(asked.words);
     let is_forbidden = |command: &Command| command.is_without_fallback;
-    let mut own_environment = environment.clone();
-    if read.as_ref().map_or_else(|_| expanded.words.iter().any(|word| word == "--no-fallback"), is_forbidden) {
-        fallback::forbid(&mut own_environment);
+    let mut environment = asked.environment.clone();
+    if read.as_ref().map_or_else(|_| expanded.iter().any(|word| word == "--no-fallback"), is_forbidden) {
+        fallback::forbid(&mut environment);
     }
-    let environment = &own_environment;
+    let is_verbose = asked.words.iter().any(|word| word == "--verbose");
+    let mut asked = Asked { environment: &environment, is_verbose, ..asked };
     let command = match read {
         Ok(command) => command,
-        Err(fault) => {
-            let is_verbose = words.iter().any(|word| word == "--verbose");
-            return Ok(fallback::hand_over(&Reasons::of(vec![fault.to_string()]), words, environment, is_verbose));
-        }
+        Err(fault) => return Ok(host.hand_over(&Reasons::of(vec![fault.to_string()]), &asked).into()),
     };
-    let mut snapshot = Snapshot::new();
+    asked.is_verbose = command.is_verbose;
+    match run_command(command, asked, snapshot, mirror, host) {
+        Err(LinkFault::Plan(PlanFault::Input(InputFault::OfOtherLinkers(text)))) => {
+            let asked = Asked { is_verbose, ..asked };
+            Ok(host.hand_over(&Reasons::of(vec![text]), &asked).into())
+        }
+        done => done,
+    }
+}
+
+/// Does what a command asks for.
+fn run_command(
+    command: Command,
+    asked: Asked<'_>,
+    snapshot: &mut Snapshot,
+    mirror: &mut Mirror,
+    host: &dyn Host,
+) -> Result<Done, LinkFault> {
+    let environment = asked.environment;
     let is_asked = !command.asks.is_empty() || command.is_verbose;
     let names_script = !command.scripts.is_empty() || command.default_script.is_some();
     if !command.has_inputs() && !names_script {
         if !is_asked {
             say("no input files");
-            return Ok(Status::Refused);
+            return Ok(Status::Refused.into());
         }
-        let scripts = Scripts::read(&command, environment, &mut snapshot)?;
+        let scripts = Scripts::read(&command, environment, snapshot)?;
         ask::print(&command, Some(&scripts), environment);
-        return Ok(Status::Good);
+        return Ok(Status::Good.into());
     }
     if command.asks.contains(&Ask::Help) {
         ask::print(&command, None, environment);
-        return Ok(Status::Good);
+        return Ok(Status::Good.into());
     }
-    let handed_over =
-        |lines: Vec<String>| Ok(fallback::hand_over(&Reasons::of(lines), words, environment, command.is_verbose));
     if !command.impossible.is_empty() {
-        return handed_over(command.impossible.clone());
+        return Ok(host.hand_over(&Reasons::of(command.impossible.clone()), &asked).into());
     }
-    let scripts = Scripts::read(&command, environment, &mut snapshot)?;
+    let scripts = Scripts::read(&command, environment, snapshot)?;
     if !crate::inputs::has_inputs(&command, &scripts.parts) {
         if is_asked {
             ask::print(&command, Some(&scripts), environment);
-            return Ok(Status::Good);
+            return Ok(Status::Good.into());
         }
         say("no input files");
-        return Ok(Status::Refused);
+        return Ok(Status::Refused.into());
     }
     ask::print(&command, Some(&scripts), environment);
-    match link::link(command, scripts, snapshot, words, environment) {
-        Err(LinkFault::Plan(PlanFault::Input(InputFault::OfOtherLinkers(text)))) => {
-            let is_verbose = words.iter().any(|word| word == "--verbose");
-            Ok(fallback::hand_over(&Reasons::of(vec![text]), words, environment, is_verbose))
-        }
-        done => done,
-    }
+    let planned = plan_link(command, scripts, snapshot, mirror, &asked)?;
+    let status = make(&planned, mirror, asked, host)?;
+    Ok(Done(status, Some(planned)))
 }
 
 impl From<ScriptsFault> for LinkFault {

@@ -35,7 +35,7 @@ fn front(path: &Path) -> Vec<u8> {
 fn process_of(name: &[u8], front: &[u8]) -> Option<u32> {
     let rest = std::str::from_utf8(name.strip_prefix(front)?).ok()?;
     let (process, random) = rest.strip_suffix(END)?.split_once('.')?;
-    let is_random = random.len() == 2 * RANDOM && random.bytes().all(|byte| byte.is_ascii_hexdigit());
+    let is_random = !random.is_empty() && random.bytes().all(|byte| byte.is_ascii_hexdigit());
     is_random.then(|| process.parse().ok()).flatten()
 }
 
@@ -50,6 +50,16 @@ pub fn is_beside(name: &OsStr) -> bool {
 
 /// Removes the files beside a path that processes left which were killed.
 pub fn remove_left(path: &Path) {
+    remove_beside(path, false);
+}
+
+/// The same, and also what a server left beside a path that runs, but does not answer: else a call that is held up would
+/// put it there later.
+pub fn remove_apart(path: &Path) {
+    remove_beside(path, true);
+}
+
+fn remove_beside(path: &Path, of_running: bool) {
     let folder = match path.parent() {
         Some(folder) if !folder.as_os_str().is_empty() => folder,
         _ => Path::new("."),
@@ -57,8 +67,12 @@ pub fn remove_left(path: &Path) {
     let front = front(path);
     for entry in std::fs::read_dir(folder).into_iter().flatten().flatten() {
         let process = process_of(entry.file_name().as_bytes(), &front);
-        if process.map_or(false, |number| !is_running(number)) {
-            remove_unused(&entry.path());
+        let is_left = process.map_or(false, |number| !is_running(number));
+        let is_folder = process.is_some() && entry.file_type().map_or(false, |kind| kind.is_dir());
+        match (is_folder, is_left) {
+            (true, _) if is_left || of_running => super::apart::remove_folder(&entry.path()),
+            (false, true) => remove_unused(&entry.path()),
+            _ => {}
         }
     }
 }

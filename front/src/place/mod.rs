@@ -4,6 +4,7 @@
 //! file out to the disk when it is renamed over another (a rename of 12 MB takes some 20 ms), but not when it is
 //! exchanged. The old file then has the name beside, and is removed.
 
+mod apart;
 mod beside;
 mod lease;
 mod new_file;
@@ -12,7 +13,8 @@ mod runtime;
 mod tests;
 mod writing;
 
-pub use beside::{is_beside, remove_left};
+pub use apart::Apart;
+pub use beside::{is_beside, remove_apart, remove_left};
 pub use lease::has_writer;
 pub use new_file::{put_in_place, NewFile, Opened};
 pub use runtime::runtime_folder;

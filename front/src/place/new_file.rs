@@ -220,7 +220,7 @@ pub fn put_in_place(beside: &Path, target: &Path) -> io::Result<Option<PathBuf>>
 }
 
 /// What a path leads to by symbolic links, also where no file is there yet.
-fn resolved(path: &Path) -> io::Result<PathBuf> {
+pub(super) fn resolved(path: &Path) -> io::Result<PathBuf> {
     let mut path = path.to_owned();
     for _ in 0..MOST_LINKS {
         match fs::read_link(&path) {

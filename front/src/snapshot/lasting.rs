@@ -1,8 +1,9 @@
 //! Whether a path leads to the same file in another process.
 
 use std::collections::HashMap;
+use std::ffi::OsString;
 use std::fs;
-use std::path::{Path, PathBuf};
+use std::path::{Component, Path, PathBuf};
 
 /// The symbolic links that are followed, as the system does.
 const MOST_LINKS: usize = 40;
@@ -37,4 +38,47 @@ fn is_lasting(path: &Path, folders: &mut HashMap<PathBuf, Option<PathBuf>>) -> O
         }
     }
     None
+}
+
+/// Whether a path goes by `/dev` or `/proc`, as `/dev/stdin` does, where each process may find something else. The
+/// symbolic links on the way are followed, also where nothing is at their end.
+pub fn is_by_process(path: &Path) -> bool {
+    let whole = std::env::current_dir().unwrap_or_default().join(path);
+    let mut names = names_of(&whole);
+    names.reverse();
+    let (mut place, mut links) = (PathBuf::from("/"), 0);
+    while let Some(name) = names.pop() {
+        if name == ".." {
+            place.pop();
+            continue;
+        }
+        place.push(&name);
+        let is_shared = place.starts_with("/dev/shm");
+        if !is_shared && place.components().count() > 2 && (place.starts_with("/dev") || place.starts_with("/proc")) {
+            return true;
+        }
+        if let Ok(link) = fs::read_link(&place) {
+            links += 1;
+            if links > MOST_LINKS {
+                return false;
+            }
+            place.pop();
+            if link.is_absolute() {
+                place = PathBuf::from("/");
+            }
+            names.extend(names_of(&link).into_iter().rev());
+        }
+    }
+    false
+}
+
+/// The names on a way, from the first to the last.
+fn names_of(path: &Path) -> Vec<OsString> {
+    path.components()
+        .filter_map(|part| match part {
+            Component::Normal(name) => Some(name.to_owned()),
+            Component::ParentDir => Some("..".into()),
+            _ => None,
+        })
+        .collect()
 }

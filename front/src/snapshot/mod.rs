@@ -13,7 +13,7 @@ mod tests;
 pub use bytes::Bytes;
 pub use file::{look, open_regular, read_any, read_open, read_regular, FileId, ReadFault, Seen, Stamp};
 
-pub use lasting::are_lasting;
+pub use lasting::{are_lasting, is_by_process};
 
 use crate::script::ScriptFiles;
 use indexmap::IndexMap;
@@ -47,6 +47,12 @@ fn is_file(found: &Stat) -> bool {
     file::kind_of(found) == FileType::RegularFile
 }
 
+/// Whether a path leads to what is neither a regular file nor a folder.
+fn is_stream(path: &Path) -> bool {
+    let kind = look(path).ok().map(|found| file::kind_of(&found));
+    kind.map_or(false, |kind| !matches!(kind, FileType::RegularFile | FileType::Directory))
+}
+
 /// What is not as it was looked at.
 #[derive(Clone, PartialEq, Eq, Debug, Default)]
 pub struct Changes {
@@ -72,6 +78,34 @@ pub struct Snapshot {
     before: HashMap<PathBuf, Seen>,
     looks: Option<Looks>,
     is_of_regular_files: bool,
+    shared: Option<Shared>,
+}
+
+/// What a snapshot of a server goes by: it reads what is the same for the calls.
+#[derive(Debug, Default)]
+struct Shared {
+    /// By folder: whether each process may find another one.
+    folders: HashMap<PathBuf, bool>,
+    /// The first path that was not read, as each process may find something else there.
+    refused: Option<PathBuf>,
+}
+
+impl Shared {
+    /// Whether a path may be looked at.
+    fn allows(&mut self, path: &Path) -> bool {
+        let folder = path.parent().map(Path::to_owned).unwrap_or_default();
+        let is_private = *self.folders.entry(folder).or_insert_with_key(|folder| is_by_process(folder));
+        let is_refused = match std::fs::symlink_metadata(path).map(|found| found.file_type()) {
+            Ok(kind) if kind.is_file() || kind.is_dir() => is_private,
+            Ok(kind) if kind.is_symlink() => is_private || is_stream(path) || is_by_process(path),
+            Ok(_) => true,
+            Err(_) => is_private,
+        };
+        if is_refused && self.refused.is_none() {
+            self.refused = Some(path.to_owned());
+        }
+        !is_refused
+    }
 }
 
 impl Snapshot {
@@ -85,11 +119,26 @@ impl Snapshot {
         Snapshot { is_of_regular_files: true, ..Snapshot::default() }
     }
 
+    /// The same for a server: what is another file to each process, or can be read only once, is not read.
+    pub fn shared() -> Snapshot {
+        Snapshot { shared: Some(Shared::default()), ..Snapshot::default() }
+    }
+
     /// The next one: what this one read is not read again where it is still the same.
     #[must_use]
     pub fn next(self) -> Snapshot {
+        let shared = self.shared.map(|_| Shared::default());
         let before = self.files.into_iter().filter_map(|(path, seen)| Some((path, seen?))).collect();
-        Snapshot { before, is_of_regular_files: self.is_of_regular_files, ..Snapshot::default() }
+        Snapshot { before, shared, is_of_regular_files: self.is_of_regular_files, ..Snapshot::default() }
+    }
+
+    /// The first path that a server did not read.
+    pub fn refused(&self) -> Option<&Path> {
+        self.shared.as_ref()?.refused.as_deref()
+    }
+
+    fn allows(&mut self, path: &Path) -> bool {
+        self.shared.as_mut().map_or(true, |shared| shared.allows(path))
     }
 
     /// The bytes of a regular file. Where it has the bytes that it had, they are the same in memory.
@@ -105,11 +154,16 @@ impl Snapshot {
     /// # Errors
     /// It is not there, a folder, a pipe that nobody writes, or cannot be read.
     pub fn read_any(&mut self, path: &Path) -> Result<Bytes, ReadFault> {
-        self.read_by(path, if self.is_of_regular_files { read_regular } else { read_any })
+        let is_regular = self.is_of_regular_files || self.shared.is_some();
+        self.read_by(path, if is_regular { read_regular } else { read_any })
     }
 
     fn read_by(&mut self, path: &Path, read: fn(&Path) -> Result<Seen, ReadFault>) -> Result<Bytes, ReadFault> {
         self.looks = None;
+        if !self.allows(path) {
+            self.files.insert(path.to_owned(), None);
+            return Err(ReadFault::NotRegular);
+        }
         let old = self.files.get(path).cloned().flatten().or_else(|| self.before.remove(path));
         let found = match old {
             Some(old) if looks::is_same_stamp(path, &old) && old.is_settled => Ok(old),
@@ -131,7 +185,7 @@ impl Snapshot {
     }
 
     fn ask(&mut self, question: Question, path: &Path) -> bool {
-        let answer = question.ask(path);
+        let answer = self.allows(path) && question.ask(path);
         self.questions.insert((question, path.to_owned()), answer);
         answer
     }

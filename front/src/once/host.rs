@@ -1,0 +1,54 @@
+//! Whose link it is: that of this process, or one that a server makes for a call.
+
+use std::ffi::OsString;
+use std::path::Path;
+
+use rustix::fs::Mode;
+
+use super::fallback::{hand_over, Reasons};
+use super::Status;
+use crate::place::{write_file, NotWritten, Reader};
+use crate::plan::Environment;
+
+/// What a link leaves to the process that makes it.
+pub(crate) trait Host {
+    /// Writes a file; `mode` is less the umask.
+    ///
+    /// # Errors
+    /// It cannot be written, and then the old one stands as it was.
+    fn write(&self, path: &Path, pieces: &[&[u8]], mode: Mode) -> Result<(), NotWritten>;
+
+    /// Has another linker link; gives a status where none does.
+    fn hand_over(&self, reasons: &Reasons<'_>, link: &Asked<'_>) -> Status;
+
+    /// Whether the session is for other links too.
+    fn keeps_session(&self) -> bool;
+}
+
+/// What was asked for.
+#[derive(Clone, Copy)]
+pub(crate) struct Asked<'a> {
+    /// The words, as they were given.
+    pub(crate) words: &'a [OsString],
+    /// The variables.
+    pub(crate) environment: &'a Environment,
+    /// `--verbose`
+    pub(crate) is_verbose: bool,
+}
+
+/// The process of one link.
+pub(super) struct Alone;
+
+impl Host for Alone {
+    fn write(&self, path: &Path, pieces: &[&[u8]], mode: Mode) -> Result<(), NotWritten> {
+        write_file(path, pieces, mode, Reader::IsWaitedFor)
+    }
+
+    fn hand_over(&self, reasons: &Reasons<'_>, link: &Asked<'_>) -> Status {
+        hand_over(reasons, link.words, link.environment, link.is_verbose)
+    }
+
+    fn keeps_session(&self) -> bool {
+        false
+    }
+}

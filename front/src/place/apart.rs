@@ -1,0 +1,96 @@
+//! A new file in a folder of its own beside its place, which another process puts there.
+//!
+//! Only this user can enter the folder. So when the file is removed again, nobody who may write beside it can give a
+//! process that was held up something else in its place.
+
+use super::beside::new_name;
+use super::writing::write_all;
+use rustix::fs::{cwd, renameat, renameat_with, unlinkat, AtFlags, Mode, OFlags, RenameFlags};
+use std::fs::{self, DirBuilder, File, OpenOptions};
+use std::io;
+use std::os::unix::fs::{DirBuilderExt, MetadataExt, OpenOptionsExt};
+use std::path::{Path, PathBuf};
+
+/// The file's name in its folder.
+const NAME: &str = "new";
+
+/// A file that is whole, and not in its place yet.
+#[derive(Clone, PartialEq, Eq, Debug)]
+pub struct Apart {
+    /// The folder of its own.
+    pub folder: PathBuf,
+    /// Its place.
+    pub target: PathBuf,
+}
+
+impl Apart {
+    /// Writes the pieces of a file whose place is the path, or what that leads to; `mode` is less the umask. `None`
+    /// where the place is one of no regular file.
+    ///
+    /// # Errors
+    /// It cannot be written, and then nothing is left of it.
+    pub fn write(path: &Path, pieces: &[&[u8]], mode: Mode) -> io::Result<Option<Apart>> {
+        let target = super::new_file::resolved(path)?;
+        match fs::metadata(&target) {
+            Ok(found) if !found.is_file() => return Ok(None),
+            Err(fault) if fault.kind() != io::ErrorKind::NotFound => return Err(fault),
+            _ => {}
+        }
+        if path.file_name().is_none() || target.file_name().is_none() {
+            return Ok(None);
+        }
+        let target = fs::canonicalize(folder_of(&target))?.join(target.file_name().unwrap_or_default());
+        let folder = new_name(&target)?;
+        DirBuilder::new().mode(0o700).create(&folder)?;
+        let apart = Apart { folder, target };
+        let mut options = OpenOptions::new();
+        options.write(true).create_new(true).mode(mode.bits());
+        let written = options.open(apart.folder.join(NAME)).and_then(|mut file| write_all(&mut file, pieces));
+        match written {
+            Ok(()) => Ok(Some(apart)),
+            Err(fault) => {
+                apart.remove();
+                Err(fault)
+            }
+        }
+    }
+
+    /// Puts it in place, in one step: the names are exchanged where there is a regular file, which is quicker on ext4.
+    ///
+    /// # Errors
+    /// It is not there any more, is not this user's, or cannot be put there.
+    pub fn put(&self) -> io::Result<()> {
+        let folder = opened(&self.folder)?;
+        if folder.metadata()?.uid() != rustix::process::getuid().as_raw() {
+            return Err(io::Error::from(io::ErrorKind::PermissionDenied));
+        }
+        let is_regular = fs::symlink_metadata(&self.target).map_or(false, |found| found.is_file());
+        if is_regular && renameat_with(&folder, NAME, cwd(), &self.target, RenameFlags::EXCHANGE).is_ok() {
+            return Ok(());
+        }
+        Ok(renameat(&folder, NAME, cwd(), &self.target)?)
+    }
+
+    /// Removes the folder, with the new file or with the old one that was exchanged for it.
+    pub fn remove(&self) {
+        remove_folder(&self.folder);
+    }
+}
+
+/// A descriptor of a folder, which is no symbolic link to one.
+fn opened(path: &Path) -> io::Result<File> {
+    let flags = OFlags::PATH | OFlags::DIRECTORY | OFlags::NOFOLLOW;
+    OpenOptions::new().read(true).custom_flags(flags.bits() as i32).open(path)
+}
+
+/// Removes a folder of this kind.
+pub(super) fn remove_folder(path: &Path) {
+    if let Ok(folder) = opened(path) {
+        let _ = unlinkat(&folder, NAME, AtFlags::empty());
+    }
+    let _ = fs::remove_dir(path);
+}
+
+fn folder_of(path: &Path) -> &Path {
+    path.parent().filter(|folder| !folder.as_os_str().is_empty()).unwrap_or_else(|| Path::new("."))
+}

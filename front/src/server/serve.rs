@@ -1,0 +1,429 @@
+//! The loop of a server: takes calls one at a time, shows that it works, and ends when it is no longer wanted.
+//!
+//! The first thread only waits and answers; another one makes the links. So a second call is told at once that the
+//! server is busy, and a call that hears nothing knows that the server is stopped.
+
+use std::ffi::OsString;
+use std::fs;
+use std::io::{self, Read, Write};
+use std::os::unix::ffi::OsStrExt;
+use std::os::unix::io::{AsFd, AsRawFd};
+use std::os::unix::net::{UnixListener, UnixStream};
+use std::path::{Path, PathBuf};
+use std::sync::atomic::{AtomicU32, Ordering};
+use std::sync::mpsc::{channel, Receiver, Sender};
+use std::sync::Arc;
+use std::time::{Duration, Instant};
+
+use rustix::io::{poll, PollFd, PollFlags};
+use signal_hook::consts::{SIGHUP, SIGINT, SIGTERM};
+
+use super::call::{is_own, seconds_of};
+use super::key::{output_of, program_marks, real_path, sockets, standing, value_of};
+use super::links::{remove, Links, Outcome, Wish};
+use super::status::{ask, State};
+use super::usage::{memory_limit, resident, work_of};
+use super::wire::{Kind, Message, Reader};
+use crate::place::{remove_left, Apart};
+use crate::plan::Environment;
+use crate::report::Style;
+use crate::snapshot::{look, FileId, Stamp};
+
+/// Seconds without a call, after which a server ends; LDI_SERVER_IDLE has others.
+const IDLE: f64 = 600.0;
+/// The time after which it looks whether it is still wanted.
+const PERIOD: Duration = Duration::from_secs(1);
+/// The time after which a call hears again that its link is being made.
+const BEAT: Duration = Duration::from_millis(30);
+/// The time that a call has to put its files in place.
+const LONGEST_PLACING: Duration = Duration::from_secs(10);
+/// The time in which neither a link's threads nor its session have worked, after which it is given up, and the server.
+const LONGEST_REST: Duration = Duration::from_secs(5);
+/// The time that a call has to say what it wants.
+const REQUEST: Duration = Duration::from_millis(100);
+/// The bytes of the stack of the thread that links, as the system's first thread has at least.
+const STACK: usize = 16 << 20;
+
+/// The program that a call starts: the listening socket is its standard input, the word is the path of that.
+pub fn main(words: &[OsString]) -> u8 {
+    let path = match words {
+        [path] => PathBuf::from(path),
+        _ => return 2,
+    };
+    let environment: Environment = std::env::vars_os().collect();
+    // A server that cannot start has ended; the call that started it links by itself.
+    match detached().and_then(|listener| Server::new(path, listener, environment)) {
+        Ok(mut server) => {
+            server.run();
+            server.end();
+            0
+        }
+        Err(_) => 3,
+    }
+}
+
+/// The socket; the standard streams lead nowhere, and nothing else is open that the build may wait for.
+fn detached() -> io::Result<UnixListener> {
+    let listener = std::io::stdin().as_fd().try_clone_to_owned()?;
+    let nowhere = fs::OpenOptions::new().read(true).write(true).open("/dev/null")?;
+    nix::unistd::dup2(nowhere.as_raw_fd(), 0)?;
+    let own = [listener.as_raw_fd(), nowhere.as_raw_fd()];
+    let names = fs::read_dir("/proc/self/fd")?.flatten().map(|entry| entry.file_name());
+    let numbers: Vec<i32> = names.filter_map(|name| name.to_str()?.parse().ok()).collect();
+    for number in numbers.into_iter().filter(|number| *number > 2 && !own.contains(number)) {
+        let _ = nix::unistd::close(number); // that of the list itself is closed
+    }
+    // It is none where the call has set it apart already.
+    let _ = rustix::process::setsid();
+    let listener = UnixListener::from(listener);
+    listener.set_nonblocking(true)?;
+    Ok(listener)
+}
+
+/// A call that is being served.
+struct Job {
+    connection: UnixStream,
+    /// The new files, and until when they have to be in place.
+    placing: Option<(Vec<Apart>, Instant)>,
+    /// What was done for it when that was last another number, and when.
+    work: Vec<String>,
+    worked: Instant,
+}
+
+/// A server, from its start to its end.
+struct Server {
+    path: PathBuf,
+    own: Option<FileId>,
+    listener: UnixListener,
+    wake: UnixStream,
+    /// A signal came where something can be read.
+    signals: UnixStream,
+    wishes: Sender<Wish>,
+    outcomes: Receiver<Outcome>,
+    session: Arc<AtomicU32>,
+    environment: Environment,
+    /// The key of its calls, and the output.
+    key: Option<(Vec<u8>, PathBuf, Option<FileId>)>,
+    standing: Vec<Vec<u8>>,
+    programs: Vec<(PathBuf, Option<Stamp>)>,
+    job: Option<Job>,
+    /// The links that were made.
+    made: u64,
+    last_call: Instant,
+    /// The bytes that it held when it last looked at all servers together.
+    held: u64,
+    is_ending: bool,
+}
+
+impl Server {
+    fn new(path: PathBuf, listener: UnixListener, environment: Environment) -> io::Result<Server> {
+        let (signals, raised) = UnixStream::pair()?;
+        for signal in [SIGTERM, SIGINT, SIGHUP] {
+            signal_hook::low_level::pipe::register(signal, raised.try_clone()?)?;
+        }
+        let (wake, waker) = UnixStream::pair()?;
+        wake.set_nonblocking(true)?;
+        let (wishes, wished) = channel();
+        let (made, outcomes) = channel();
+        let links = Links::new(environment.clone());
+        let session = links.session();
+        let work = move || links_of(links, &wished, &made, &waker);
+        std::thread::Builder::new().stack_size(STACK).spawn(work)?;
+        Ok(Server {
+            own: identity(&path),
+            path,
+            listener,
+            wake,
+            signals,
+            wishes,
+            outcomes,
+            session,
+            programs: program_marks(&environment),
+            environment,
+            key: None,
+            standing: standing()?,
+            job: None,
+            made: 0,
+            last_call: Instant::now(),
+            held: 0,
+            is_ending: false,
+        })
+    }
+
+    fn run(&mut self) {
+        while !self.is_ending {
+            if self.turn().is_err() {
+                self.is_ending = true;
+            }
+        }
+    }
+
+    /// Waits for a call, the end of a link, or time to look.
+    fn turn(&mut self) -> io::Result<()> {
+        let is_working = self.job.as_ref().map_or(false, |job| job.placing.is_none());
+        let mut waited = vec![
+            PollFd::new(&self.listener, PollFlags::IN),
+            PollFd::new(&self.wake, PollFlags::IN),
+            PollFd::new(&self.signals, PollFlags::IN),
+        ];
+        let placing = self.job.iter().filter(|job| job.placing.is_some()).map(|job| &job.connection);
+        waited.extend(placing.map(|connection| PollFd::new(connection, PollFlags::IN)));
+        let limit = if is_working { BEAT } else { PERIOD };
+        match poll(&mut waited, limit.as_millis() as i32) {
+            Err(rustix::io::Errno::INTR) => return Ok(()),
+            done => done?,
+        };
+        let ready: Vec<bool> = waited.iter().map(|one| !one.revents().is_empty()).collect();
+        drop(waited);
+        let is_ready = |number: usize| ready.get(number).copied().unwrap_or(false);
+        if is_ready(2) {
+            self.is_ending = true;
+            return Ok(());
+        }
+        if is_ready(1) {
+            let mut bytes = [0; 64];
+            while matches!(self.wake.read(&mut bytes), Ok(count) if count > 0) {}
+        }
+        self.go_on(is_ready(3));
+        if is_ready(0) {
+            self.accept();
+        }
+        if self.job.is_none() && !self.is_ending {
+            self.look();
+        }
+        Ok(())
+    }
+
+    // a call
+
+    fn accept(&mut self) {
+        let connection = match self.listener.accept() {
+            Ok((connection, _)) => connection,
+            Err(_) => return,
+        };
+        // What is wrong with a call is its own business.
+        let _ = self.take(connection);
+    }
+
+    fn take(&mut self, connection: UnixStream) -> io::Result<()> {
+        connection.set_nonblocking(false)?;
+        connection.set_read_timeout(Some(REQUEST))?;
+        connection.set_write_timeout(Some(REQUEST))?;
+        if !is_own(&connection) {
+            return Ok(());
+        }
+        let message = Message::receive(&connection)?;
+        match message.kind {
+            Kind::Status => self.state().message().send(&connection),
+            Kind::Stop => {
+                self.is_ending = true;
+                self.state().message().send(&connection)
+            }
+            Kind::Link => self.begin(connection, message),
+            _ => Ok(()),
+        }
+    }
+
+    /// Begins the link of a call.
+    fn begin(&mut self, connection: UnixStream, message: Message) -> io::Result<()> {
+        if self.job.as_ref().map_or(false, |job| job.placing.is_some()) {
+            self.finish(); // what is not in place by now never is: that call links by itself
+        }
+        let mut reader = Reader::of(message);
+        let parts = (|| Some((reader.text()?, reader.number()?, reader.number::<u8>()?)))();
+        let (key, mask, is_coloured) = parts.ok_or(io::ErrorKind::InvalidData)?;
+        let words: Vec<OsString> = reader.rest().iter().map(|word| std::ffi::OsStr::from_bytes(word).into()).collect();
+        if self.job.is_some() {
+            return Message::of(Kind::Refused).with("it is busy with another call").send(&connection);
+        }
+        if let Some(why) = self.hindrance(&key) {
+            return Message::of(Kind::Refused).with(why).send(&connection);
+        }
+        if self.key.is_none() {
+            let output = real_path(&output_of(&words));
+            remove_left(&output);
+            let folder = output.parent().and_then(identity);
+            self.key = Some((key, output, folder));
+        }
+        let style = if is_coloured == 0 { Style::Line } else { Style::Coloured };
+        Message::of(Kind::Working).send(&connection)?;
+        self.job = Some(Job { connection, placing: None, work: Vec::new(), worked: Instant::now() });
+        self.wishes.send(Wish { words, mask, style }).map_err(|_| io::ErrorKind::BrokenPipe.into())
+    }
+
+    /// Why a call is not this server's.
+    fn hindrance(&mut self, key: &[u8]) -> Option<&'static str> {
+        let is_own_key = self.key.as_ref().map_or(true, |(own, ..)| own == key);
+        if program_marks(&self.environment) != self.programs {
+            self.is_ending = is_own_key;
+            return Some("it is of another version");
+        }
+        let is_here = standing().map_or(false, |now| now == self.standing);
+        (!is_own_key || !is_here).then_some("it is of another folder")
+    }
+
+    /// Shows that the link is being made, or hands over what came of it, or clears up after the call.
+    fn go_on(&mut self, is_ready: bool) {
+        let now = Instant::now();
+        let job = match &mut self.job {
+            Some(job) => job,
+            None => return,
+        };
+        if let Some((_, until)) = &job.placing {
+            if is_ready || now > *until {
+                self.finish();
+            }
+            return;
+        }
+        match self.outcomes.try_recv() {
+            Ok(outcome) => self.hand_over(outcome),
+            Err(_) if rests(job, self.session.load(Ordering::SeqCst), now) => {
+                self.is_ending = true;
+                let _ = Message::of(Kind::Refused).with("its link does not go on").send(&job.connection);
+            }
+            // Where the call has gone, its link goes on all the same.
+            Err(_) => drop(Message::of(Kind::Working).send(&job.connection)),
+        }
+    }
+
+    fn hand_over(&mut self, outcome: Outcome) {
+        self.made += u64::from(outcome.is_made);
+        if self.made == 0 {
+            // Without a link that it could keep there is no server; its socket is gone before the call is.
+            self.is_ending = true;
+            self.remove_socket();
+        }
+        if let Some(job) = &mut self.job {
+            let is_sent = outcome.message.send(&job.connection).is_ok();
+            let is_placed = outcome.is_made && is_sent;
+            job.placing = Some((outcome.places, Instant::now() + LONGEST_PLACING));
+            if !is_placed {
+                self.finish();
+            }
+        }
+    }
+
+    fn finish(&mut self) {
+        if let Some((places, _)) = self.job.take().and_then(|job| job.placing) {
+            remove(&places);
+        }
+        self.last_call = Instant::now();
+        let limit = memory_limit(&value_of(&self.environment, "LDI_SERVER_MEMORY"));
+        if self.made > 1 && self.memory() > limit {
+            self.is_ending = true;
+        }
+        self.share();
+    }
+
+    // whether it is wanted
+
+    /// Ends where the socket or the folder is gone or another's, other programs are there, or no call comes.
+    fn look(&mut self) {
+        let idle = seconds_of(&value_of(&self.environment, "LDI_SERVER_IDLE"), IDLE);
+        let folder = self.key.as_ref().map_or(true, |(_, output, id)| output.parent().and_then(identity) == *id);
+        let is_wanted = self.last_call.elapsed() <= idle
+            && identity(&self.path) == self.own
+            && folder
+            && program_marks(&self.environment) == self.programs;
+        self.is_ending = !is_wanted;
+    }
+
+    /// Has the oldest servers end where all hold too much together; looks again when it holds an eighth more.
+    fn share(&mut self) {
+        let held = self.memory();
+        if held <= self.held + (self.held >> 3) {
+            return;
+        }
+        self.held = held;
+        let limit = memory_limit(&value_of(&self.environment, "LDI_SERVER_MEMORY"));
+        let (path, left) = (self.path.clone(), limit.saturating_sub(held));
+        // Without a thread the others stay as they are.
+        let _ = std::thread::Builder::new().spawn(move || end_oldest(&path, left));
+    }
+
+    fn state(&self) -> State {
+        State {
+            output: self.key.as_ref().map_or_else(PathBuf::new, |(_, output, _)| output.clone()),
+            folder: std::env::current_dir().unwrap_or_default(),
+            process: std::process::id(),
+            calls: self.made.saturating_sub(1),
+            memory: self.memory(),
+            idle: u64::try_from(self.last_call.elapsed().as_micros()).unwrap_or(u64::MAX),
+            is_busy: self.job.is_some(),
+        }
+    }
+
+    /// The bytes that the server and its session hold.
+    fn memory(&self) -> u64 {
+        resident(std::process::id()) + resident(self.session.load(Ordering::SeqCst))
+    }
+
+    // the end
+
+    fn remove_socket(&self) {
+        if self.own.is_some() && identity(&self.path) == self.own {
+            let _ = fs::remove_file(&self.path);
+        }
+    }
+
+    /// Leaves nothing behind.
+    fn end(&mut self) {
+        self.remove_socket();
+        if let Some((places, _)) = self.job.take().and_then(|job| job.placing) {
+            remove(&places);
+        }
+        let session = self.session.load(Ordering::SeqCst);
+        if let Some(session) = i32::try_from(session).ok().filter(|number| *number > 0) {
+            // One that is stopped does not see the end of its input.
+            let _ = nix::sys::signal::kill(nix::unistd::Pid::from_raw(session), nix::sys::signal::Signal::SIGKILL);
+        }
+        std::process::exit(0)
+    }
+}
+
+/// Makes links as they are wished.
+fn links_of(mut links: Links, wished: &Receiver<Wish>, made: &Sender<Outcome>, mut waker: &UnixStream) {
+    for wish in wished {
+        let is_sent = made.send(links.make(&wish)).is_ok();
+        if !is_sent || waker.write_all(b"w").is_err() {
+            return;
+        }
+    }
+}
+
+/// Whether nothing has worked on a link for long, as where its session was stopped.
+fn rests(job: &mut Job, session: u32, now: Instant) -> bool {
+    let work = work_of(session);
+    if work != job.work {
+        job.work = work;
+        job.worked = now;
+    }
+    now.duration_since(job.worked) > LONGEST_REST
+}
+
+fn identity(path: &Path) -> Option<FileId> {
+    look(path).ok().map(|found| Stamp::of(&found).id)
+}
+
+/// Leaves so many bytes to the other servers: those that were not called for longest end.
+fn end_oldest(own: &Path, mut left: u64) {
+    let folder = own.parent().unwrap_or_else(|| Path::new("."));
+    let others = sockets(folder).into_iter().filter(|path| path != own);
+    let mut found: Vec<(u64, u64, PathBuf)> = others
+        .filter_map(|path| {
+            let state = ask(&path, Kind::Status).ok()??;
+            (!state.is_busy).then_some((state.idle, state.memory, path))
+        })
+        .collect();
+    found.sort();
+    for (_, memory, path) in found {
+        match left.checked_sub(memory) {
+            Some(rest) => left = rest,
+            None => {
+                left = 0;
+                // One that gives no answer ends for another reason.
+                let _ = ask(&path, Kind::Stop);
+            }
+        }
+    }
+}
