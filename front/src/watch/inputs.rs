@@ -303,3 +303,53 @@ impl Inputs {
         Ok(self.ask_writers() || has_changed)
     }
 }
+
+#[cfg(test)]
+mod tests {
+    use super::{Changed, Inputs};
+    use crate::watch::events::{Event, Kind};
+    use std::fs;
+    use std::path::PathBuf;
+    use std::time::Instant;
+
+    /// Inputs over a file that was read.
+    fn read(name: &str) -> (PathBuf, Inputs) {
+        let folder = std::env::temp_dir().canonicalize().unwrap();
+        let path = folder.join(format!("ldi-inputs-{name}-{}", std::process::id()));
+        fs::write(&path, "one").unwrap();
+        let mut inputs = Inputs::new();
+        assert_eq!(inputs.read().unwrap(), Changed::All);
+        inputs.begin_anew();
+        inputs.snapshot.read(&path).unwrap();
+        inputs.end_search(true).unwrap();
+        (path, inputs)
+    }
+
+    fn event(path: &PathBuf, kind: Kind) -> Event {
+        Event { path: path.clone(), kind, is_folder: false }
+    }
+
+    #[test]
+    fn other_bytes_are_read_when_their_writer_has_closed_the_file() {
+        let (path, mut inputs) = read("bytes");
+        assert_eq!(inputs.after.iter().collect::<Vec<_>>(), [&path]);
+        assert!(inputs.take(&event(&path, Kind::Writing), Instant::now()));
+        assert_eq!(inputs.waiting(), [(path.display().to_string(), "it is being written".to_owned())]);
+        fs::write(&path, "two").unwrap();
+        assert_eq!(inputs.read().unwrap(), Changed::Bytes(Vec::new()));
+        inputs.take(&event(&path, Kind::Whole), Instant::now());
+        assert_eq!(inputs.read().unwrap(), Changed::Bytes(vec![path.clone()]));
+        assert!(inputs.waiting().is_empty());
+        fs::remove_file(path).unwrap();
+    }
+
+    #[test]
+    fn a_file_that_goes_is_waited_for_and_all_is_found_anew() {
+        let (path, mut inputs) = read("gone");
+        fs::remove_file(&path).unwrap();
+        inputs.take(&event(&path, Kind::Gone), Instant::now());
+        assert_eq!(inputs.read().unwrap(), Changed::All);
+        assert_eq!(inputs.waiting(), [(path.display().to_string(), "it is not there".to_owned())]);
+        assert!(!inputs.take(&event(&path.with_extension("other"), Kind::Whole), Instant::now()));
+    }
+}

@@ -116,3 +116,29 @@ pub(super) fn check_files(words: &Words) -> Result<(), NamesRefused> {
     }
     check_outputs(words, &object_names(&words.objects, &lists)?)
 }
+
+#[cfg(test)]
+mod tests {
+    use super::{names_in, object_names};
+    use crate::snapshot::Bytes;
+    use crate::watch::words::Named;
+    use std::collections::HashMap;
+    use std::path::PathBuf;
+
+    #[test]
+    fn a_list_has_a_name_a_line() {
+        assert_eq!(names_in(b"a.o\n\nb.o").collect::<Vec<_>>(), ["a.o", "b.o"]);
+    }
+
+    #[test]
+    fn lists_and_objects_stand_in_their_order_and_a_name_once() {
+        let items = [Named::Object("z.o".into()), Named::List("list".into()), Named::Object("y.o".into())];
+        let named = |text: &str| {
+            let lists: HashMap<PathBuf, Bytes> = [("list".into(), Bytes::from(text.as_bytes().to_vec()))].into();
+            object_names(&items, &lists).map_err(|refused| (refused.to_string(), refused.line))
+        };
+        assert_eq!(named("a.o\nb.o\n").unwrap(), ["z.o", "a.o", "b.o", "y.o"]);
+        assert_eq!(named("y.o").unwrap_err(), ("`y.o` is named twice".to_owned(), "refused 1 0"));
+        assert!(named("a b.o").unwrap_err().0.contains("the byte 0x20"));
+    }
+}

@@ -208,3 +208,89 @@ fn digest_of(path: &Path) -> Option<u64> {
     fs::read(path).ok()?.hash(&mut hasher);
     Some(hasher.finish())
 }
+
+#[cfg(test)]
+mod tests {
+    use super::{Command, Making, Sources, Watcher};
+    use crate::watch::jobserver::Jobserver;
+    use std::fs;
+    use std::os::unix::process::ExitStatusExt;
+    use std::path::{Path, PathBuf};
+    use std::process::ExitStatus;
+
+    /// A folder of its own, which is removed.
+    struct Folder(PathBuf);
+
+    impl Folder {
+        fn new(name: &str) -> Folder {
+            let path = std::env::temp_dir().join(format!("ldi-making-{name}-{}", std::process::id()));
+            fs::create_dir_all(&path).unwrap();
+            Folder(path.canonicalize().unwrap())
+        }
+
+        fn write(&self, name: &str, text: &str) -> PathBuf {
+            let path = self.0.join(name);
+            fs::write(&path, text).unwrap();
+            path
+        }
+    }
+
+    impl Drop for Folder {
+        fn drop(&mut self) {
+            let _ = fs::remove_dir_all(&self.0);
+        }
+    }
+
+    fn making(folder: &Path, watcher: &mut Watcher) -> Making {
+        let command = Command::new("true", false, &Jobserver::default());
+        Making::new(command, Sources::new(&["*.c".into()], folder), watcher).unwrap()
+    }
+
+    fn ends(making: &mut Making) {
+        making.finish(ExitStatus::from_raw(0));
+    }
+
+    #[test]
+    fn a_source_with_other_bytes_wants_a_run() {
+        let (folder, mut watcher) = (Folder::new("bytes"), Watcher::default());
+        let path = folder.write("a.c", "one");
+        let mut making = making(&folder.0, &mut watcher);
+        making.is_wanted = false;
+        folder.write("a.c", "one");
+        assert!(!making.changed(&path, &mut watcher).unwrap() && making.is_done());
+        folder.write("a.c", "two");
+        assert!(making.changed(&path, &mut watcher).unwrap() && !making.is_done());
+    }
+
+    #[test]
+    fn a_save_within_a_run_leads_to_another_and_there_are_pauses_after_four() {
+        let (folder, mut watcher) = (Folder::new("saves"), Watcher::default());
+        let path = folder.write("a.c", "0");
+        let mut making = making(&folder.0, &mut watcher);
+        for run in 1..=4 {
+            (making.is_wanted, making.is_running) = (false, true);
+            folder.write("a.c", &run.to_string());
+            assert!(!making.changed(&path, &mut watcher).unwrap());
+            ends(&mut making);
+            assert!(making.is_wanted);
+            assert_eq!(making.pauses(), run == 4);
+        }
+        assert_eq!(making.paused_for, [path]);
+    }
+
+    #[test]
+    fn a_file_that_first_appears_in_a_run_is_the_command_s_own() {
+        let (folder, mut watcher) = (Folder::new("own"), Watcher::default());
+        let mut making = making(&folder.0, &mut watcher);
+        (making.is_wanted, making.is_running) = (false, true);
+        let path = folder.write("gen.c", "1");
+        making.changed(&path, &mut watcher).unwrap();
+        ends(&mut making);
+        assert!(making.is_done());
+        making.is_running = true;
+        folder.write("gen.c", "2");
+        making.changed(&path, &mut watcher).unwrap();
+        ends(&mut making);
+        assert!(making.pauses());
+    }
+}

@@ -287,3 +287,33 @@ fn listed(names: &[String]) -> String {
         [name, rest @ ..] => format!("{name} and {} more", rest.len()),
     }
 }
+
+#[cfg(test)]
+mod tests {
+    use super::{kind_of, listed, Teller};
+    use crate::report::Diagnostic;
+    use std::path::Path;
+
+    fn fault(line: &str) -> Diagnostic {
+        let mut one = Diagnostic::error("it is wrong");
+        one.rule = Some(line.into());
+        one
+    }
+
+    #[test]
+    fn names_are_the_first_one_and_how_many_more() {
+        let names: Vec<String> = ["a.o", "b.o", "c.o"].iter().map(|name| (*name).to_owned()).collect();
+        assert_eq!((listed(&names[..0]).as_str(), listed(&names[..1]).as_str()), ("", "a.o"));
+        assert_eq!(listed(&names), "a.o and 2 more");
+    }
+
+    #[test]
+    fn faults_that_stand_longest_come_first_wherever_code_moves_them() {
+        let mut teller = Teller::new(true, Path::new("image"));
+        teller.sort(&mut [fault("F12 a.o .text 0000000000000010 x")]);
+        let mut next = [fault("F12 b.o .text 0000000000000010 x"), fault("F12 a.o .text 0000000000000020 x")];
+        teller.sort(&mut next);
+        assert!(next[0].rule.as_deref().unwrap().contains("a.o"));
+        assert_eq!(kind_of(&next[0]), ["F12", "a.o", ".text", "x"]);
+    }
+}
