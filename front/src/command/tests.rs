@@ -336,7 +336,8 @@ fn every_option_of_gnu_lds_help_is_known() {
 #[test]
 fn the_manual_has_each_option_under_its_effect() {
     let manual = include_str!("../../../docs/makefiles.md");
-    let headings: [(&str, fn(&Effect) -> bool); 4] = [
+    type Belongs = fn(&Effect) -> bool;
+    let headings: [(&str, Belongs); 4] = [
         ("Taken", |effect| matches!(effect, Effect::Taken(_))),
         ("Ignored", |effect| matches!(effect, Effect::Ignored)),
         ("Said", |effect| matches!(effect, Effect::Said(_))),

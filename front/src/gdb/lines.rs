@@ -24,7 +24,7 @@ impl<'a> Places<'a> {
         let after = self.0.partition_point(|piece| piece.address <= address);
         let piece = self.0.get(after.checked_sub(1)?)?;
         let offset = address.checked_sub(piece.address)?;
-        (offset < piece.size).then(|| (*piece, offset))
+        (offset < piece.size).then_some((*piece, offset))
     }
 
     /// A line for an address: its function and line, and its place.

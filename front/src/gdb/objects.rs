@@ -81,7 +81,7 @@ impl<'a> MemberName<'a> {
         let at = inside.rfind_byte(b'(')?;
         let (archive, member) = (inside.get(..at)?, inside.get(at + 1..)?);
         let is_name = !archive.is_empty() && !member.is_empty() && !member.contains(&b')');
-        is_name.then(|| MemberName { archive, member, count })
+        is_name.then_some(MemberName { archive, member, count })
     }
 }
 

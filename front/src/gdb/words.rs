@@ -27,15 +27,15 @@ MAP is the map of the link (ldi link --Map, ld.ldi -Map).
 #[derive(Debug, PartialEq, Eq, thiserror::Error)]
 pub(super) enum WordsRefused {
     #[error("no MAP is given")]
-    NoMap,
+    MapMissing,
     #[error("{0} is no option")]
-    NoOption(String),
+    UnknownOption(String),
     #[error("{0} has no value")]
-    NoValue(String),
+    ValueMissing(String),
     #[error("--symbols needs -o OUT")]
-    NoOutput,
+    OutputMissing,
     #[error("addresses need --lines")]
-    NoLines,
+    LinesMissing,
 }
 
 /// What is to be made.
@@ -109,9 +109,9 @@ impl Call {
                 has_lines = true;
             } else {
                 let (option, value) = joined(word.as_bytes());
-                let place = values.place(option).ok_or_else(|| WordsRefused::NoOption(shown()))?;
+                let place = values.place(option).ok_or_else(|| WordsRefused::UnknownOption(shown()))?;
                 let value = value.map(OsStr::from_bytes).or_else(|| rest.next().map(OsString::as_os_str));
-                *place = Some(PathBuf::from(value.ok_or_else(|| WordsRefused::NoValue(shown()))?));
+                *place = Some(PathBuf::from(value.ok_or_else(|| WordsRefused::ValueMissing(shown()))?));
             }
         }
         Call::of(values, others, has_lines)
@@ -120,12 +120,12 @@ impl Call {
     /// What values and other words come to.
     fn of(values: Values, mut others: Vec<OsString>, has_lines: bool) -> Result<Call, WordsRefused> {
         if others.is_empty() {
-            return Err(WordsRefused::NoMap);
+            return Err(WordsRefused::MapMissing);
         }
         let map = PathBuf::from(others.remove(0));
         let task = match values.image {
-            Some(_) if values.output.is_none() => return Err(WordsRefused::NoOutput),
-            _ if !has_lines && !others.is_empty() => return Err(WordsRefused::NoLines),
+            Some(_) if values.output.is_none() => return Err(WordsRefused::OutputMissing),
+            _ if !has_lines && !others.is_empty() => return Err(WordsRefused::LinesMissing),
             Some(image) => Task::Copy(image),
             None if has_lines => Task::Lines(others),
             None => Task::Script,
@@ -155,10 +155,10 @@ mod tests {
 
     #[test]
     fn words_are_refused() {
-        assert_eq!(read(&[]), Err(WordsRefused::NoMap));
-        assert_eq!(read(&["a.map", "10"]), Err(WordsRefused::NoLines));
-        assert_eq!(read(&["a.map", "--symbols", "i"]), Err(WordsRefused::NoOutput));
-        assert_eq!(read(&["a.map", "-o"]), Err(WordsRefused::NoValue("-o".into())));
-        assert_eq!(read(&["a.map", "--x"]), Err(WordsRefused::NoOption("--x".into())));
+        assert_eq!(read(&[]), Err(WordsRefused::MapMissing));
+        assert_eq!(read(&["a.map", "10"]), Err(WordsRefused::LinesMissing));
+        assert_eq!(read(&["a.map", "--symbols", "i"]), Err(WordsRefused::OutputMissing));
+        assert_eq!(read(&["a.map", "-o"]), Err(WordsRefused::ValueMissing("-o".into())));
+        assert_eq!(read(&["a.map", "--x"]), Err(WordsRefused::UnknownOption("--x".into())));
     }
 }
