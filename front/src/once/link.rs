@@ -244,6 +244,12 @@ impl Link<'_> {
             };
             return Ok(Some(self.no_image(why, &say, status)));
         }
+        if let Some((name, refusal)) = brought.stuck.first() {
+            // A session that is kept, and does not let go of an object of an earlier link: the next one is another.
+            mirror.end();
+            let text = format!("{name} was not taken out: refused {} {}", refusal.number, refusal.inner);
+            return Err(SessionError::NoAnswer(text));
+        }
         if !brought.is_good {
             let faults = mirror.faults()?;
             let say = || {
