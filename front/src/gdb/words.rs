@@ -25,7 +25,6 @@ MAP is the map of the link (ldi link --Map, ld.ldi -Map).
 
 /// Why words are refused.
 #[derive(Debug, PartialEq, Eq, thiserror::Error)]
-#[allow(clippy::enum_variant_names)] // each says what there is none of
 pub(super) enum WordsRefused {
     #[error("no MAP is given")]
     MapMissing,

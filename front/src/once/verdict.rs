@@ -108,7 +108,7 @@ fn kind_of(plan: &LinkPlan, span: Option<Span>) -> Option<String> {
         return None;
     }
     let text = plan.inputs.scripts.reading.source.slice(span?).to_string();
-    let mut words = text.split('{').next()?.split(['(', ')']).map(str::trim);
+    let mut words = text.split('{').next()?.split(&['(', ')'][..]).map(str::trim);
     let word = words.find(|word| ["COPY", "DSECT", "INFO", "OVERLAY"].contains(word))?;
     Some(format!("({word})"))
 }
