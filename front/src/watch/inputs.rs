@@ -309,7 +309,7 @@ mod tests {
     use super::{Changed, Inputs};
     use crate::watch::events::{Event, Kind};
     use std::fs;
-    use std::path::PathBuf;
+    use std::path::{Path, PathBuf};
     use std::time::Instant;
 
     /// Inputs over a file that was read.
@@ -325,8 +325,8 @@ mod tests {
         (path, inputs)
     }
 
-    fn event(path: &PathBuf, kind: Kind) -> Event {
-        Event { path: path.clone(), kind, is_folder: false }
+    fn event(path: &Path, kind: Kind) -> Event {
+        Event { path: path.to_owned(), kind, is_folder: false }
     }
 
     #[test]
