@@ -38,6 +38,11 @@ CLEARED = ("CI", "container", "LDI_FALLBACK", "LDI_SERVER_IDLE", "LDI_SERVER_MEM
 Done = subprocess.CompletedProcess[str]
 
 
+def only_compiled(path: str) -> Callable[[Callable[..., None]], Callable[..., None]]:
+    """A test that fails but where this program is a compiled one."""
+    return (lambda test: test) if Path(path).resolve().name == "ldi-front" else unittest.expectedFailure
+
+
 class OutsideTest(unittest.TestCase):
     """Tests in a temporary folder. No server is started but by `serve`, and none is left."""
 

@@ -2,10 +2,9 @@
 from __future__ import annotations
 
 import random
-import unittest
 
 from client.tests.outside.images import EXECUTE, WRITE, Image, read_image
-from client.tests.outside.programs import LDI_WATCH, OutsideTest, needs
+from client.tests.outside.programs import LD_LDI, LDI_WATCH, OutsideTest, needs, only_compiled
 
 START = ".globl _start\n_start: nop\n"
 PLAIN = """ENTRY(_start)
@@ -48,19 +47,19 @@ class CommonTest(BesideTest):
             names.append(self.compile(f"f{file}.c", text, "-fcommon"))
         return names
 
-    @unittest.expectedFailure  # the session places the blocks of an object in its own order
+    @only_compiled(LD_LDI)  # the session places the blocks of an object in its own order
     def test_default_script(self) -> None:
         """Seven to a file in four files, under GNU ld's default script: nothing is said, and all is as GNU ld's."""
         self.same(*self.blocks())
         self.assertEqual(self.ld(*self.blocks(), "-o", "own", env=NONE).stderr, "")
 
-    @unittest.expectedFailure  # the session places the blocks of an object in its own order
+    @only_compiled(LD_LDI)  # the session places the blocks of an object in its own order
     def test_script(self) -> None:
         """The same under a script of the user."""
         self.write("t.ld", PLAIN)
         self.same("-T", "t.ld", *self.blocks())
 
-    @unittest.expectedFailure  # the session places the blocks of an object in its own order
+    @only_compiled(LD_LDI)  # the session places the blocks of an object in its own order
     def test_arrays(self) -> None:
         """Blocks of which several files have other sizes."""
         self.write("t.ld", PLAIN)
@@ -69,7 +68,7 @@ class CommonTest(BesideTest):
             ("c", "int com2[4], com4[9];\n"))]
         self.same("-T", "t.ld", *names)
 
-    @unittest.expectedFailure  # `ld.ldi` keeps a worse image of these words, and a watch none
+    @only_compiled(LDI_WATCH)  # `ld.ldi` keeps a worse image of these words, and a watch none
     def test_watch(self) -> None:
         """`ldi-watch` makes the image of the same words under the default script's text."""
         text = self.must("ld.bfd", "-static", "--verbose").split("=" * 50 + "\n")[1]
@@ -135,7 +134,7 @@ class ScriptTest(BesideTest):
         own, gnu = self.two()
         self.assertEqual([one[1:] for one in own.places()], [one[1:] for one in gnu.places()])
 
-    @unittest.expectedFailure  # the adapted script has other names, and flags of data alone are the session's
+    @only_compiled(LD_LDI)  # the adapted script has other names, and flags of data alone are the session's
     def test_names_and_flags_of_two_sections_of_one_name(self) -> None:
         """The name is written twice, with the flags of each."""
         own, gnu = self.two()

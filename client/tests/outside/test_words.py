@@ -7,7 +7,8 @@ import shutil
 import unittest
 from pathlib import Path
 
-from client.tests.outside.programs import LD_LDI, LDI, LDI_ADAPT, LDI_GDB, LDI_WATCH, ROOT, OutsideTest, needs
+from client.tests.outside.programs import (LD_LDI, LDI, LDI_ADAPT, LDI_GDB, LDI_WATCH, ROOT, OutsideTest, needs,
+                                           only_compiled)
 
 START = ".globl _start\n_start: nop\n"
 PLAIN = """ENTRY(_start)
@@ -156,7 +157,7 @@ class RefusedObjectsTest(OutsideTest):
         """As `ld.ldi` is installed."""
         self.named()
 
-    @unittest.expectedFailure  # `readobj` finds the places; without it the numbers' meanings are said
+    @only_compiled(LD_LDI)  # `readobj` finds the places; without it the numbers' meanings are said
     def test_names_by_itself(self) -> None:
         """The same where `readobj` is not beside `ldi`."""
         alone = self.folder / "alone" / "ldi"

@@ -2,7 +2,7 @@
 
 use std::path::Path;
 
-use bstr::BStr;
+use bstr::{BStr, ByteSlice};
 
 use super::*;
 use crate::adapt::invented;
@@ -180,6 +180,33 @@ fn one_entry_stands_before_sections() {
     assert_eq!(before("ENTRY(a) ENTRY(b)"), "ENTRY(b)");
     let done = text("SECTIONS { ENTRY(go) . = 0x1000; .t : { *(.text) } }");
     assert!(done.starts_with("ENTRY(go) SECTIONS"), "{done}");
+}
+
+/// ldlang.c, `lang_end`: where nothing defines the entry symbol, the program begins at the start of `.text`.
+#[test]
+fn an_entry_that_nothing_defines_is_written_as_an_address() {
+    let reading = crate::script::parse(Path::new("t.ld"), b"ENTRY(no) SECTIONS { . = 0x1000; .text : { *(.text) } }");
+    let reading = reading.unwrap();
+    let objects = invented::objects(&reading.script, invented::Kind::Small);
+    let evaluation = evaluate(&reading.script, &objects, &Settings::default()).unwrap();
+    let names: Vec<&BStr> = objects.iter().map(|object| object.name()).collect();
+    let done = residual(Request {
+        script: &reading.script,
+        source: &reading.source,
+        evaluation: Some(&evaluation),
+        objects: &names,
+        is_followed: true,
+        entry: None,
+        has_default_entry: true,
+        defines: &|_| false,
+        kept: &[],
+        keeps_more: false,
+        collects_start_stop: false,
+    });
+    let text = done.text.to_str().unwrap();
+    assert!(text.contains("ENTRY(ld.ldi.entry)") && text.ends_with("ld.ldi.entry = ADDR(.text);"), "{text}");
+    let notes: Vec<&str> = done.notes.iter().map(|note| note.sentence.as_str()).collect();
+    assert_eq!(notes, ["ENTRY(no): nothing defines it; the entry is 0x1000, as GNU ld's"]);
 }
 
 #[test]

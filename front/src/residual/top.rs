@@ -577,7 +577,40 @@ impl<'a> Walk<'a> {
             let text = format!("ENTRY({NUMBER_ENTRY}) {NUMBER_ENTRY} = {value}; ");
             return self.edits.insert(insertion.min(self.front()), FRONT - 1, text);
         }
-        self.put_entry(name, insertion);
+        if !self.put_entry_beside(name, insertion) {
+            return self.put_entry(name, insertion);
+        }
+        if let (false, Some(value)) = (self.request.evaluation.map_or(true, |one| one.entry.is_by_name), value) {
+            let text = format!("the entry is {value:#x}, as GNU ld's: nothing defines {name}");
+            self.note_of(NoteKind::Changed, Topic::Beside, self.front(), text);
+        }
+    }
+
+    /// Writes the address of GNU ld's entry where it is not that of the name, which nothing defines or whose section is
+    /// left out, for a caller that links.
+    fn put_entry_beside(&mut self, name: &BStr, insertion: u32) -> bool {
+        let evaluation = match self.request.evaluation.filter(|_| self.request.is_followed) {
+            Some(evaluation) => evaluation,
+            None => return false,
+        };
+        let is_out = match evaluation.symbol(name).map(|symbol| symbol.definer) {
+            Some(Definer::Object(Some(id))) => evaluation.section(id).map_or(false, |one| one.output().is_none()),
+            _ => false,
+        };
+        if evaluation.entry.is_by_name && !is_out {
+            return false;
+        }
+        self.put_address(evaluation.entry.address.unwrap_or(0), insertion);
+        true
+    }
+
+    /// Writes an entry that is an address: the start of `.text` by its name.
+    fn put_address(&mut self, address: u64, insertion: u32) {
+        let end = u32::try_from(self.text.len()).unwrap_or(u32::MAX);
+        let text = self.done.iter().find(|(own, done)| *own == ".text" && done.address == address);
+        let value = text.map_or_else(|| format!("{address:#x}"), |(_, done)| format!("ADDR({})", done.name));
+        self.edits.insert(end, i32::MAX - 1, format!(" {NUMBER_ENTRY} = {value};"));
+        self.put_entry(NUMBER_ENTRY.as_bytes().as_bstr(), insertion);
     }
 
     /// The first offset of the statements.
@@ -601,10 +634,18 @@ impl<'a> Walk<'a> {
         }
         let is_by_name = self.request.evaluation.map_or(true, |evaluation| evaluation.entry.is_by_name);
         if !is_by_name && !self.versions.assigns(name) && !(self.request.defines)(name.as_bstr()) {
-            let why = "nothing defines it (F2, unless -e names another); GNU ld begins at the start of .text then";
+            let address = self.request.evaluation.map_or(0, |evaluation| evaluation.entry.address.unwrap_or(0));
+            let why = match self.request.is_followed {
+                true => format!("nothing defines it; the entry is {address:#x}, as GNU ld's"),
+                false => {
+                    "nothing defines it (F2, unless -e names another); GNU ld begins at the start of .text then".into()
+                }
+            };
             self.note_of(NoteKind::Changed, Topic::Beside, span.start, format!("{plain}: {why}"));
         }
-        if is_late {
+        if self.put_entry_beside(name.as_bstr(), insertion) {
+            self.edits.blank(self.text, span);
+        } else if is_late {
             self.edits.blank(self.text, span);
             self.put_entry(name.as_bstr(), insertion);
             self.note(NoteKind::Rewritten, span.start, format!("{plain}: stands before SECTIONS"));
@@ -623,13 +664,7 @@ impl<'a> Walk<'a> {
         let name = evaluation.entry.name.clone();
         match evaluation.entry.address {
             Some(_) if evaluation.entry.is_by_name => self.put_entry(name.as_bstr(), insertion),
-            Some(address) => {
-                let end = u32::try_from(self.text.len()).unwrap_or(u32::MAX);
-                let text = self.done.iter().find(|(own, done)| *own == ".text" && done.address == address);
-                let value = text.map_or_else(|| format!("{address:#x}"), |(_, done)| format!("ADDR({})", done.name));
-                self.edits.insert(end, i32::MAX - 1, format!(" {NUMBER_ENTRY} = {value};"));
-                self.put_entry(NUMBER_ENTRY.as_bytes().as_bstr(), insertion);
-            }
+            Some(address) => self.put_address(address, insertion),
             None => {}
         }
     }
