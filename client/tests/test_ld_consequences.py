@@ -9,9 +9,10 @@ class ConsequencesTest(LinkTest):
 
     def test_consequences(self) -> None:
         """One line for all that follows of what a line names; all of it with --verbose."""
-        self.compile("more.s", ' .globl _start\n .text\n_start: nop\n .section .text1,""\n .byte 1\n'
-                     ' .section .text2,""\n .byte 2\n .section .text3\n .byte 3\n')
-        self.write("t.ld", "SECTIONS { . = 0x1000; .text : { *(.text*) } end = .; /DISCARD/ : { *(.note*) } }")
+        self.compile("more.s", ' .globl _start\n .text\n_start: nop\n' + "".join(
+            f' .section .text{n},"ax"\n .balign 16\n .byte {n}\n' for n in (1, 2, 3)))
+        self.write("t.ld", "SECTIONS { . = 0x1000; .text : SUBALIGN(1) { *(.text*) } end = .; "
+                           "/DISCARD/ : { *(.note*) } }")
         quiet, every = (self.links("-T", "t.ld", "-o", "image", "more.o", *words).stderr.splitlines()
                         for words in ((), ("--verbose",)))
         quiet, every = ([line for line in lines if ": changed: " in line] for lines in (quiet, every))
