@@ -99,8 +99,8 @@ class EditTest(ServerTest):
         """The order of objects, some that come and go, --defsym, --gc-sections, other scripts, texts and INCLUDEs."""
         self.start()
         self.write("other.ld", SCRIPT.replace("0x401000", "0x500000"))
-        for words in (WORDS[:4] + ("c.o", "b.o", "a.o"), WORDS[:-1], WORDS, ("--defsym=added=0x1234", *WORDS),
-                      ("--defsym=added=0x4321", *WORDS), ("--gc-sections", *WORDS), WORDS, ("-e", "b", *WORDS),
+        for words in (WORDS[:4] + ("c.o", "b.o", "a.o"), WORDS[:-1], WORDS, ("--defsym=one_more=0x1234", *WORDS),
+                      ("--defsym=one_more=0x4321", *WORDS), ("--gc-sections", *WORDS), WORDS, ("-e", "b", *WORDS),
                       ("-T", "other.ld", *WORDS[2:]), ("-z", "max-page-size=0x10000", *WORDS), WORDS):
             self.assert_same(*words)
         self.write("t.ld", SCRIPT.replace("0x401000", "0x600000"))

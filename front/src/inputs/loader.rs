@@ -391,7 +391,11 @@ impl<'a> Loader<'a> {
     /// `elf_link_add_archive_symbols`).
     fn scan(&mut self, index: ArchiveIndex) -> Result<(), InputFault> {
         let symbols = match self.archives.get_index(index.0) {
-            Some((_, one)) => self.symbols_of(one)?,
+            Some((_, one)) if one.is_scanned || one.archive.symbols().is_some() => Arc::clone(&one.symbols),
+            Some((_, one)) => {
+                let archive = Arc::clone(&one.archive);
+                self.symbols_of(&archive)?
+            }
             None => return Ok(()),
         };
         self.names.ask(symbols.iter().map(|(name, _)| name));
@@ -447,15 +451,12 @@ impl<'a> Loader<'a> {
         Ok(adds)
     }
 
-    /// The names of an archive's symbol table; of one without it the definitions of its members.
-    fn symbols_of(&self, one: &ArchiveUse) -> Result<Arc<[(BString, u64)]>, InputFault> {
-        if one.is_scanned || one.archive.symbols().is_some() {
-            return Ok(Arc::clone(&one.symbols));
-        }
+    /// The definitions of the members of an archive without a symbol table.
+    fn symbols_of(&mut self, archive: &Archive) -> Result<Arc<[(BString, u64)]>, InputFault> {
         let mut found = Vec::new();
-        for (number, member) in one.archive.members().iter().enumerate() {
-            let data = self.peeked(&one.archive, MemberIndex(number))?;
-            let object = Object::new(BString::default(), Origin::of_file(one.archive.path()), data);
+        for (number, member) in archive.members().iter().enumerate() {
+            let data = self.bytes(archive, MemberIndex(number))?;
+            let object = Object::new(BString::default(), Origin::of_file(archive.path()), data);
             for wanted in [NameState::Defined, NameState::Weak, NameState::Common] {
                 let own = object.globals().filter(|symbol| NameState::of(symbol) == wanted);
                 found.extend(own.map(|symbol| (symbol.name.to_owned(), member.offset)));
@@ -488,18 +489,6 @@ impl<'a> Loader<'a> {
                 let path = archive.file_of(member);
                 self.snapshot.read(&path).map_err(|fault| cannot_read_member(&path, archive, &fault))
             }
-            _ => self.peeked(archive, index),
-        }
-    }
-
-    /// The bytes of a member, without a note that they were read.
-    fn peeked(&self, archive: &Archive, index: MemberIndex) -> Result<Bytes, InputFault> {
-        match archive.member(index) {
-            Some(member) if archive.is_thin() => {
-                let path = archive.file_of(member);
-                let seen = crate::snapshot::read_regular(&path);
-                seen.map(|seen| seen.data).map_err(|fault| cannot_read_member(&path, archive, &fault))
-            }
             Some(member) => Ok(archive.data().slice(member.range.clone()).unwrap_or_default()),
             None => Ok(Bytes::default()),
         }
@@ -513,6 +502,9 @@ impl<'a> Loader<'a> {
             None => return Ok(()),
         };
         if !Archive::is_one(&data) {
+            if let Some(member) = archive.member(index).filter(|_| archive.is_thin()) {
+                self.plain.entry(archive.file_of(member)).or_default().push(self.objects.len());
+            }
             return self.object(origin, data, &[]);
         }
         let name = origin.full_name();

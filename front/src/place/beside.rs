@@ -31,12 +31,12 @@ fn front(path: &Path) -> Vec<u8> {
     [b".", name.get(..GREATEST_FRONT).unwrap_or(name), b"."].concat()
 }
 
-/// The process in the name of a file beside another, behind its front.
-fn process_of(name: &[u8], front: &[u8]) -> Option<u32> {
+/// The process in the name of a file beside another, behind its front, and how many random digits there are.
+fn process_of(name: &[u8], front: &[u8]) -> Option<(u32, usize)> {
     let rest = std::str::from_utf8(name.strip_prefix(front)?).ok()?;
     let (process, random) = rest.strip_suffix(END)?.split_once('.')?;
     let is_random = !random.is_empty() && random.bytes().all(|byte| byte.is_ascii_hexdigit());
-    is_random.then(|| process.parse().ok()).flatten()
+    Some((process.parse().ok()?, random.len())).filter(|_| is_random)
 }
 
 /// Whether a file has the name of one that is written beside another: by this process, or any.
@@ -45,7 +45,8 @@ pub fn is_beside(name: &OsStr) -> bool {
     let dots = name.iter().enumerate().filter(|(_, byte)| **byte == b'.').map(|(at, _)| at).collect::<Vec<_>>();
     let last = dots.len().checked_sub(3).and_then(|number| dots.get(number));
     let front = last.and_then(|&at| name.get(..=at));
-    name.starts_with(b".") && front.map_or(false, |front| process_of(name, front).is_some())
+    let digits = front.and_then(|front| process_of(name, front)).map(|(_, digits)| digits);
+    name.starts_with(b".") && digits == Some(2 * RANDOM)
 }
 
 /// Removes the files beside a path that processes left which were killed.
@@ -66,7 +67,7 @@ fn remove_beside(path: &Path, of_running: bool) {
     };
     let front = front(path);
     for entry in std::fs::read_dir(folder).into_iter().flatten().flatten() {
-        let process = process_of(entry.file_name().as_bytes(), &front);
+        let process = process_of(entry.file_name().as_bytes(), &front).map(|(process, _)| process);
         let is_left = process.map_or(false, |number| !is_running(number));
         let is_folder = process.is_some() && entry.file_type().map_or(false, |kind| kind.is_dir());
         match (is_folder, is_left) {
