@@ -47,14 +47,15 @@ class OldImageTest(LinkTest):
         self.assertEqual(running.returncode, 0)
 
     def test_full_disk(self) -> None:
-        """No half image is left, and the status is 3; an old image stays where the map does not fit."""
+        """Where the map or the image does not fit, the status is 3, and the old ones stay whole."""
         self.run_tool(*self.words)
         size, text = self.image.stat().st_size, (self.folder / "wait.map").stat().st_size
         self.assertLess(text, size)
-        before = self.names()
-        for room, left in ((text - 1, before - {"wait.map"}), (size - 1, before - {"wait"})):
-            self.run_tool(*self.words)
+        before = {name: (self.folder / name).read_bytes() for name in ("wait", "wait.map")}
+        names = self.names()
+        for room in (text - 1, size - 1):
             done = subprocess.run(self.words, cwd=self.folder, capture_output=True, text=True, timeout=LIMIT,
                                   check=False, preexec_fn=partial(greatest_file, room))
             self.assertEqual(done.returncode, 3, done.stderr)
-            self.assertEqual(self.names(), left)
+            self.assertEqual(self.names(), names)
+            self.assertEqual({name: (self.folder / name).read_bytes() for name in before}, before)
