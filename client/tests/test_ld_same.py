@@ -137,4 +137,5 @@ class SameTest(unittest.TestCase):
         self.assertEqual(self.came(script), CHANGED)
         script = ("PHDRS { one PT_LOAD; two PT_LOAD; } SECTIONS { . = 0x400000; .a : { *(.text.*) } .b : { BYTE(1) } "
                   ":two .c : { . += 4; } :one REST }")
-        self.assertIn(self.came(script), (CHANGED, SAME))  # what has GNU ld's segments says nothing
+        is_compiled = os.path.basename(os.path.realpath(os.environ.get("LD_LDI", ""))) == "ldi-front"
+        self.assertEqual(self.came(script), SAME if is_compiled else CHANGED)  # the compiled one has GNU ld's segments
