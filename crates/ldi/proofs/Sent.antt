@@ -10,7 +10,7 @@ use Rattle.ldi_stream.specs.declared.Status.{Status}
 use Rattle.ldi_stream.specs.declared.fault.RunFault.{RunFault}
 use Rattle.ldi.specs.Session.{HasAnswered}
 
-nothing_held : (known : Option (List ℕ)) → append_known known [] ≡ known
+pub nothing_held : (known : Option (List ℕ)) → append_known known [] ≡ known
 nothing_held None = refl
 nothing_held (Some bytes) = ap Some (append-nil bytes)
 

@@ -1,2 +1,3 @@
 pub mod Exit
 pub mod Session
+pub mod DeferredSession

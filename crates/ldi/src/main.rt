@@ -1,6 +1,7 @@
 //! `ldi`: a static linker that links again after every edit.
 //!
-//! `ldi session` reads commands from standard input and answers them on standard output. It ends with the status of the
+//! `ldi session` reads commands from standard input and answers them on standard output; with `--deferred` it links only
+//! at the command `link`. It ends with the status of the
 //! link (0 or 1), with 2 after bytes that begin no command, or if the words of the command line are refused, with 3
 //! if a device failed or the system gives no seed for hash tables, and with 4 without memory to begin.
 //!
@@ -16,12 +17,14 @@ use crate::link_command::{FileNames, link_files};
 use ldi_stream::Status;
 use ldi_stream::fault::RunFault;
 use ldi_words::call::Call;
+use ldi_words::fault::WordsFault;
 use ldi_words::{USAGE, words};
 use relink::Options;
 use std::hash::RandomState;
 use std::process::ExitCode;
 use std::{env, io};
 
+mod deferred_command;
 mod link_command;
 mod session_command;
 
@@ -59,16 +62,53 @@ fn answer_commands(rt: &HostRuntime, options: Options) -> u8 {
     }
 }
 
+/// Answers the commands of a deferred session on standard input, and gives the status to end with.
+fn answer_deferred_commands(rt: &HostRuntime, options: Options) -> u8 {
+    let Ok(seed) = RandomState::new(rt) else {
+        return DEVICE;
+    };
+    match deferred_command::deferred_session(
+        rt.alloc(),
+        seed,
+        rt.reader(),
+        io::writer(rt),
+        options,
+    ) {
+        Ok(ended) => exit_status(ended.outcome),
+        Err(_) => NO_MEMORY,
+    }
+}
+
 /// Says why the call is not made, and gives the status to end with.
 fn refuse(rt: &HostRuntime, reason: &str) -> u8 {
     let _ = eprintln!(rt; "{reason}");
     REFUSED
 }
 
+/// Says of the words of a call that is refused what GNU ld's `-Map` is called here: the text of `clap` is of an option
+/// `-M`.
+fn say_map_option(rt: &HostRuntime, args: &[String]) {
+    for word in args {
+        if word.as_str() == "-Map" || word.as_str().starts_with("-Map=") {
+            let _ = eprintln!(rt; "ldi: the file of the map is given by '--Map', with two dashes");
+            return;
+        }
+    }
+}
+
+/// Says why the words of the command line make no call, and gives the status to end with.
+fn report(rt: &HostRuntime, args: &[String], fault: &WordsFault) -> u8 {
+    if fault.exit_status() == REFUSED {
+        say_map_option(rt, args);
+    }
+    fault.report(rt)
+}
+
 /// Makes the call of the command line, and gives the status to end with.
 fn run_words(rt: &HostRuntime, args: &[String]) -> u8 {
     match words(rt.alloc(), args) {
         Ok(Call::Session(options)) => answer_commands(rt, options),
+        Ok(Call::DeferredSession(options)) => answer_deferred_commands(rt, options),
         Ok(
             Call::Link {
                 script,
@@ -86,7 +126,7 @@ fn run_words(rt: &HostRuntime, args: &[String]) -> u8 {
             };
             link_files(rt, &names, options)
         }
-        Err(fault) => fault.report(rt),
+        Err(fault) => report(rt, args, &fault),
     }
 }
 

@@ -11,8 +11,12 @@ use crate::fault::WriteFault;
 use itoa::Buffer;
 use ldmodel::edit::{EditRefusal, Linked};
 
-/// Writes all the bytes; after an error a prefix of them.
-fn write_all<W: Sink>(sink: &mut W, bytes: &[u8]) -> Result<(), WriteFault>
+/// Writes all the bytes.
+///
+/// # Errors
+///
+/// If a call of `sink` failed. A prefix of the bytes is written then.
+pub fn write_all<W: Sink>(sink: &mut W, bytes: &[u8]) -> Result<(), WriteFault>
     ensures ok { OnOk result (Appends (W.written sink.old) (W.written sink.new) bytes.now) }
     ensures err { OnErr result ((n : ℕ) × Appends (W.written sink.old) (W.written sink.new) (take n bytes.now)) }
     ensures counted { CountsFailure (W.failed sink.old) (W.failed sink.new) result }
@@ -35,8 +39,12 @@ fn write_number<W: Sink>(sink: &mut W, n: u64) -> Result<(), WriteFault>
 }
 
 /// Writes an answer of one line: a word and two numbers.
+///
+/// # Errors
+///
+/// If a call of `sink` failed. A prefix of the answer is written then.
 #[tactic(auto, unfolding(ldmodel::specs::Answers::answer_line))]
-fn write_answer<W: Sink>(sink: &mut W, word: &[u8], a: u64, b: u64) -> Result<(), WriteFault>
+pub fn write_answer<W: Sink>(sink: &mut W, word: &[u8], a: u64, b: u64) -> Result<(), WriteFault>
     ensures text { Writes (W.written sink.old) (W.written sink.new) (answer_line word.now a b) result }
     ensures flushed { OnOk result (W.held sink.new ≡ []) }
     ensures counted { CountsFailure (W.failed sink.old) (W.failed sink.new) result }

@@ -9,3 +9,9 @@ pub flag_says : (stated : Option Text) (b : Bool) → IsFlag stated → (stated 
     → IsTrue b ↔ (stated ≡ Some (codes "true"))
 flag_says stated b (inl e) set unset = (λ _. e, set)
 flag_says stated b (inr e) set unset = (λ h. let no = unset e in cc, set)
+
+-- and not where it is `false`
+pub flag_unset : (stated : Option Text) (b : Bool) → IsFlag stated → (stated ≡ Some (codes "true") → b ≡ true)
+    → b ≡ false → stated ≡ Some (codes "false")
+flag_unset stated b (inl e) set unset = let is = set e in absurd (cc)
+flag_unset stated b (inr e) set unset = e

@@ -187,7 +187,10 @@ session_fine choices = (
     record { own = refl; setting = refl; filling = refl; reading = refl },
     (
       record { own = refl; setting = refl; filling = refl; reading = refl },
-      (record { own = refl; setting = refl; filling = refl; reading = refl }, tt),
+      (
+        record { own = refl; setting = refl; filling = refl; reading = refl },
+        (record { own = refl; setting = refl; filling = refl; reading = refl }, tt),
+      ),
     ),
   ),
 )
@@ -278,6 +281,18 @@ link_rules choices = record {
   orphans_pass = λ v. refl;
 }
 
+-- whether a session is deferred
+deferred_stated : (choices : Choices) (words : List Text)
+    → AllGood (session_leaf choices).rules (rows_after (session_leaf choices).rules [] words)
+    → IsFlag (one_of (codes "deferred") (rows_after (session_leaf choices).rules [] words))
+deferred_stated choices words good =
+    let rules = (session_leaf choices).rules in
+    let rows = rows_after rules [] words in
+    let before = (settled rules (walk rules [] nothing_held words).held).rows in
+    let found = value_of_id rules (codes "deferred") rows good
+    (has_found _ rows (defaults_gain (codes "deferred") rules before refl)) in
+    subst IsFlag (sym found.one) (bool_says found.value found.passing)
+
 both_given : (k : ErrorKind) (g h : Bool) → (if not g || (not h || false) then (k ∷ []) else []) ≡ []
     → (g ≡ true) × (h ≡ true)
 both_given k true true e = (refl, refl)
@@ -321,8 +336,10 @@ entered_states choices lists (Some p) there e =
         → stopped_fault (cond t (Some (session_leaf choices)) (cond u (Some (link_leaf choices)) None)) p.1 ≡ []
         → StatesCall (stopped_rows (cond t (Some (session_leaf choices)) (cond u (Some (link_leaf choices)) None)) p.1)
     go true u there e =
-        let level = level_good (session_leaf choices) (session_fine choices) [] p.1 false [] e in
-        (options_stated choices lists (session_leaf choices) p.1 (session_rules choices) level.0, inl refl)
+        let level = level_good (session_leaf choices) (session_fine choices) [] p.1 false [] e in (
+          options_stated choices lists (session_leaf choices) p.1 (session_rules choices) level.0,
+          inl (refl, deferred_stated choices p.1 level.0),
+        )
     go false true there e =
         let level = level_good (link_leaf choices) (link_fine choices) [] p.1 false [] e in (
           options_stated choices lists (link_leaf choices) p.1 (link_rules choices) level.0,

@@ -7,7 +7,7 @@ use Rattle.ldmodel.specs.Options.{LinkOptions}
 use Rattle.ldmodel.specs.declared.options.Orphans.{Orphans}
 use Rattle.ldmodel.specs.declared.options.Orphans.TheVariants.{Error, Discard}
 use Rattle.ldi_words.specs.declared.call.Call.{Call}
-use Rattle.ldi_words.specs.declared.call.Call.TheVariants.{Session, Link}
+use Rattle.ldi_words.specs.declared.call.Call.TheVariants.{Session, DeferredSession, Link}
 
 -- the value of `--orphan-handling` that asks for this
 abbrev pub word_of : Orphans → Text
@@ -38,6 +38,10 @@ pub record HasFiles (rows : List Row) (files : Files) : Type 0 where
 abbrev pub IsCallOf : Option (Text × List Row) → Call → Type 0
 IsCallOf stated (Session options) =
     (rows : List Row) × (stated ≡ Some (codes "session", rows)) × HasOptions rows options
+    × (one_of (codes "deferred") rows ≡ Some (codes "false"))
+IsCallOf stated (DeferredSession options) =
+    (rows : List Row) × (stated ≡ Some (codes "session", rows)) × HasOptions rows options
+    × (one_of (codes "deferred") rows ≡ Some (codes "true"))
 IsCallOf stated (Link script image map_file options objects) =
     (rows : List Row) × (stated ≡ Some (codes "link", rows)) × HasOptions rows options
     × HasFiles rows (record {
@@ -73,4 +77,4 @@ pub record StatesFiles (rows : List Row) : Type 0 where
 abbrev pub StatesCall : Option (Text × List Row) → Type 0
 StatesCall None = ⊥
 StatesCall (Some p) = StatesOptions p.1
-    × ((p.0 ≡ codes "session") ⊎ ((p.0 ≡ codes "link") × StatesFiles p.1))
+    × (((p.0 ≡ codes "session") × IsFlag (one_of (codes "deferred") p.1)) ⊎ ((p.0 ≡ codes "link") × StatesFiles p.1))

@@ -61,13 +61,20 @@ map_rule = record (new_rule (codes "map")) { long = Some (codes "Map"); value_na
 abbrev pub objects_rule : Rule
 objects_rule = record (new_rule (codes "objects")) { action = Some Append; value_names = 1 }
 
+-- --deferred, a flag
+abbrev pub deferred_rule : Rule
+deferred_rule = record (new_rule (codes "deferred")) {
+  long = Some (codes "deferred");
+  action = Some SetTrue;
+}
+
 -- a subcommand with the options that both take
 abbrev pub with_options : Choices → App → App
 with_options choices a =
     with_rule (with_rule (with_rule a gc_rule) entry_rule) (orphans_rule choices)
 
 abbrev pub session_app : Choices → App
-session_app choices = with_options choices (new_app (codes "session"))
+session_app choices = with_rule (with_options choices (new_app (codes "session"))) deferred_rule
 
 abbrev pub link_app : Choices → App
 link_app choices = with_rule

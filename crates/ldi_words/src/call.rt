@@ -7,6 +7,8 @@ use ldmodel::options::Options;
 pub enum Call {
     /// `ldi session`: link again after each edit that comes by standard input.
     Session(Options),
+    /// `ldi session --deferred`: link the edits that come by standard input when it is asked.
+    DeferredSession(Options),
     /// `ldi link`: link once.
     Link {
         /// The file of the linker script.

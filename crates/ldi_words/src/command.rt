@@ -3,7 +3,7 @@
 ghost use Rattle.std.specs.Prelude.{◌≡◌, IfOk, false};
 ghost use Rattle.clap.specs.Words.{App, rule_of};
 ghost use Rattle.ldi_words.specs.Command.{Choices, IsApp, ListsOrphans};
-ghost use Rattle.ldi_words.specs.Command.{gc_rule, entry_rule, orphans_rule};
+ghost use Rattle.ldi_words.specs.Command.{deferred_rule, gc_rule, entry_rule, orphans_rule};
 ghost use Rattle.ldi_words.specs.Command.{script_rule, image_rule, map_rule, objects_rule};
 ghost use Rattle.ldi_words.specs.Command.{ldi, link_app, session_app, with_options};
 
@@ -62,6 +62,17 @@ fn orphans_arg<'a>(alloc: Global, orphan_values: &'a [&'a str]) -> Arg<'a>
         .value_parser(orphan_values)
         .default_value("error")
         .help("Handling of sections that no statement takes")
+}
+
+/// `--deferred`.
+fn deferred_arg<'a>(alloc: Global) -> Arg<'a>
+    ensures rule { rule_of result ≡ deferred_rule }
+    ensures local { result.global ≡ false }
+{
+    Arg::new(alloc, "deferred")
+        .long("deferred")
+        .action(ArgAction::SetTrue)
+        .help("Link only at the command `link` [default: after each edit]")
 }
 
 /// `-T SCRIPT`.
@@ -134,7 +145,7 @@ fn session_command<'a>(
     let session = Command::new(alloc, "session")
         .about("Reads edits and queries from standard input and links again after each edit")
         .after_help("Example: ldi session --gc-sections -e _start < commands > answers");
-    add_options(alloc, session, orphan_values)
+    add_options(alloc, session, orphan_values)?.arg(deferred_arg(alloc))
 }
 
 /// `ldi link`.

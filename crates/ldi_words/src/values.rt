@@ -1,9 +1,9 @@
 //! The call that `clap`'s matches hold.
 
 ghost use Rattle.std.specs.Prelude.{◌≡◌, IfOk, IsSome, Some, [], codes, map, option_map, string_bytes, unwrap_or};
-ghost use Rattle.clap.specs.Words.{first_value, found_of, matched_of, raw_values, rows_of, subcommand_rows_of};
+ghost use Rattle.clap.specs.Words.{first_value, found_of, matched_of, one_of, raw_values, rows_of, subcommand_rows_of};
 ghost use Rattle.clap.specs.Walk.{texts};
-ghost use Rattle.ldi_words.specs.Call.{HasOptions, IsCallOf, word_of};
+ghost use Rattle.ldi_words.specs.Call.{HasOptions, IsCallOf, IsFlag, word_of};
 ghost use Rattle.ldi_words.specs.Call.{NamesOrphans, StatesCall, StatesFiles, StatesOptions};
 
 use crate::call::Call;
@@ -101,6 +101,20 @@ fn link_of(alloc: Global, matches: &ArgMatches<'_>) -> Result<Call, AllocError>
     })
 }
 
+/// The call of `ldi session`.
+fn session_of(alloc: Global, matches: &ArgMatches<'_>) -> Result<Call, AllocError>
+    requires options { StatesOptions (rows_of (found_of matches.now)) }
+    requires deferred { IsFlag (one_of (codes "deferred") (rows_of (found_of matches.now))) }
+    ensures { IfOk result (IsCallOf (Some (codes "session", rows_of (found_of matches.now)))) }
+{
+    let options = options_of(alloc, matches)?;
+    if matches.get_flag("deferred") {
+        Ok(Call::DeferredSession(options))
+    } else {
+        Ok(Call::Session(options))
+    }
+}
+
 /// The call that the matches of `ldi` hold.
 pub(crate) fn call_of(alloc: Global, matches: &ArgMatches<'_>) -> Result<Call, AllocError>
     requires { StatesCall (subcommand_rows_of matches.now) }
@@ -108,7 +122,7 @@ pub(crate) fn call_of(alloc: Global, matches: &ArgMatches<'_>) -> Result<Call, A
 {
     match matches.subcommand() {
         Some(("link", inner)) => link_of(alloc, inner),
-        Some((_, inner)) => Ok(Call::Session(options_of(alloc, inner)?)),
+        Some((_, inner)) => session_of(alloc, inner),
         None => unreachable!(),
     }
 }

@@ -20,7 +20,12 @@ fn print_read<W: Write>(
     script: &Script,
 ) -> io::Result<()> {
     let count = script.statements().len();
-    writeln!(out, "{}: a script of {count} statements", file.name)?;
+    let noun = if count == 1 {
+        "statement"
+    } else {
+        "statements"
+    };
+    writeln!(out, "{}: a script of {count} {noun}", file.name)?;
     let mut lines = String::new(alloc);
     push_warnings(alloc, &mut lines, script)?;
     out.write_all(lines.as_bytes())

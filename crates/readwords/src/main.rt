@@ -6,6 +6,7 @@
 //! For each line it prints the line after `> `, and then what the words come to:
 //!
 //!     session OPTIONS
+//!     deferred session OPTIONS
 //!     link [SCRIPT] [IMAGE] [map [MAP]] OPTIONS: [OBJECT] ..
 //!     KIND, status N
 //!     out of memory, status N
@@ -54,6 +55,10 @@ fn print_call(rt: &HostRuntime, call: &Call) -> io::Result<()> {
     match call {
         Call::Session(options) => {
             print!(rt; "session")?;
+            print_options(rt, options)?;
+        }
+        Call::DeferredSession(options) => {
+            print!(rt; "deferred session")?;
             print_options(rt, options)?;
         }
         Call::Link {

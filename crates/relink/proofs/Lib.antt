@@ -12,3 +12,5 @@ mod FirstChanged
 mod Working
 mod Bounding
 mod Followed
+mod Deferring
+mod LazyTables

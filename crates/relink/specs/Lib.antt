@@ -8,3 +8,4 @@ pub mod PreviousLink
 pub mod NameList
 pub mod Outcome
 pub mod Update
+pub mod Deferred

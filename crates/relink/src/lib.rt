@@ -3,6 +3,8 @@
 //!
 //! - `session`: `Session`; `link_tables`: what it keeps of names and sections, and how an edit updates that;
 //!   `unchanged`: edits that change nothing;
+//! - `deferred`: `DeferredSession`, which links when it is asked; `follow`: its tables follow an edit;
+//!   `lazy_tables`: they are made when they are first needed;
 //! - `change`, `match_table`: what an edit changes under a key; the matches of all objects;
 //! - `name_list`: the names of the objects of a link;
 //! - `previous`, `lent_link`, `session_link`: the previous link without faults, lent to the next one, and a link over
@@ -11,6 +13,9 @@
 #![tactic(auto)]
 
 mod change;
+pub mod deferred;
+mod follow;
+mod lazy_tables;
 mod lent_link;
 mod link_tables;
 mod match_table;
@@ -21,10 +26,12 @@ pub mod session;
 mod session_link;
 mod unchanged;
 
+pub use crate::deferred::DeferredSession;
 pub use crate::session::Session;
 pub use ldmodel::edit::{Edit, EditRefusal, Linked};
 pub use ldmodel::linker::Linker;
 pub use ldmodel::options::{Options, Orphans};
+pub use ldmodel_deferred::linker::DeferredLinker;
 pub use ldmodel_project as project;
 pub use ldmodel_project::project::Project;
 pub use relink_driver as driver;

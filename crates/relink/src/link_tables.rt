@@ -37,13 +37,13 @@ pub(crate) struct LinkTables {
 
 /// What a change of one object puts into the tables, in memory that was taken ahead.
 #[derive(Drop)]
-struct IncomingChange {
-    order: Order,
-    matches: Option<Matches>,
+pub(crate) struct IncomingChange {
+    pub(crate) order: Order,
+    pub(crate) matches: Option<Matches>,
 }
 
 /// If an object was removed, forgets the names that no object declares now. It takes no memory.
-fn forget_if(symbol_table: &mut SymbolTable, went: bool)
+pub(crate) fn forget_if(symbol_table: &mut SymbolTable, went: bool)
     ensures tables { symbol_table.new.kept.names.objects ≡ symbol_table.old.kept.names.objects }
     ensures forgotten { went ≡ true → Forgets symbol_table.old.kept.names symbol_table.new.kept.names }
     ensures kept { (script : List Statement) → AreKept script symbol_table.old.kept
@@ -54,22 +54,10 @@ fn forget_if(symbol_table: &mut SymbolTable, went: bool)
     }
 }
 
-/// Puts the names into byte order after a link without faults, so that the next one need not sort them. If memory
-/// runs out, they stay as they are.
-fn put_in_order_if(symbol_table: &mut SymbolTable, is_good: bool)
-    ensures tables { symbol_table.new.kept.names.objects ≡ symbol_table.old.kept.names.objects }
-    ensures kept { (script : List Statement) → AreKept script symbol_table.old.kept
-        → AreKept script symbol_table.new.kept }
-{
-    if is_good {
-        symbol_table.put_in_order();
-    }
-}
-
 impl LinkTables {
     /// Takes all memory that a change of one object needs. Fails if memory runs out: then the tables are of the same
     /// objects as before.
-    fn make_room(
+    pub(crate) fn make_room(
         &mut self,
         alloc: Global,
         next: &Next<'_>,
@@ -125,7 +113,6 @@ impl LinkTables {
         ) {
             Ok(updated) => {
                 forget_if(&mut self.symbol_table, out.is_some());
-                put_in_order_if(&mut self.symbol_table, updated.is_good());
                 Ok(updated)
             }
             Err(refused) => {

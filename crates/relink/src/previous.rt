@@ -287,7 +287,7 @@ pub(crate) fn view_previous<'a>(
 
 /// After an edit whose link has faults: keeps the previous link, but forgets the origin of the edited object. If the
 /// previous link may have the object that came, it is dropped.
-fn keep_after_fault(previous: &mut Option<PreviousLink>, effect: EditEffect)
+pub(crate) fn keep_after_fault(previous: &mut Option<PreviousLink>, effect: EditEffect)
     ensures { IsAfterFault effect.known effect.gone effect.same_script previous.old previous.new }
 {
     if !effect.known {

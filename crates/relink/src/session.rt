@@ -9,6 +9,8 @@ ghost use Rattle.relink.specs.Kept.{IsKept};
 ghost use Rattle.relink.specs.Work.{IsWholeWork};
 ghost use Rattle.relink_driver.specs.Applied.{Applied};
 
+use crate::deferred::DeferredSession;
+use crate::lazy_tables::are_places;
 use crate::lent_link::lend_previous;
 use crate::link_tables::LinkTables;
 use crate::outcome::LinkOutcome;
@@ -124,6 +126,36 @@ impl Session {
     /// Gives back the memory of a session that is over. A crate that lets a session go by itself is proved to give back
     /// each part of it; one that calls this need not be.
     pub fn close(self) {}
+
+    /// The same project, for edits that are linked when it is asked. `seed` is for hash tables; no link depends on it.
+    pub fn deferred(self, seed: RandomState) -> DeferredSession
+        ensures { result ≡ record { project = self; last = link self } }
+    {
+        let Session {
+            alloc,
+            project,
+            tables,
+            previous,
+            canvas,
+            outcome,
+        } = self;
+        let tables = if are_places(project.keys()) {
+            None
+        } else {
+            Some(tables)
+        };
+        DeferredSession {
+            alloc,
+            project,
+            staged: None,
+            seed,
+            tables,
+            previous,
+            canvas,
+            outcome,
+            is_linked: true,
+        }
+    }
 
     /// Stages an edit, updates the tables and links; commits the next project and records its link only after that. If
     /// an object replaces one of the same bytes, nothing changes, and the link that is there answers.

@@ -110,6 +110,7 @@ pub(crate) fn link_next(
         return Ok(UpdateOutcome::Faulty(text));
     }
     symbol_table.index_places(alloc)?;
+    symbol_table.put_in_order();
     let inputs = next.inputs(alloc)?;
     let view = next.view(&inputs);
     link_keyed(
@@ -152,5 +153,41 @@ pub(crate) fn link_first(
         None,
         canvas,
         &mut Meter::new(),
+    )
+}
+
+/// Links a project over what is kept of it, without a previous link.
+///
+/// # Errors
+///
+/// If memory runs out. Then the canvas is as it was.
+pub(crate) fn link_anew(
+    alloc: Global,
+    project: &Project,
+    symbol_table: &mut SymbolTable,
+    matches: &VecDeque<Matches>,
+    canvas: &mut Canvas,
+    meter: &mut Meter,
+) -> Result<UpdateOutcome, NoMemory>
+    requires kept { IsKept (listing_of project.now) symbol_table.old matches.now.items }
+    ensures same { symbol_table.new ≡ symbol_table.old }
+    ensures updated { IfOk result (HasUpdateOutcome (listing_of project.now) None canvas.old.bytes canvas.new.bytes) }
+    ensures unchanged { OnErr result (canvas.new.bytes ≡ canvas.old.bytes) }
+{
+    // for the prover: brings in this law
+    symbol_table.names_kept();
+    symbol_table.index_places(alloc)?;
+    symbol_table.put_in_order();
+    let inputs = project.inputs(alloc)?;
+    let view = project.view(&inputs);
+    link_keyed(
+        alloc,
+        &view,
+        project.keys(),
+        symbol_table,
+        matches,
+        None,
+        canvas,
+        meter,
     )
 }

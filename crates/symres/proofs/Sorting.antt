@@ -19,12 +19,12 @@ use Rattle.std.proofs.lemmas.Slice.Eq.{bytes_eq-Decides}
 use Rattle.ldmodel.specs.Names.{names_in_objects, symbol_tables}
 use Rattle.ldmodel.specs.OutputSymbols.{is_before}
 use Rattle.ldmodel.specs.Project.{NamedObject, Project}
-use Rattle.symres_table.specs.State.{AreDistinct, IsInByteOrder, IsListing, IsNamed, comes_before}
+use Rattle.symres_table.specs.State.{AreDistinct, IsListing, IsNamed}
 use Rattle.symres_decisions.specs.Counted.{declared_names}
 use Rattle.symres_decisions.specs.Decisions.{DecisionsState}
+use Rattle.symres_decisions.specs.NameText.{IsInByteOrder, comes_before}
 use Rattle.symres.specs.SymbolTable.{IsSymbolTable, SymbolTableState, state_of}
-use Rattle.symres.specs.Sorted.{AreSorted, compared_number, named_number}
-use Rattle.symres.specs.declared.sorted.ComparedKey.{ComparedKey}
+use Rattle.symres.specs.Sorted.{AreSorted, named_number}
 use Rattle.symres.specs.declared.sorted.NamedKey.{NamedKey}
 use Rattle.symres.proofs.Entering.{Table}
 use Rattle.symres.proofs.Placing.{same_tables}
@@ -102,21 +102,6 @@ sorted_listed xs s = λ k d l h.
     sym (ap (λ (x : Listed). comes_before x (get_or (map named_number xs) k (named_number d))) second
     ∙ ap (λ (y : Listed). comes_before (named_number (get_or xs (k + 1) d)) y) first)
     ∙ s k (named_number d) l (omega (arith, h, len))
-
--- the order of the sort of names that are quick to compare
-abbrev pub is_first_compared : ComparedKey → ComparedKey → Bool
-is_first_compared x y = is_lt (slice_cmp nat_cmp x.name y.name)
-
-pub compared_in_order : (xs : List ComparedKey) → IsSortedBy is_first_compared xs
-    → IsInByteOrder (map compared_number xs)
-compared_in_order xs s = λ k e l h.
-    let d : ComparedKey = record { name = []; key = record { 0 = 0 } } in
-    let long : k + 1 < length xs = omega (arith, h, length-map xs compared_number) in
-    let second = get_or-map compared_number xs (k + 1) d e long in
-    let first = get_or-map compared_number xs k d e (omega (arith, long)) in
-    ap (λ (x : Listed). comes_before x (get_or (map compared_number xs) k e)) second
-    ∙ ap (λ (y : Listed). comes_before (compared_number (get_or xs (k + 1) d)) y) first
-    ∙ s k d l long
 
 -- ---- the names
 

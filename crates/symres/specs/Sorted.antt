@@ -1,14 +1,12 @@
 -- The names of a link in byte order, with their keys.
 use Rattle.std.specs.Prelude.{◌≡◌, ℕ, List, map, true, Contains}
 use Rattle.std.specs.List.{All, AllPairs}
-use Rattle.std.specs.List.Sorted.{IsPermutation}
 use Rattle.ldmodel.specs.Names.{names_in_objects}
 use Rattle.ldmodel.specs.OutputSymbols.{is_before}
 use Rattle.ldmodel.specs.Project.{Project}
 use Rattle.symres.specs.SymbolTable.{IsSymbolTable, SymbolTableState}
-use Rattle.symres.specs.declared.sorted.ComparedKey.{ComparedKey}
 use Rattle.symres.specs.declared.sorted.NamedKey.{NamedKey}
-use Rattle.symres_table.specs.State.{AreDistinct, IsInByteOrder, IsNamed}
+use Rattle.symres_table.specs.State.{AreDistinct, IsNamed}
 
 -- each name beside its key, the names in byte order, each once; among them are all that objects declare, and each that
 -- has a key. No two keys have one name
@@ -25,12 +23,3 @@ pub record AreSorted (table : SymbolTableState) (xs : List NamedKey) : Type 0 wh
 -- the number of a name's key beside the name
 abbrev pub named_number : NamedKey → List ℕ × ℕ
 named_number x = (x.name.now, x.key.0)
-
--- these names with their keys, in byte order
-pub record AreInOrder (order : List (List ℕ × ℕ)) (xs : List NamedKey) : Type 0 where
-  pub same : IsPermutation order (map named_number xs)
-  pub up : IsInByteOrder (map named_number xs)
-
--- the same, for a sort
-abbrev pub compared_number : ComparedKey → List ℕ × ℕ
-compared_number x = (x.name, x.key.0)

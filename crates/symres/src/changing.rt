@@ -100,13 +100,10 @@ impl SymbolTable {
         self.decisions.redecide(script, meter);
     }
 
-    /// Puts the names into byte order, so that they need not be sorted after this. If memory runs out, their order
-    /// stays. If they are in byte order already, the time is constant.
+    /// Puts the names into byte order, so that they need not be sorted after this: names that come are put in their
+    /// places. If memory runs out, the next call does it. If they are in byte order already, the time is constant.
     pub fn put_in_order(&mut self)
-        ensures objects { self.new.kept.names.objects ≡ self.old.kept.names.objects }
-        ensures names { self.new.kept.names ≡ record self.old.kept.names { order = self.new.kept.names.order } }
-        ensures cases { self.new.kept.cases ≡ self.old.kept.cases }
-        ensures kept { (script : List Statement) → AreKept script self.old.kept → AreKept script self.new.kept }
+        ensures { self.new ≡ self.old }
     {
         self.decisions.put_in_order();
     }

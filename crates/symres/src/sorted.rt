@@ -1,8 +1,8 @@
 //! The names of a link in byte order.
 
 ghost use Rattle.std.specs.Prelude.{◌≡◌, ◌<◌, ℕ, IfOk, List, length, map, slice_index_or};
-ghost use Rattle.symres.specs.Sorted.{compared_number, named_number, AreInOrder, AreSorted};
-ghost use Rattle.symres_table.specs.State.{IsListing};
+ghost use Rattle.symres.specs.Sorted.{named_number, AreSorted};
+ghost use Rattle.symres_decisions.specs.NameText.{AreInOrder, compared_number};
 
 use crate::symbol_table::SymbolTable;
 use ldmodel::memory::NoMemory;
@@ -11,7 +11,7 @@ use std::alloc::Global;
 use symres_decisions::decisions::Decisions;
 use symres_decisions::law::names_of_objects;
 use symres_decisions::name_text::NameText;
-use symres_table::prefix_key::KeyedName;
+use symres_decisions::sorted_names::ComparedName;
 
 /// A name and its key.
 #[derive(Clone, Copy, Debug)]
@@ -20,13 +20,6 @@ pub struct NamedKey<'a> {
     pub name: &'a [u8],
     /// The key of the name.
     pub key: NameKey,
-}
-
-/// A name that is quick to compare, and its key.
-#[derive(Drop)]
-struct ComparedKey<'a> {
-    name: KeyedName<'a>,
-    key: NameKey,
 }
 
 /// The name at a place in a text, with its key.
@@ -52,50 +45,8 @@ fn written(alloc: Global, text: &NameText) -> Result<Vec<NamedKey<'_>>, NoMemory
     Ok(list)
 }
 
-/// All known names with their keys, in no promised order. It is for when no text of names is kept.
-fn scattered(alloc: Global, decisions: &Decisions) -> Result<Vec<NamedKey<'_>>, NoMemory>
-    ensures list { IfOk result (λ list. map named_number list.items ≡ decisions.now.names.order) }
-{
-    let mut list = Vec::with_capacity(alloc, decisions.known())?;
-    for (name, key) in decisions.listed() {
-        list.push(NamedKey {
-            name: name.as_slice(),
-            key: NameKey(*key),
-        })?;
-    }
-    Ok(list)
-}
-
-/// All known names, each with its key, in no promised order.
-fn listed(alloc: Global, decisions: &Decisions) -> Result<Vec<NamedKey<'_>>, NoMemory>
-    ensures list { IfOk result (λ list. map named_number list.items ≡ decisions.now.names.order) }
-    ensures listing { IsListing decisions.now.names.names decisions.now.names.order }
-{
-    // for the prover: brings in the invariant of `decisions`
-    let _count = decisions.known();
-    match decisions.text() {
-        Some(text) => written(alloc, text),
-        None => scattered(alloc, decisions),
-    }
-}
-
-/// The same, for a sort.
-fn compared(alloc: Global, decisions: &Decisions) -> Result<Vec<ComparedKey<'_>>, NoMemory>
-    ensures list { IfOk result (λ list. map compared_number list.items ≡ decisions.now.names.order) }
-    ensures listing { IsListing decisions.now.names.names decisions.now.names.order }
-{
-    let mut list = Vec::with_capacity(alloc, decisions.known())?;
-    for (name, key) in decisions.listed() {
-        list.push(ComparedKey {
-            name: KeyedName::new(name.as_slice()),
-            key: NameKey(*key),
-        })?;
-    }
-    Ok(list)
-}
-
 /// The names of a list with their keys.
-fn named<'a>(alloc: Global, list: &[ComparedKey<'a>]) -> Result<Vec<NamedKey<'a>>, NoMemory>
+fn named<'a>(alloc: Global, list: &[ComparedName<'a>]) -> Result<Vec<NamedKey<'a>>, NoMemory>
     ensures { IfOk result (λ named. map named_number named.items ≡ map compared_number list.now) }
 {
     let mut names = Vec::with_capacity(alloc, list.len())?;
@@ -108,30 +59,27 @@ fn named<'a>(alloc: Global, list: &[ComparedKey<'a>]) -> Result<Vec<NamedKey<'a>
     Ok(names)
 }
 
-/// All known names in byte order, each with its key.
+/// All known names in byte order, each with its key. They are sorted.
 fn sorted_list(alloc: Global, decisions: &Decisions) -> Result<Vec<NamedKey<'_>>, NoMemory>
-    ensures list { IfOk result (λ list. AreInOrder decisions.now.names.order list.items) }
-    ensures listing { IsListing decisions.now.names.names decisions.now.names.order }
+    ensures { IfOk result (λ list. AreInOrder decisions.now.names.order (map named_number list.items)) }
 {
-    let mut list = compared(alloc, decisions)?;
-    list.sort_by(|x, y| x.name.cmp(&y.name))?;
+    let list = decisions.sorted(alloc)?;
     named(alloc, &list)
 }
 
-/// All known names in byte order, each with its key. They are sorted only if they are not known to stand so.
+/// All known names in byte order, each with its key. They are sorted only if no text of them is kept.
 fn in_byte_order(alloc: Global, decisions: &Decisions) -> Result<Vec<NamedKey<'_>>, NoMemory>
-    ensures list { IfOk result (λ list. AreInOrder decisions.now.names.order list.items) }
-    ensures listing { IsListing decisions.now.names.names decisions.now.names.order }
+    ensures { IfOk result (λ list. AreInOrder decisions.now.names.order (map named_number list.items)) }
 {
-    if decisions.is_in_order() {
-        return listed(alloc, decisions);
+    match decisions.text() {
+        Some(text) => written(alloc, text),
+        None => sorted_list(alloc, decisions),
     }
-    sorted_list(alloc, decisions)
 }
 
 impl SymbolTable {
     /// All known names in byte order, each with its key: all that objects declare are among them. They are sorted only
-    /// if a name became known since they were put in order.
+    /// if they were not put in order before.
     ///
     /// # Errors
     ///

@@ -9,14 +9,14 @@ use Rattle.ldscript.specs.statements.declared.statement.Statement.{Statement}
 use Rattle.ldmodel.specs.Names.{distinct}
 use Rattle.ldmodel.specs.declared.names.Case.{Case}
 use Rattle.ldmodel.specs.declared.names.ObjectKey.{ObjectKey}
-use Rattle.symres_table.specs.State.{HasName, IsInByteOrder, IsNamed, State, entries_of, slot}
+use Rattle.symres_table.specs.State.{HasName, IsNamed, State, entries_of, slot}
 use Rattle.symres_decisions.specs.Change.{AreThere, Fits, IsReadyFor, PutsIn, Table, TakesOut, changed_tables}
 use Rattle.symres_decisions.specs.Change.{declared_by}
 use Rattle.symres_decisions.specs.Change.{reversed}
 use Rattle.symres_decisions.specs.Change.{put_in, symbols_at, symbols_or, taken_out}
 use Rattle.symres_decisions.specs.Counted.{CountsNames}
 use Rattle.symres_decisions.specs.Decided.{AreCases, HasCase, case_at}
-use Rattle.symres_decisions.specs.Decisions.{AreUsedBelow, IsNoted, IsTextOf, IsWhole}
+use Rattle.symres_decisions.specs.Decisions.{AreUsedBelow, IsTextOf, IsWhole}
 use Rattle.symres_decisions.specs.Texts.{AreDone, AreFound, AreOpen, DecidedFor, HasPlaces, IsCleared, declares}
 use Rattle.symres_decisions.specs.Texts.{touches}
 use Rattle.symres_decisions.specs.declared.change.ObjectAt.{ObjectAt}
@@ -175,11 +175,6 @@ module _ (script : List Statement) (c : ObjectChange) (s0 s1 s2 : State)
       ∙ (ap (λ (t : Bool). cond t None (case_at cases1 k)) into
       ∙ (h.cleared.at k ∙ (ap (λ (t : Bool). cond t None (case_at cases0 k)) out ∙ was.1))) in
       new_decided.kept k was.0 (old_decided.kept k was.0 left) ∙ sym was.1
-
-  pub noted_after : (noted : Bool) → IsNoted s0 noted → IsNoted s2 noted
-  noted_after noted is sure =
-      subst IsInByteOrder
-      (sym (in_order s1 s2 c.key.0 c.into h.into ∙ out_order s0 s1 c.key.0 c.out h.out)) (is sure)
 
   pub text_after : (text : Option (List Listed)) → IsTextOf s0 text → IsTextOf s2 text
   text_after text is =

@@ -17,3 +17,4 @@ pub mod MakingRoom
 pub mod ProjectNames
 pub mod Used
 pub mod Written
+pub mod ByteOrder

@@ -1,6 +1,6 @@
 -- The list of known names.
-use Rattle.std.proofs.Common.{◌≡◌, ◌∙◌, ◌<◌, ℕ, true, List, Option, length, get_or, ap, subst}
-use Rattle.std.specs.Prelude.{bytes_eq}
+use Rattle.std.proofs.Common.{◌≡◌, ◌∙◌, ◌<◌, ℕ, true, List, Option, Some, None, length, get_or, ap, refl, subst}
+use Rattle.std.specs.Prelude.{IsSome, MatchOption, bytes_eq}
 use Rattle.std.proofs.lemmas.List.{get_or_default}
 use Rattle.std.proofs.lemmas.Map.Views.{Contains-from_lookup}
 use Rattle.std.proofs.lemmas.Slice.Eq.{bytes_eq-Decides}
@@ -35,3 +35,10 @@ named_listed names order i k e l h is = (
   (get_or order i e).0,
   subst (λ (n : ℕ). IsNamed names n (get_or order i e).0) is (l.sound i e h),
 )
+
+-- what is found for a key that has a name
+pub some_name : (names : List (Option (List ℕ))) (k : ℕ) {X : Type 0} (f : X → List ℕ) (o : Option X)
+    → MatchOption o ((name : List ℕ) → IsNamed names k name → ⊥) (λ x. IsNamed names k (f x)) → HasName names k
+    → IsSome o
+some_name names k f None h named = absurd (h named.0 named.1)
+some_name names k f (Some x) h named = refl

@@ -1,27 +1,26 @@
 -- Names become known, and are forgotten again.
 use Rattle.std.proofs.Common.{◌≡◌, ◌∙◌, ◌<◌, ◌≤◌, ◌+◌, ◌-◌, ℕ, Bool, true, false, cond, eqb, List, [], ◌∷◌, ◌++◌}
-use Rattle.std.proofs.Common.{length, filter}
-use Rattle.std.proofs.Common.{Option, Some, None, Result, Ok, Err, OnOk, get_or, set, drop, refl, ap, sym, subst, arith}
+use Rattle.std.proofs.Common.{length}
+use Rattle.std.proofs.Common.{Option, Some, None, Result, Ok, Err, OnOk, get_or, set, drop, take, refl, ap, sym, subst, arith}
 use Rattle.std.proofs.Common.{⊎_elim, ◌⊎◌, inl, inr, get_or-set_other, get_or-set_same}
 use Rattle.std.specs.Prelude.{IfSome, nat_lt}
 use Rattle.std.specs.List.{All}
-use Rattle.std.specs.Cmp.Lexicographic.{nat_list_cmp_total}
+use Rattle.std.proofs.Math.Seq.{take-append_seam}
 use Rattle.std.proofs.lemmas.Bool.{cases_eq, cases_lt, eq-eqb, ne_eqb}
 use Rattle.std.proofs.lemmas.List.{get_or_append_left, get_or-drop, get_or_past, length-drop}
-use Rattle.std.proofs.lemmas.List.Kept.{IsSortedBy-filter}
-use Rattle.std.proofs.lemmas.List.MinMax.{ranks_by}
 use Rattle.elfobj.specs.Symbols.{NamedSymbol}
 use Rattle.ldscript.specs.statements.declared.statement.Statement.{Statement}
 use Rattle.ldmodel.specs.Names.{Declaration, decided}
 use Rattle.ldmodel.specs.ScriptNames.{is_assigned, is_provided}
 use Rattle.ldmodel.specs.declared.names.Case.{Case}
 use Rattle.ldmodel.specs.declared.names.ObjectKey.{ObjectKey}
-use Rattle.symres_table.specs.State.{Forgets, HasName, IsInByteOrder, IsListing, IsNamed, KeepsNames, MayEnter}
-use Rattle.symres_table.specs.State.{State, comes_before, entries_of, slot}
+use Rattle.symres_table.specs.State.{Forgets, HasName, IsListing, IsNamed, KeepsNames, MayEnter}
+use Rattle.symres_table.specs.State.{State, entries_of, slot}
 use Rattle.symres_decisions.specs.Change.{Fits, IsReadyFor, MayFollow, symbols_at}
 use Rattle.symres_decisions.specs.Counted.{is_used}
 use Rattle.symres_decisions.specs.Decided.{AreCases, HasCase, IsCase, case_at}
-use Rattle.symres_decisions.specs.Decisions.{IsNoted, IsTextOf, IsWhole}
+use Rattle.symres_decisions.specs.Decisions.{IsTextOf, IsWhole}
+use Rattle.symres_decisions.specs.NameText.{AreInOrder}
 use Rattle.symres_decisions.specs.Room.{AreKeptWhere, AreUnused, HaveCasesBelow, HaveCasesFrom, KeepsUsed, OnlyDrops}
 use Rattle.symres_decisions.specs.Room.{kept_where}
 use Rattle.symres_decisions.specs.Room.{AreOldOrNew, StandsFrom}
@@ -81,21 +80,11 @@ whole_same a b cases more l keeps order count below h = record {
   only = λ k has. let n : HasName a.names k = h.only k has in (n.0, keeps k n.0 n.1);
 }
 
--- ---- the order of names
+-- ---- the text of the names
 
--- it is as it was
-pub noted_same : (a b : State) (noted : Bool) → b.order ≡ a.order → IsNoted a noted → IsNoted b noted
-noted_same a b noted same is sure = subst IsInByteOrder (sym same) (is sure)
-
--- no name became known
-pub noted_none_more : (a b : State) (noted : Bool) (more : List Listed) → b.order ≡ a.order ++ more
-    → length b.order ≡ length a.order → IsNoted a noted → IsNoted b noted
-noted_none_more a b noted more order count =
-    noted_same a b noted (order ∙ none_more a.order more (ap length (sym order) ∙ count))
-
--- the text of the names, where they stand as they did
+-- the names stand as they did
 pub text_same : (a b : State) (text : Option (List Listed)) → b.order ≡ a.order → IsTextOf a text → IsTextOf b text
-text_same a b text same h = subst (λ (names : List Listed). IfSome text (λ t. t ≡ names)) (sym same) h
+text_same a b text same h = subst (λ (names : List Listed). IfSome text (AreInOrder names)) (sym same) h
 
 -- no name became known
 pub text_none_more : (a b : State) (text : Option (List Listed)) (more : List Listed) → b.order ≡ a.order ++ more
@@ -103,25 +92,12 @@ pub text_none_more : (a b : State) (text : Option (List Listed)) (more : List Li
 text_none_more a b text more order count =
     text_same a b text (order ∙ none_more a.order more (ap length (sym order) ∙ count))
 
--- names that only stand in another order
-pub whole_ordered : (a b : State) (cases : List (Option (Case ObjectKey))) → b ≡ record a { order = b.order }
-    → IsWhole a cases
-    → IsWhole b cases
-whole_ordered a b cases same h =
-    let names : b.names ≡ a.names = ap (λ (s : State). s.names) same in
-    record {
-      complete = λ k n. h.complete k (subst (λ (ns : List (Option (List ℕ))). HasName ns k) names n);
-      only = λ k has. subst (λ (ns : List (Option (List ℕ))). HasName ns k) (sym names) (h.only k has);
-    }
-
-pub sound_ordered : (script : List Statement) (a b : State) (cases : List (Option (Case ObjectKey)))
-    → b ≡ record a { order = b.order } → AreCases script a cases → AreCases script b cases
-sound_ordered script a b cases same =
-    sound_more script a b cases (λ n name h. ap (λ (s : State). slot s.names n) same ∙ h)
-    (ap (λ (s : State). s.objects) same)
-
-pub noted_not : (s : State) → IsNoted s false
-noted_not s sure = absurd (cc)
+-- it has the names before those that became known
+pub text_before : (a b : State) (text : Option (List Listed)) (more : List Listed) (from : ℕ)
+    → b.order ≡ a.order ++ more → from ≡ length a.order → IsTextOf a text → IfSome text (AreInOrder (take from b.order))
+text_before a b text more from order count h =
+    subst (λ (names : List Listed). IfSome text (AreInOrder names))
+    (sym (ap (take from) order ∙ ap (λ (n : ℕ). take n (a.order ++ more)) count ∙ take-append_seam a.order more)) h
 
 -- ---- new names get cases
 
@@ -353,14 +329,6 @@ pub used_twice : (a b d : State) → KeepsNames a.names b.names → b.objects �
 used_twice a b d keeps same f k name h used =
     used_forgotten b d f k name (keeps k name h)
     (subst (λ (ts : List (ℕ × List NamedSymbol)). is_used ts name ≡ true) (sym same) used)
-
-sorted_filter : (p : Listed → Bool) (order : List Listed) → IsInByteOrder order → IsInByteOrder (filter p order)
-sorted_filter p order h =
-    IsSortedBy-filter comes_before (ranks_by nat_list_cmp_total (λ (x : Listed). x.0)) p order h
-
-pub noted_forgotten : (a b : State) (noted : Bool) → Forgets a b → IsNoted a noted → IsNoted b noted
-noted_forgotten a b noted f is sure =
-    subst IsInByteOrder (sym f.order) (sorted_filter (λ (e : Listed). is_used a.objects e.0) a.order (is sure))
 
 -- ---- memory was refused after names became known
 

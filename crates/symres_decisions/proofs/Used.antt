@@ -13,7 +13,7 @@ use Rattle.std.proofs.lemmas.Map.Made.{is_member-Decides}
 use Rattle.std.proofs.lemmas.Slice.Eq.{bytes_eq-Decides}
 use Rattle.elfobj.specs.Symbols.{NamedSymbol}
 use Rattle.ldmodel.specs.Names.{Declaration, is_local}
-use Rattle.symres_table.specs.State.{Forgets, IsListing, IsNamed, State, entries_of, slot}
+use Rattle.symres_table.specs.State.{Forgets, IsListing, IsNamed, State, entries_of}
 use Rattle.symres_decisions.specs.Change.{CanCome, Table, put_in, symbols_at, symbols_or}
 use Rattle.symres_decisions.specs.Counted.{declared_in, is_used}
 use Rattle.symres_decisions.specs.Decisions.{AreUsed, AreUsedBelow}
@@ -110,12 +110,6 @@ used_listed s n listing all h = record {
   used = λ i e lt.
       h (get_or s.order i e).1 (get_or s.order i e).0 (listing.sound i e (omega (arith, lt, all)));
 }
-
--- names that only stand in another order
-pub used_ordered : (a b : State) → b ≡ record a { order = b.order } → AreUsed a → AreUsed b
-used_ordered a b is h k name named =
-    ap (λ (ts : List Table). is_used ts name) (ap (λ (s : State). s.objects) is)
-    ∙ h k name (ap (λ (s : State). slot s.names k) (sym is) ∙ named)
 
 -- after a change
 pub used_changed : (a b : State) (out into : List NamedSymbol) (n : ℕ) → b.order ≡ a.order

@@ -1,10 +1,13 @@
 -- Names one after the other in memory.
-use Rattle.std.proofs.Common.{◌≡◌, ◌∙◌, ◌-◌, ◌≤◌, ℕ, List, [], ◌∷◌, ◌++◌, length, map, take, drop, ap, refl, arith}
-use Rattle.std.specs.List.{All, slice_range}
+use Rattle.std.proofs.Common.{◌≡◌, ◌∙◌, ◌-◌, ◌≤◌, ℕ, List, [], ◌∷◌, ◌++◌, length, map, take, drop, ap, refl, sym}
+use Rattle.std.proofs.Common.{arith, Bool, true, false, cond, filter}
+use Rattle.std.specs.List.{All, insert, slice_range}
 use Rattle.std.proofs.Math.Seq.{drop-append_seam}
-use Rattle.std.proofs.lemmas.List.{drop-append-le, length-append, length-drop, map-append, take-append-le, take_all}
+use Rattle.std.proofs.lemmas.List.{drop-append-le, drop-map, length-append, length-drop, map-append, take-append-le}
+use Rattle.std.proofs.lemmas.List.{take-map, take_all}
 use Rattle.std.proofs.lemmas.List.Elements.{All-append, All-cons, All-head, All-nil, All-tail, All-weaker}
-use Rattle.symres_decisions.specs.NameText.{IsInside, written}
+use Rattle.std.proofs.lemmas.List.Sorted.{All-permutation, IsPermutation-insert}
+use Rattle.symres_decisions.specs.NameText.{IsInside, IsWritten, written}
 use Rattle.symres_decisions.specs.declared.name_text.WrittenName.{WrittenName}
 
 -- a part of a list, where more comes after the list
@@ -41,23 +44,72 @@ all_written bytes more (w ∷ ws) h =
     ∙ ap (λ (names : List (List ℕ × ℕ)). written bytes w ∷ names)
     (all_written bytes more ws (All-tail (IsInside bytes) w ws h))
 
+-- the name that comes last in the bytes
+last_written : (bytes name : List ℕ) (key : ℕ) (w : WrittenName) → IsWritten bytes name key w
+    → written (bytes ++ name) w ≡ (name, key)
+last_written bytes name key w is =
+    ap (λ (n : ℕ). (slice_range (bytes ++ name) n w.end, w.number)) is.start
+    ∙ ap (λ (n : ℕ). (slice_range (bytes ++ name) (length bytes) n, w.number)) is.end
+    ∙ ap (λ (xs : List ℕ). (xs, w.number)) (range_last bytes name)
+    ∙ ap (λ (n : ℕ). (name, n)) is.number
+
+last_inside : (bytes name : List ℕ) (key : ℕ) (w : WrittenName) → IsWritten bytes name key w
+    → IsInside (bytes ++ name) w
+last_inside bytes name key w is =
+    record { order = omega (arith, is.start, is.end, length-append bytes name); end = omega (arith, is.end) }
+
 -- a name is written after the others
-pub one_written : (bytes name : List ℕ) (ws : List WrittenName) (w : WrittenName) → w.start ≡ length bytes
-    → w.end ≡ length (bytes ++ name) → All (IsInside bytes) ws
-    → map (written (bytes ++ name)) (ws ++ w ∷ []) ≡ map (written bytes) ws ++ (name, w.number) ∷ []
-one_written bytes name ws w start end h =
-    let last : written (bytes ++ name) w ≡ (name, w.number) =
-    ap (λ (n : ℕ). (slice_range (bytes ++ name) n w.end, w.number)) start
-    ∙ ap (λ (n : ℕ). (slice_range (bytes ++ name) (length bytes) n, w.number)) end
-    ∙ ap (λ (xs : List ℕ). (xs, w.number)) (range_last bytes name) in
+pub one_written : (bytes name : List ℕ) (key : ℕ) (ws : List WrittenName) (w : WrittenName)
+    → IsWritten bytes name key w → All (IsInside bytes) ws
+    → map (written (bytes ++ name)) (ws ++ w ∷ []) ≡ map (written bytes) ws ++ (name, key) ∷ []
+one_written bytes name key ws w is h =
     map-append (written (bytes ++ name)) ws (w ∷ [])
     ∙ ap (λ (names : List (List ℕ × ℕ)). names ++ written (bytes ++ name) w ∷ []) (all_written bytes name ws h)
-    ∙ ap (λ (one : List ℕ × ℕ). map (written bytes) ws ++ one ∷ []) last
+    ∙ ap (λ (one : List ℕ × ℕ). map (written bytes) ws ++ one ∷ []) (last_written bytes name key w is)
 
-pub one_inside : (bytes name : List ℕ) (ws : List WrittenName) (w : WrittenName) → w.start ≡ length bytes
-    → w.end ≡ length (bytes ++ name) → All (IsInside bytes) ws → All (IsInside (bytes ++ name)) (ws ++ w ∷ [])
-one_inside bytes name ws w start end h =
+pub one_inside : (bytes name : List ℕ) (key : ℕ) (ws : List WrittenName) (w : WrittenName)
+    → IsWritten bytes name key w → All (IsInside bytes) ws → All (IsInside (bytes ++ name)) (ws ++ w ∷ [])
+one_inside bytes name key ws w is h =
     All-append (IsInside (bytes ++ name)) ws (w ∷ []) (all_inside bytes name ws h)
-    (All-cons (IsInside (bytes ++ name)) w []
-    (record { order = omega (arith, start, end, length-append bytes name); end = omega (arith, end) })
+    (All-cons (IsInside (bytes ++ name)) w [] (last_inside bytes name key w is)
     (All-nil (IsInside (bytes ++ name))))
+
+-- ---- a name is put among the others
+
+map_put : {X Y : Type 0} (f : X → Y) (xs : List X) (i : ℕ) (x : X) → map f (insert xs i x) ≡ insert (map f xs) i (f x)
+map_put f xs i x =
+    map-append f (take i xs) (x ∷ drop i xs)
+    ∙ ap (λ ys. ys ++ f x ∷ map f (drop i xs)) (sym (take-map f i xs))
+    ∙ ap (λ ys. take i (map f xs) ++ f x ∷ ys) (sym (drop-map f i xs))
+
+pub put_written : (bytes name : List ℕ) (key : ℕ) (ws : List WrittenName) (place : ℕ) (w : WrittenName)
+    → IsWritten bytes name key w → All (IsInside bytes) ws
+    → map (written (bytes ++ name)) (insert ws place w) ≡ insert (map (written bytes) ws) place (name, key)
+put_written bytes name key ws place w is h =
+    map_put (written (bytes ++ name)) ws place w
+    ∙ ap (λ (names : List (List ℕ × ℕ)). insert names place (written (bytes ++ name) w)) (all_written bytes name ws h)
+    ∙ ap (insert (map (written bytes) ws) place) (last_written bytes name key w is)
+
+pub put_inside : (bytes name : List ℕ) (key : ℕ) (ws : List WrittenName) (place : ℕ) (w : WrittenName)
+    → IsWritten bytes name key w → All (IsInside bytes) ws → All (IsInside (bytes ++ name)) (insert ws place w)
+put_inside bytes name key ws place w is h =
+    All-permutation (IsInside (bytes ++ name)) (w ∷ ws) (insert ws place w) (IsPermutation-insert ws place w)
+    (All-cons (IsInside (bytes ++ name)) w ws (last_inside bytes name key w is) (all_inside bytes name ws h))
+
+-- ---- names are taken out
+
+pub kept_written : (p : List ℕ × ℕ → Bool) (bytes : List ℕ) (ws : List WrittenName)
+    → map (written bytes) (filter (λ (w : WrittenName). p (written bytes w)) ws) ≡ filter p (map (written bytes) ws)
+kept_written p bytes [] = refl
+kept_written p bytes (w ∷ ws) =
+    go (p (written bytes w))
+    ∙ ap (λ (names : List (List ℕ × ℕ)). cond (p (written bytes w)) (written bytes w ∷ names) names)
+    (kept_written p bytes ws)
+  where
+    rest : List WrittenName
+    rest = filter (λ (v : WrittenName). p (written bytes v)) ws
+
+    go : (b : Bool) → map (written bytes) (cond b (w ∷ rest) rest)
+        ≡ cond b (written bytes w ∷ map (written bytes) rest) (map (written bytes) rest)
+    go true = refl
+    go false = refl

@@ -1,14 +1,15 @@
 -- What names stand for, as callers see it.
-use Rattle.std.specs.Prelude.{ℕ, ◌≡◌, ◌<◌, ◌≤◌, ◌⊎◌, Bool, true, List, [], Option, Some, IfSome, length, slice_index_or}
+use Rattle.std.specs.Prelude.{ℕ, ◌≡◌, ◌<◌, ◌≤◌, ◌⊎◌, true, List, [], Option, Some, IfSome, length, slice_index_or}
 use Rattle.ldscript.specs.statements.declared.statement.Statement.{Statement}
 use Rattle.ldmodel.specs.HandedOver.{decision_under_keys}
 use Rattle.ldmodel.specs.Names.{decided}
 use Rattle.ldmodel.specs.ScriptNames.{is_assigned, is_provided}
 use Rattle.ldmodel.specs.declared.names.Case.{Case}
 use Rattle.ldmodel.specs.declared.names.ObjectKey.{ObjectKey}
-use Rattle.symres_table.specs.State.{State, HasName, IsInByteOrder, IsNamed, entries_of}
+use Rattle.symres_table.specs.State.{State, HasName, IsNamed, entries_of}
 use Rattle.symres_decisions.specs.Counted.{is_used}
 use Rattle.symres_decisions.specs.Decided.{AreCases, HasCase, case_at}
+use Rattle.symres_decisions.specs.NameText.{AreInOrder}
 
 -- the table of names, and the cases by their keys
 pub record DecisionsState : Type 0 where
@@ -20,13 +21,9 @@ pub record IsWhole (names : State) (cases : List (Option (Case ObjectKey))) : Ty
   pub complete : (k : ℕ) → HasName names.names k → HasCase cases k
   pub only : (k : ℕ) → HasCase cases k → HasName names.names k
 
--- where this is noted, the names stand in byte order
-abbrev pub IsNoted : State → Bool → Type 0
-IsNoted names in_order = in_order ≡ true → IsInByteOrder names.order
-
--- where a text of the names is kept, it has them as they are listed
+-- where a text of the names is kept, it has all of them, in byte order
 abbrev pub IsTextOf : State → Option (List (List ℕ × ℕ)) → Type 0
-IsTextOf names text = IfSome text (λ t. t ≡ names.order)
+IsTextOf names text = IfSome text (AreInOrder names.order)
 
 -- each known name has an entry
 abbrev pub AreUsed : State → Type 0

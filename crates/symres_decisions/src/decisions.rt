@@ -10,8 +10,9 @@ ghost use Rattle.symres_decisions.specs.Counted.{CountsNames, declared_names};
 ghost use Rattle.symres_decisions.specs.Decided.{case_at, decision_in, HasCase, is_doubled};
 ghost use Rattle.symres_decisions.specs.Decisions.{AreKept, IsCaseNamed};
 ghost use Rattle.symres_decisions.specs.Keyed.{AreApart, tables_of};
+ghost use Rattle.symres_decisions.specs.NameText.{AreInOrder, compared_number};
 ghost use Rattle.symres_table.specs.Known.{entry_spelled};
-ghost use Rattle.symres_table.specs.State.{entries_of, HasName, IsInByteOrder, IsListing, IsNameAt};
+ghost use Rattle.symres_table.specs.State.{entries_of, HasName, IsListing, IsNameAt};
 ghost use Rattle.symres_table.specs.State.{IsNamed, IsSeenAt, object_key};
 ghost use Rattle.symres_table.specs.Tally.{declaration_of};
 
@@ -21,7 +22,7 @@ use crate::entered::enter_all;
 use crate::keyed_object::KeyedObject;
 use crate::name_text::NameText;
 use crate::single::given_case;
-use crate::used_names::{all_or_none, are_all_used};
+use crate::sorted_names::{ComparedName, sorted_names};
 use elfobj::Meter;
 use elfobj::memory::NoMemory;
 use elfobj::relocation::SymbolIndex;
@@ -40,25 +41,22 @@ use symres_table::symbol::Declared;
 pub struct Decisions {
     pub(crate) names: Names,
     pub(crate) cases: Cases,
-    // whether the names are known to be in byte order
-    pub(crate) in_order: bool,
     // how many of the first names of the list are known to have entries
     pub(crate) used: usize,
     // room for the keys of the names of the object that goes at a change
     pub(crate) noted: Vec<NameKey>,
-    // the names as they are listed, one after the other in memory
+    // the names in byte order, one after the other in memory
     pub(crate) text: Option<NameText>,
 }
 
 impl Model for Decisions {
-    ghost use Rattle.symres_decisions.specs.Decisions.{AreUsedBelow, DecisionsState, IsNoted, IsTextOf, IsWhole};
+    ghost use Rattle.symres_decisions.specs.Decisions.{AreUsedBelow, DecisionsState, IsTextOf, IsWhole};
 
     ghost Value = { DecisionsState };
 
     ghost view = { λ a. record { names = a.names; cases = a.cases } };
 
-    ghost invariant = { λ a. IsWhole a.names a.cases × IsNoted a.names a.in_order × AreUsedBelow a.names a.used
-        × IsTextOf a.names a.text };
+    ghost invariant = { λ a. IsWhole a.names a.cases × AreUsedBelow a.names a.used × IsTextOf a.names a.text };
 }
 
 impl Decisions {
@@ -86,7 +84,6 @@ impl Decisions {
         Ok(Decisions {
             names,
             cases,
-            in_order: false,
             used: 0,
             noted: Vec::new(alloc),
             text: None,
@@ -211,61 +208,33 @@ impl Decisions {
         self.names.listed()
     }
 
-    /// Whether the names are known to be in byte order. The time is constant.
-    pub fn is_in_order(&self) -> bool
-        ensures { result ≡ true → IsInByteOrder self.now.names.order }
-    {
-        self.in_order
-    }
-
-    /// The names as they are listed, one after the other in memory, if they are kept so.
+    /// The names in byte order, one after the other in memory, if they are kept so.
     pub fn text(&self) -> Option<&NameText>
-        ensures { IfSome result (λ text. text.now ≡ self.now.names.order) }
+        ensures { IfSome result (λ text. AreInOrder self.now.names.order text.now) }
     {
         self.text.as_ref()
     }
 
-    /// Puts the names into byte order. If memory is refused, they stand as before.
-    fn sort(&mut self)
-        ensures names { self.new.names ≡ record self.old.names { order = self.new.names.order } }
-        ensures cases { self.new.cases ≡ self.old.cases }
-        ensures objects { self.new.names.objects ≡ self.old.names.objects }
-        ensures kept { (script : List Statement) → AreKept script self.old → AreKept script self.new }
+    /// The names in byte order. They are sorted for it.
+    ///
+    /// # Errors
+    ///
+    /// If memory runs out.
+    pub fn sorted(&self, alloc: Global) -> Result<Vec<ComparedName<'_>>, NoMemory>
+        ensures { IfOk result (λ list. AreInOrder self.now.names.order (map compared_number list.items)) }
     {
-        if self.in_order {
-            return;
-        }
-        self.text = None;
-        let are_used = are_all_used(&self.names, self.used);
-        match self.names.sort_names() {
-            Ok(()) => {
-                self.in_order = true;
-                self.used = all_or_none(&self.names, are_used);
-            }
-            Err(_refused) => {}
-        }
+        sorted_names(alloc, &self.names)
     }
 
-    /// Writes the names one after the other, if they stand in byte order and there is memory for it.
-    fn write_text(&mut self)
+    /// Puts the names into byte order and writes them one after the other in memory, so that listings after this need
+    /// not sort them and are quick to read. If memory is refused they are not kept so. If they are, the time is
+    /// constant. If a name is defined twice nothing is done, since a link then ends before it lists them.
+    pub fn put_in_order(&mut self)
         ensures { self.new ≡ self.old }
     {
-        if !self.in_order || self.text.is_some() {
+        if self.text.is_some() || self.cases.doubled() > 0 {
             return;
         }
-        self.text = NameText::of(*self.noted.allocator(), &self.names).ok();
-    }
-
-    /// Puts the names into byte order, and writes them one after the other in memory, so that listings after this need
-    /// not be sorted and are quick to read. If memory is refused they stand as before. Where they stand so, the time is
-    /// constant.
-    pub fn put_in_order(&mut self)
-        ensures names { self.new.names ≡ record self.old.names { order = self.new.names.order } }
-        ensures cases { self.new.cases ≡ self.old.cases }
-        ensures objects { self.new.names.objects ≡ self.old.names.objects }
-        ensures kept { (script : List Statement) → AreKept script self.old → AreKept script self.new }
-    {
-        self.sort();
-        self.write_text();
+        self.text = NameText::of(*self.noted.allocator(), &self.names);
     }
 }

@@ -5,7 +5,7 @@ ghost use Rattle.ldscript.specs.statements.declared.statement.Statement.{Stateme
 ghost use Rattle.symres_decisions.specs.Change.{CanGo, Fits, IsReadyFor};
 ghost use Rattle.symres_decisions.specs.Counted.{is_used};
 ghost use Rattle.symres_decisions.specs.Decided.{AreCases, case_at, HasCase};
-ghost use Rattle.symres_decisions.specs.Decisions.{AreKept, AreUsedBelow, IsNoted, IsTextOf, IsWhole};
+ghost use Rattle.symres_decisions.specs.Decisions.{AreKept, AreUsedBelow, IsTextOf, IsWhole};
 ghost use Rattle.symres_decisions.specs.Room.{AreKeptWhere, AreUnused, HaveCasesBelow, HaveCasesFrom, kept_where};
 ghost use Rattle.symres_decisions.specs.Room.{KeepsUsed};
 ghost use Rattle.symres_decisions.specs.Room.{AreOldOrNew, OnlyDrops};
@@ -14,6 +14,7 @@ ghost use Rattle.symres_table.specs.State.{entries_of, Forgets, HasName, IsNamed
 use crate::cases::Cases;
 use crate::change::ObjectChange;
 use crate::decisions::Decisions;
+use crate::kept_text::{with_new_names, without_forgotten};
 use crate::name_text::NameText;
 use crate::noted::reserve_keys;
 use crate::single::given_case;
@@ -129,18 +130,15 @@ fn make_room(
     script: &Script,
     object: &Object,
     cases: &mut Cases,
-    in_order: &mut bool,
     used: &mut usize,
     text: &mut Option<NameText>,
 ) -> Result<(), NoMemory>
     requires whole { IsWhole names.old cases.old }
-    requires order { IsNoted names.old in_order.old }
     requires all { AreUsedBelow names.old used.old }
     requires text { IsTextOf names.old text.old }
     requires sound { AreCases script.now names.old cases.old }
     ensures objects { names.new.objects ≡ names.old.objects }
     ensures whole { IsWhole names.new cases.new }
-    ensures order { IsNoted names.new in_order.new }
     ensures all { AreUsedBelow names.new used.new }
     ensures text { IsTextOf names.new text.new }
     ensures sound { AreCases script.now names.new cases.new }
@@ -153,11 +151,13 @@ fn make_room(
     if names.known() == from {
         return Ok(());
     }
-    *in_order = false;
-    *text = None;
     match settle_new(names, script, from, cases) {
-        Ok(()) => Ok(()),
+        Ok(()) => {
+            *text = with_new_names(names, from, text.take());
+            Ok(())
+        }
         Err(refused) => {
+            *text = None;
             drop_unused(names, cases);
             *used = 0;
             Err(refused)
@@ -184,7 +184,6 @@ impl Decisions {
                 script,
                 at.object,
                 &mut self.cases,
-                &mut self.in_order,
                 &mut self.used,
                 &mut self.text,
             ),
@@ -206,8 +205,8 @@ impl Decisions {
         if are_all_used(&self.names, self.used) {
             return;
         }
-        self.text = None;
         drop_unused(&mut self.names, &mut self.cases);
+        self.text = without_forgotten(&self.names, self.text.take());
         self.used = all_or_none(&self.names, true);
     }
 }

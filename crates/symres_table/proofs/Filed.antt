@@ -19,7 +19,7 @@ use Rattle.symres_table.specs.Known.{number_in, spelled, stored}
 use Rattle.symres_table.specs.State.{slot}
 use Rattle.symres_table.proofs.Cutting.{found_entry, in_whole}
 use Rattle.symres_table.proofs.Forgetting.{Kept}
-use Rattle.symres_table.proofs.Ordered.{once_mapped}
+use Rattle.symres_table.proofs.Listing.{once_mapped}
 use Rattle.symres_table.proofs.Pairs.{paired_more, slot_spelled, Takes}
 
 abbrev Name : Type 0
@@ -56,6 +56,15 @@ has_key es ps w n = go (get_or ps n None) refl
       | inl h ↦ ap (λ o. is_some (option_map (λ (e : Name × ℕ). e.0) o)) h.2
       | inr h ↦ let l = w n p e in absurd (omega (arith, h.0, l))
     ]
+
+has_spelled : (o : Option Name) → is_some (spelled o) ≡ is_some o
+has_spelled None = refl
+has_spelled (Some v) = refl
+
+pub has_shown : (es : Entries) (ps : Places) → AreWithin es ps → (n : ℕ) → is_some (get_or ps n None)
+    ≡ is_some (slot (map spelled (stored es ps)) n)
+has_shown es ps w n =
+    sym (ap is_some (shown_at es ps n) ∙ has_spelled (key_at es (get_or ps n None)) ∙ has_key es ps w n)
 
 -- the entry that a look-up finds
 entry_of : (name : List ℕ) (es : Entries) (n : ℕ) → number_in name es ≡ Some n → (j : ℕ) × (j < length es)

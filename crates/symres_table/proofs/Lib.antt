@@ -17,9 +17,8 @@ pub mod Repeating
 pub mod Seen
 pub mod Ready
 pub mod Joined
-pub mod Ordered
+pub mod Listing
 pub mod ByPlace
 pub mod Fresh
 pub mod Reentering
 pub mod PrefixKeys
-pub mod Arranging

@@ -3,7 +3,6 @@ pub mod State
 pub mod Hashing
 pub mod Known
 pub mod PrefixKeys
-pub mod Exchanges
 pub mod Places
 pub mod Numbers
 pub mod Steps

@@ -2,12 +2,9 @@
 -- reserved. What the entries of a table declare is in `ldmodel`.
 use Rattle.std.specs.Prelude.{◌≡◌, ℕ, ◌+◌, ◌<◌, ◌≤◌, ◌==◌, ◌&&◌, List, [], ◌∷◌, ◌++◌, Option, Some, None, false, not}
 use Rattle.std.specs.Prelude.{length, filter, slice_index_or, slice_get, true, bytes_eq, insert, remove, nat_lt}
-use Rattle.std.specs.Prelude.{if◌then◌else◌, Bool}
+use Rattle.std.specs.Prelude.{if◌then◌else◌}
 use Rattle.std.specs.List.{All, IsDistinct}
-use Rattle.std.specs.List.Sorted.{IsSortedBy}
 use Rattle.std.specs.Map.{lookup}
-use Rattle.std.specs.Ordering.{is_lt, nat_cmp}
-use Rattle.std.specs.Cmp.Lexicographic.{slice_cmp}
 use Rattle.elfobj.specs.Symbols.{NamedSymbol}
 use Rattle.ldmodel.specs.Names.{Declaration, declarations_of, is_of_name, is_local}
 use Rattle.ldmodel.specs.declared.names.ObjectKey.{ObjectKey}
@@ -51,13 +48,6 @@ pub record State : Type 0 where
 -- what is known under a key
 abbrev pub slot : List (Option (List ℕ)) → ℕ → Option (List ℕ)
 slot names n = slice_index_or names n None
-
--- the one name comes before the other, byte by byte
-abbrev pub comes_before : List ℕ × ℕ → List ℕ × ℕ → Bool
-comes_before x y = is_lt (slice_cmp nat_cmp x.0 y.0)
-
-abbrev pub IsInByteOrder : List (List ℕ × ℕ) → Type 0
-IsInByteOrder order = IsSortedBy comes_before order
 
 -- the key is that of the name
 abbrev pub IsNamed : List (Option (List ℕ)) → ℕ → List ℕ → Type 0

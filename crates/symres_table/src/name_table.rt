@@ -1,6 +1,6 @@
 //! Numbers of names. A name keeps its number until it is forgotten.
 
-ghost use Rattle.std.specs.Prelude.{◌≡◌, ◌≢◌, ◌==◌, ℕ, List, [], IfOk, IfSome, Some, None, MatchOption, OnOk, length};
+ghost use Rattle.std.specs.Prelude.{◌≡◌, ◌≢◌, ◌==◌, ℕ, List, [], IfOk, IfSome, Some, None, MatchOption, length};
 ghost use Rattle.std.specs.Prelude.{take, IfNone, ◌++◌, ◌∷◌};
 ghost use Rattle.std.specs.Prelude.{map, filter, is_some, if◌then◌else◌, nat_lt, OnErr, ◌<◌, slice_index_or};
 ghost use Rattle.slab.specs.Slab.{ContainsKey, get, Updates};
@@ -9,10 +9,9 @@ ghost use Rattle.symres_table.specs.Known.{IsKeptWhere};
 ghost use Rattle.symres_table.specs.Known.{kept_if, number_in};
 ghost use Rattle.std.proofs.Common.{Vec, Global};
 ghost use Rattle.symres_table.specs.Numbers.{is_used};
-ghost use Rattle.symres_table.specs.State.{slot, AreDistinct, IsInByteOrder, IsListing, IsNamed, KeepsNames};
+ghost use Rattle.symres_table.specs.State.{slot, AreDistinct, IsListing, IsNamed, KeepsNames};
 
 use crate::hashing::WordState;
-use crate::name_order::put_in_order;
 use crate::objects::Objects;
 use indexmap::IndexMap;
 use indexmap::map::{Entry, Iter};
@@ -176,6 +175,14 @@ impl NameTable {
         }
     }
 
+    /// Whether a number has a name, which is not read.
+    #[inline(always)]
+    pub fn has_name(&self, number: usize) -> bool
+        ensures { result ≡ is_some (slot self.now.slots number) }
+    {
+        has_place(&self.places, number)
+    }
+
     /// The number of a name, which is new if the name was not known.
     #[inline(never)]
     pub fn add(&mut self, name: &[u8]) -> Result<usize, AllocError>
@@ -253,17 +260,6 @@ impl NameTable {
         ensures { (e : List ℕ × ℕ) → (slice_index_or self.now.order place e).1 ≡ result }
     {
         number_at(&self.numbers, place)
-    }
-
-    /// Puts the names into byte order. Those that become known later are appended.
-    pub fn sort(&mut self) -> Result<(), AllocError>
-        ensures sorted { OnOk result (IsInByteOrder self.new.order) }
-        ensures refused { OnErr result (self.new ≡ self.old) }
-        ensures slots { self.new.slots ≡ self.old.slots }
-    {
-        put_in_order(&mut self.numbers)?;
-        file_all(&mut self.places, &self.numbers);
-        Ok(())
     }
 
     /// The names with their numbers.

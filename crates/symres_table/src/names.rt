@@ -2,7 +2,7 @@
 
 ghost use Rattle.std.specs.Prelude.{◌≡◌, ◌≤◌, ◌<◌, ◌+◌, ◌==◌, ℕ, List, [], length, insert, map, true, false, not};
 ghost use Rattle.std.specs.Prelude.{vec_len, vec_capacity, OnOk, OnErr, MatchOption, IfSome, IfNone, slice_get, drop};
-ghost use Rattle.std.specs.Prelude.{slice_index_or};
+ghost use Rattle.std.specs.Prelude.{is_some, slice_index_or};
 ghost use Rattle.std.specs.List.{All};
 ghost use Rattle.std.specs.Option.{option_map};
 ghost use Rattle.elfobj.specs.Raised.{raised};
@@ -17,10 +17,10 @@ ghost use Rattle.symres_table.specs.Lists.{rooms, Adds};
 ghost use Rattle.symres_table.specs.Objects.{GrowsRoom};
 ghost use Rattle.symres_table.specs.Spelled.{IsReady, SpellsSeen};
 ghost use Rattle.symres_table.specs.State.{entries_of, Forgets, HasList, HasName, HasObject, HasSymbol, IsFresh};
-ghost use Rattle.symres_table.specs.State.{IsInByteOrder, IsListing, IsMore, IsNamed, IsNameOfSymbol, IsSameBut};
+ghost use Rattle.symres_table.specs.State.{IsListing, IsMore, IsNamed, IsNameOfSymbol, IsSameBut};
 ghost use Rattle.symres_table.specs.State.{KeepsNames};
 ghost use Rattle.symres_table.specs.State.{IsNameAt, IsSeenAt, MayEnter, object_key, ParksList, SameNames, TakesList};
-ghost use Rattle.symres_table.specs.State.{without};
+ghost use Rattle.symres_table.specs.State.{slot, without};
 ghost use Rattle.symres_table.specs.declared.symbol.Numbered.{Numbered};
 ghost use Rattle.symres_table.specs.Tally.{declaration_of};
 
@@ -327,18 +327,12 @@ impl Names {
         self.known.name_of(name.0)
     }
 
-    /// Puts the names into byte order: those that became known since the last call are put in among the others.
-    ///
-    /// # Errors
-    ///
-    /// If there is no memory for it. The order of the names stays then.
-    pub fn sort_names(&mut self) -> Result<(), NoMemory>
-        ensures sorted { OnOk result (IsInByteOrder self.new.order) }
-        ensures same { self.new ≡ record self.old { order = self.new.order } }
-        ensures refused { OnErr result (self.new ≡ self.old) }
+    /// Whether a key has a name, which is not read.
+    #[inline(always)]
+    pub fn has_name(&self, name: NameKey) -> bool
+        ensures { result ≡ is_some (slot self.now.names name.0) }
     {
-        self.hints.clear();
-        self.known.sort()
+        self.known.has_name(name.0)
     }
 
     /// Every known name once, with the number of its key, in the order of the list of names. It takes no memory.
@@ -347,15 +341,6 @@ impl Names {
         ensures listing { IsListing self.now.names self.now.order }
     {
         self.known.iter()
-    }
-
-    /// The names and their keys, in byte order.
-    pub fn in_byte_order(&self) -> Iter<'_, Vec<u8>, usize>
-        requires { IsInByteOrder self.now.order }
-        ensures names { map entry_spelled result ≡ self.now.order }
-        ensures listing { IsListing self.now.names self.now.order }
-    {
-        self.listed()
     }
 
     /// The key of the name of a symbol that isn't local, of an entered object. Nothing is hashed: the time is

@@ -20,7 +20,8 @@ returns-in-Some-clause-updated c =
 pub link_keyed-requires-clause-symbol_table : goal.link_keyed-requires-clause-symbol_table
 link_keyed-requires-clause-symbol_table c =
     let l = c.args.next.now in
-    subst (λ (t : SymbolTableState). IsSymbolTable c.view-view.result t) (sym c.index_places.ensures)
+    subst (λ (t : SymbolTableState). IsSymbolTable c.view-view.result t)
+    (sym (c.put_in_order.ensures ∙ c.index_places.ensures))
     (subst (λ (p : Project). IsSymbolTable p c.args.symbol_table.now) (sym c.view-view.ensures)
     (c.names_kept.ensures (project_of l) c.requires.kept.names
     (tables_of_objects l.entries ∙ ap (map (λ (t : Table). t.1)) (sym c.requires.kept.tables))))

@@ -1,5 +1,6 @@
 use Rattle.std.proofs.Common.{◌≡◌, ◌≤◌, length, map, take, vec_capacity, vec_len}
-use Rattle.symres.specs.Sorted.{compared_number, named_number}
+use Rattle.symres.specs.Sorted.{named_number}
+use Rattle.symres_decisions.specs.NameText.{compared_number}
 use Rattle.symres.proofs.sorted.named.Given as goal
 
 -- the names before this place, and room for all

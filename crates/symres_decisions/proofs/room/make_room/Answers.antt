@@ -1,5 +1,5 @@
 use Rattle.std.proofs.Common.{length, arith, refl}
-use Rattle.symres_decisions.proofs.MakingRoom.{below_after, complete_refused, noted_none_more, old_again, old_or_new}
+use Rattle.symres_decisions.proofs.MakingRoom.{below_after, complete_refused, old_again, old_or_new}
 use Rattle.symres_decisions.proofs.MakingRoom.{text_none_more, unused_after, used_twice, whole_same}
 use Rattle.symres_decisions.proofs.Used.{used_more}
 use Rattle.symres_decisions.proofs.room.make_room.Goals as goal
@@ -13,12 +13,6 @@ returns-then-known-from-clause-whole c =
     (below_after s c.reserve.new.self c.args.cases.now (length s.order) more.listed.0 refl
     c.known-from.ensures.listing more.listed.1 c.requires.whole)
     c.requires.whole
-
-pub returns-then-known-from-clause-order : goal.returns-then-known-from-clause-order
-returns-then-known-from-clause-order c =
-    let more = c.reserve.ensures.more in
-    noted_none_more c.args.names.now c.reserve.new.self c.args.in_order.now more.listed.0 more.listed.1
-    (omega (arith, c.known.ensures.len, c.known-from.ensures.len, c.if-known-from.true)) c.requires.order
 
 pub returns-then-known-from-clause-text : goal.returns-then-known-from-clause-text
 returns-then-known-from-clause-text c =

@@ -182,13 +182,11 @@ returns-in-Ok-clause-updated c =
     (place_at x.into) coming coming c.make_room.ensures.same.matches c.place_of-out.ensures c.place_of-into.ensures refl
     in
     let previous : List Matches = exchanged ms (place_at x.out) (place_at x.into) coming in
-    let kept = subst (λ (l : List Matches). IsKept (next_listing h s) c.put_in_order_if.new.symbol_table l) (sym items)
-    (kept_forgetting (next_listing h s) c.change-order.new.self c.put_in_order_if.new.symbol_table previous
-    (c.put_in_order_if.ensures.tables
-    ∙ (c.forget_if.ensures.tables
-    ∙ ap (λ (t : SymbolTableState). t.kept.names.objects) c.link_next.ensures.same))
-    (λ script kept. c.put_in_order_if.ensures.kept script (c.forget_if.ensures.kept script
-    (subst (λ (t : SymbolTableState). AreKept script t.kept) (sym c.link_next.ensures.same) kept)))
+    let kept = subst (λ (l : List Matches). IsKept (next_listing h s) c.forget_if.new.symbol_table l) (sym items)
+    (kept_forgetting (next_listing h s) c.change-order.new.self c.forget_if.new.symbol_table previous
+    (c.forget_if.ensures.tables ∙ ap (λ (t : SymbolTableState). t.kept.names.objects) c.link_next.ensures.same)
+    (λ script kept. c.forget_if.ensures.kept script
+    (subst (λ (t : SymbolTableState). AreKept script t.kept) (sym c.link_next.ensures.same) kept))
     (kept_after h s c.args.key.0 x c.args.self.now.symbol_table c.change-order.new.self ms coming
     c.requires.given.arranged c.requires.given.one c.requires.edited c.object_change-change.ensures
     c.requires.given.kept

@@ -1,8 +1,9 @@
-use Rattle.std.proofs.Common.{Vec, Global}
+use Rattle.std.proofs.Common.{Vec, Global, map}
 use Rattle.std.proofs.lemmas.Result.{IfOk-weaker}
-use Rattle.symres.specs.Sorted.{AreInOrder, AreSorted}
+use Rattle.symres.specs.Sorted.{AreSorted, named_number}
 use Rattle.symres.specs.SymbolTable.{state_of}
 use Rattle.symres.specs.declared.sorted.NamedKey.{NamedKey}
+use Rattle.symres_decisions.specs.NameText.{AreInOrder}
 use Rattle.symres.proofs.Sorting.{are_sorted, declared_key}
 use Rattle.symres.proofs.symbol_table.SymbolTable.sorted.Goals as goal
 
@@ -11,11 +12,11 @@ returns c =
     let d = c.self.inside.decisions in
     let order = c.self.inside.order in
     rw (← c.self.view_is)
-    (IfOk-weaker c.in_byte_order.result (λ (x : Vec NamedKey Global). AreInOrder d.names.order x.items)
+    (IfOk-weaker c.in_byte_order.result (λ (x : Vec NamedKey Global). AreInOrder d.names.order (map named_number x.items))
     (λ (x : Vec NamedKey Global). AreSorted (state_of d order) x.items)
     (λ x e.
     are_sorted (state_of d order) d.names.order x.items
     (λ p name.
     declared_key p d order name c.names_of_objects.ensures.all (c.known-count.ensures.declared name))
-    c.in_byte_order.ensures.listing e.same e.up)
-    c.in_byte_order.ensures.list)
+    c.known-count.ensures.listing e.same e.up)
+    c.in_byte_order.ensures)

@@ -2,7 +2,7 @@ use Rattle.std.proofs.Common.{◌∙◌, ap, refl, subst, sym}
 use Rattle.symres_decisions.specs.Decided.{case_at}
 use Rattle.symres_decisions.specs.Decisions.{DecisionsState}
 use Rattle.symres_table.specs.State.{AreDistinct, IsFresh, slot}
-use Rattle.symres_decisions.proofs.Changed.{Steps, back_after, counted_after, frame_after, kept_after, noted_after}
+use Rattle.symres_decisions.proofs.Changed.{Steps, back_after, counted_after, frame_after, kept_after}
 use Rattle.symres_decisions.proofs.Changed.{places_after}
 use Rattle.symres_decisions.proofs.Changed.{text_after, used_put, whole_after}
 use Rattle.symres_decisions.proofs.Clearing.{listed_apart}
@@ -102,7 +102,7 @@ pub used_after_change-self-inside-requires-clause-still : goal.used_after_change
 used_after_change-self-inside-requires-clause-still c =
     let ready = rw (← c.self.view_is) at c.requires.ready in
     used_put c.self.inside.names c.take_out.new.names c.put_in.new.names c.args.change.now c.self.inside.used ready.fits
-    c.take_out.ensures c.put_in.ensures c.self.invariant.2
+    c.take_out.ensures c.put_in.ensures c.self.invariant.1
 
 steps : (c : goal.After-self-1)
     → Steps c.args.script.now c.args.change.now c.self.inside.names c.take_out.new.names c.put_in.new.names
@@ -123,9 +123,8 @@ steps c = record {
 pub invariant_of-self : goal.invariant_of-self
 invariant_of-self c = (
   whole_after _ _ _ _ _ _ _ _ _ _ _ _ _ (steps c),
-  noted_after _ _ _ _ _ _ _ _ _ _ _ _ _ (steps c) c.self.inside.in_order c.self.invariant.1,
   c.used_after_change-self-inside.ensures,
-  text_after _ _ _ _ _ _ _ _ _ _ _ _ _ (steps c) _ c.self.invariant.3,
+  text_after _ _ _ _ _ _ _ _ _ _ _ _ _ (steps c) _ c.self.invariant.2,
 )
 
 pub returns-clause-kept : goal.returns-clause-kept

@@ -1,14 +1,15 @@
-use Rattle.symres_decisions.proofs.MakingRoom.{noted_forgotten, used_forgotten}
+use Rattle.std.proofs.Common.{subst, sym}
+use Rattle.symres_decisions.specs.Decisions.{IsTextOf}
+use Rattle.symres_decisions.proofs.MakingRoom.{used_forgotten}
 use Rattle.symres_decisions.proofs.Used.{left_used, none_forgotten}
 use Rattle.symres_decisions.proofs.decisions.Decisions.forget.Goals as goal
 
 pub invariant_of-self : goal.invariant_of-self
 invariant_of-self c = (
   c.drop_unused.ensures.whole,
-  noted_forgotten c.self.inside.names c.drop_unused.new.names c.self.inside.in_order c.drop_unused.ensures.forgets
-      c.self.invariant.1,
   c.all_or_none-self-inside.ensures,
-  tt,
+  c.without_forgotten.ensures c.self.inside.names c.known-known.ensures.listing c.drop_unused.ensures.forgets
+      (subst (IsTextOf c.self.inside.names) (sym c.take.ensures.value) c.self.invariant.2),
 )
 
 pub returns-clause-used : goal.returns-clause-used

@@ -15,5 +15,4 @@ invariant_of-self c = (
   },
   c.self.invariant.1,
   c.self.invariant.2,
-  c.self.invariant.3,
 )

@@ -1,0 +1,11 @@
+use Rattle.std.proofs.Common.{◌≡◌, flat_map, take}
+use Rattle.std.specs.Io.KnownBytes.{Appends}
+use Rattle.ldmodel_deferred.specs.Changes.{range_line}
+use Rattle.ldi_deferred.proofs.answer.write_lines.Given as goal
+
+abbrev pub invariant-loop-range : goal.invariant-loop-range
+invariant-loop-range g l = record {
+  wrote : Appends (g.W.Sink.written l.fn.sink) (g.W.Sink.written l.sink)
+      (flat_map range_line (take l.range-index l.ranges));
+  counted : g.W.Sink.failed l.sink ≡ g.W.Sink.failed l.fn.sink;
+}

@@ -1,0 +1,43 @@
+use Rattle.std.proofs.Common.{Option, refl, subst, sym}
+use Rattle.std.specs.Prelude.{IfSome}
+use Rattle.ldmodel_project.specs.ProjectState.{Listing, next_listing, project_of}
+use Rattle.relink_driver.specs.RelinkOutcome.{HasPreviousImage}
+use Rattle.relink_driver.specs.StayedSections.{PreviousState}
+use Rattle.relink.specs.PreviousLink.{HasUpdateOutcome, lent_of}
+use Rattle.relink.proofs.Deferring.{staged_following, updated_over}
+use Rattle.relink.proofs.Lending.{last_lent}
+use Rattle.relink.proofs.deferred.link_staged.Goals as goal
+
+pub link_next-updated-requires-clause-previous : goal.link_next-updated-requires-clause-previous
+link_next-updated-requires-clause-previous c =
+    let h = c.args.project.now in
+    let s = c.args.staged.now in
+    let same = c.puts_same-same.result in
+    let e = c.lend_previous.result.0 in
+    let bytes = c.args.canvas.now.bytes in
+    let x = staged_following h s same bytes c.args.seen.now c.args.previous.now e c.next-next.result
+    c.keys-keys.result.now c.requires.staged c.next-next.ensures.next c.next-next.ensures.found
+    c.keys-keys.ensures.value c.keys-keys.ensures.distinct c.found_where_placed.ensures c.puts_same-same.ensures.same
+    c.puts_same-same.ensures.other c.puts_same-same.ensures.named c.lend_previous.ensures.effect c.requires.previous in
+    subst (λ (l : Listing). IfSome (lent_of c.lend_previous.result.1) (HasPreviousImage (project_of l) bytes)) (sym c.next-next.ensures.next)
+    (subst (λ (o : Option PreviousState). IfSome o (HasPreviousImage (project_of (next_listing h s)) bytes))
+    (sym c.lend_previous.ensures.lent)
+    (last_lent h s same bytes c.args.seen.now e x.edit c.args.previous.now e.known refl x.kept x.effect))
+
+pub returns-in-Ok-clause-updated : goal.returns-in-Ok-clause-updated
+returns-in-Ok-clause-updated c =
+    let h = c.args.project.now in
+    let s = c.args.staged.now in
+    let same = c.puts_same-same.result in
+    let e = c.lend_previous.result.0 in
+    let bytes = c.args.canvas.now.bytes in
+    let new = c.link_next-updated.new.canvas.bytes in
+    let x = staged_following h s same bytes c.args.seen.now c.args.previous.now e c.next-next.result
+    c.keys-keys.result.now c.requires.staged c.next-next.ensures.next c.next-next.ensures.found
+    c.keys-keys.ensures.value c.keys-keys.ensures.distinct c.found_where_placed.ensures c.puts_same-same.ensures.same
+    c.puts_same-same.ensures.other c.puts_same-same.ensures.named c.lend_previous.ensures.effect c.requires.previous in
+    updated_over h s same bytes new c.args.seen.now c.args.previous.now e x c.in-Ok.updated
+    (subst (λ (o : Option PreviousState). HasUpdateOutcome (next_listing h s) o bytes new c.in-Ok.updated)
+    c.lend_previous.ensures.lent
+    (subst (λ (l : Listing). HasUpdateOutcome l (lent_of c.lend_previous.result.1) bytes new c.in-Ok.updated) c.next-next.ensures.next
+    c.in-Ok.ensures.updated))

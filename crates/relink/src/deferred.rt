@@ -1,0 +1,344 @@
+//! The linker of a deferred session: edits are staged, and linked when it is asked.
+
+ghost use Rattle.std.specs.Prelude.{◌≡◌, IfErr, IfOk, List, None, OnErr, OnOk, Ok, false, true, ℕ};
+ghost use Rattle.ldmodel.specs.EditMeaning.{change_of, linked_of, refusal_of};
+ghost use Rattle.ldmodel.specs.Edits.{After, RefusedAs};
+ghost use Rattle.ldmodel.specs.Link.{link};
+ghost use Rattle.ldmodel_project.specs.ProjectState.{held, listing_of, next_listing};
+ghost use Rattle.relink.specs.Deferred.{HasStaged, HasTables, IsLastGood, IsSeenAs, IsStaged, IsUpdatedOver, staged_listing};
+ghost use Rattle.relink.specs.Outcome.{is_good, shown};
+ghost use Rattle.relink.specs.PreviousLink.{IsOfGoodLink, IsPreviousLink};
+
+use crate::lazy_tables::{follow_if_made, tables_of_next, tables_of_project};
+use crate::lent_link::lend_previous;
+use crate::link_tables::LinkTables;
+use crate::outcome::LinkOutcome;
+use crate::previous::{
+    EditEffect, PreviousLink, UpdateOutcome, effect_of, keep_after_fault, record_outcome,
+};
+use crate::session_link::{link_anew, link_next};
+use crate::unchanged::{is_unchanged, puts_same};
+use ldmodel::edit::{Edit, EditRefusal, Linked};
+use ldmodel::memory::NoMemory;
+use ldmodel::meter::Meter;
+use ldmodel_deferred::linker::DeferredLinker;
+use ldmodel_project::law::found_where_placed;
+use ldmodel_project::project::Project;
+use ldmodel_project::staged::Staged;
+use relink_driver::Canvas;
+use std::alloc::Global;
+use std::hash::RandomState;
+use std::marker::Model;
+
+/// A linker that keeps what a `Session` keeps, and links when it is asked. The tables of names and matches follow each
+/// edit at once, once they are made: while a project is opened there are none, so that opening it is one link. The last edit is kept beside the project until the next one comes: if the link is asked for before
+/// that, it is the link of one edit, as in a `Session`.
+#[derive(Drop)]
+pub struct DeferredSession {
+    pub(crate) alloc: Global,
+    // the project without `staged`
+    pub(crate) project: Project,
+    // the last edit, unless it is linked
+    pub(crate) staged: Option<Staged>,
+    pub(crate) seed: RandomState,
+    // of the project with `staged`; none while its objects are only added at the end, until the first link
+    pub(crate) tables: Option<LinkTables>,
+    // the last link without faults, whose image is on the canvas
+    pub(crate) previous: Option<PreviousLink>,
+    pub(crate) canvas: Canvas,
+    // of the last link
+    pub(crate) outcome: LinkOutcome,
+    // whether the last link is that of `project`
+    pub(crate) is_linked: bool,
+}
+
+impl Model for DeferredSession {
+    ghost use Rattle.std.specs.Coded.{codes};
+    ghost use Rattle.std.specs.Prelude.{◌≡◌, true};
+    ghost use Rattle.ldscript.specs.statements.contracts.formula.Formula as formula;
+    ghost use Rattle.ldmodel.specs.Link.{link};
+    ghost use Rattle.ldmodel_project.specs.ProjectState.{held, listing_of, project_of};
+    ghost use Rattle.relink.specs.Deferred.{Deferred, HasStaged, HasTables, IsLastGood, staged_listing};
+    ghost use Rattle.relink.specs.Outcome.{shown};
+
+    ghost Value = { Deferred };
+
+    ghost coded = { Prim.hlevel (codes, formula.the_row.coded) };
+
+    ghost view = { λ s. record {
+      project = project_of (staged_listing s.project s.staged);
+      last = shown s.canvas.bytes s.outcome;
+    } };
+
+    ghost invariant = { λ s. HasStaged s.project s.staged
+        × HasTables (staged_listing s.project s.staged) s.tables
+        × IsLastGood s.is_linked (listing_of s.project) s.canvas.bytes s.outcome s.previous
+        × (s.is_linked ≡ true → shown s.canvas.bytes s.outcome ≡ link (held s.project)) };
+}
+
+/// The outcome of the last link as an edit sees it: where that link is not of the project before the edit, one that says
+/// nothing of the previous link.
+fn seen<'a>(is_linked: bool, outcome: &'a LinkOutcome, stale: &'a LinkOutcome) -> &'a LinkOutcome
+    requires { is_good stale.now ≡ false }
+    ensures { IsSeenAs is_linked outcome.now result.now }
+{
+    if is_linked { outcome } else { stale }
+}
+
+/// Makes a staged edit without a link: the previous link no longer has the object that the edit changes.
+fn settle(
+    project: &mut Project,
+    staged: Staged,
+    previous: &mut Option<PreviousLink>,
+    seen: &LinkOutcome,
+)
+    requires { IsStaged project.old staged }
+    ensures project { listing_of project.new ≡ next_listing project.old staged }
+    ensures previous { (bytes : List ℕ) → IsPreviousLink (listing_of project.old) bytes seen.now previous.old
+        → IsLastGood false (listing_of project.new) bytes seen.now previous.new }
+{
+    // for the prover: brings in the law of keys with a place
+    found_where_placed();
+    let same = puts_same(project, &staged);
+    // for the prover: brings in what stands under each key after the edit
+    let next = project.next(&staged);
+    let _keys = next.keys();
+    let effect = effect_of(previous, seen, project, &staged, same);
+    project.commit(staged);
+    keep_after_fault(previous, effect);
+}
+
+/// Makes the staged edit without a link, if there is one.
+fn settle_staged(
+    alloc: Global,
+    project: &mut Project,
+    staged: &mut Option<Staged>,
+    previous: &mut Option<PreviousLink>,
+    outcome: &LinkOutcome,
+    is_linked: &mut bool,
+)
+    requires { HasStaged project.old staged.old }
+    ensures none { staged.new ≡ None }
+    ensures project { listing_of project.new ≡ staged_listing project.old staged.old }
+    ensures previous { (bytes : List ℕ)
+        → IsLastGood is_linked.old (listing_of project.old) bytes outcome.now previous.old
+        → IsLastGood is_linked.new (listing_of project.new) bytes outcome.now previous.new }
+    ensures linked { is_linked.new ≡ true
+        → (is_linked.old ≡ true) × (listing_of project.new ≡ listing_of project.old) }
+{
+    let Some(edit) = staged.take() else {
+        return;
+    };
+    let stale = LinkOutcome::Faulty(Vec::new(alloc));
+    settle(project, edit, previous, seen(*is_linked, outcome, &stale));
+    *is_linked = false;
+}
+
+/// Links the project of a staged edit over the previous link. Fails if memory runs out: then the canvas is as it was.
+fn link_staged(
+    alloc: Global,
+    project: &Project,
+    staged: &Staged,
+    seed: RandomState,
+    tables: &mut Option<LinkTables>,
+    previous: &Option<PreviousLink>,
+    seen: &LinkOutcome,
+    canvas: &mut Canvas,
+    meter: &mut Meter,
+) -> Result<(UpdateOutcome, EditEffect), NoMemory>
+    requires staged { IsStaged project.now staged.now }
+    requires tables { HasTables (next_listing project.now staged.now) tables.old }
+    requires previous { IsPreviousLink (listing_of project.now) canvas.old.bytes seen.now previous.now }
+    ensures tables { HasTables (next_listing project.now staged.now) tables.new }
+    ensures updated { IfOk result (λ both. IsUpdatedOver project.now staged.now canvas.old.bytes seen.now previous.now
+        canvas.new.bytes both.0 both.1) }
+    ensures unchanged { OnErr result (canvas.new.bytes ≡ canvas.old.bytes) }
+{
+    // for the prover: brings in the law of keys with a place
+    found_where_placed();
+    let same = puts_same(project, staged);
+    let next = project.next(staged);
+    let keys = next.keys();
+    let (effect, previous) = lend_previous(previous, seen, project, staged, same, keys);
+    let mut made = tables_of_next(alloc, seed, &next, tables.take(), meter)?;
+    let updated = link_next(
+        alloc,
+        &next,
+        &mut made.symbol_table,
+        &made.matches,
+        previous,
+        canvas,
+        meter,
+    );
+    *tables = Some(made);
+    match updated {
+        Ok(updated) => Ok((updated, effect)),
+        Err(refused) => Err(refused),
+    }
+}
+
+/// Links a project without a staged edit: nothing is done if the last link is its own; else it is linked anew. Fails if
+/// memory runs out: then nothing has changed.
+fn link_unstaged(
+    alloc: Global,
+    project: &Project,
+    seed: RandomState,
+    tables: &mut Option<LinkTables>,
+    previous: &mut Option<PreviousLink>,
+    outcome: &mut LinkOutcome,
+    is_linked: &mut bool,
+    canvas: &mut Canvas,
+    meter: &mut Meter,
+) -> Result<(), NoMemory>
+    requires tables { HasTables (listing_of project.now) tables.old }
+    requires last { IsLastGood is_linked.old (listing_of project.now) canvas.old.bytes outcome.old previous.old }
+    requires answers { is_linked.old ≡ true → shown canvas.old.bytes outcome.old ≡ link (held project.now) }
+    ensures tables { HasTables (listing_of project.now) tables.new }
+    ensures linked { OnOk result (is_linked.new ≡ true) }
+    ensures answers { OnOk result (shown canvas.new.bytes outcome.new ≡ link (held project.now)) }
+    ensures last { OnOk result (IsPreviousLink (listing_of project.now) canvas.new.bytes outcome.new previous.new) }
+    ensures canvas { OnErr result (canvas.new.bytes ≡ canvas.old.bytes) }
+    ensures unchanged { OnErr result ((is_linked.new ≡ is_linked.old) × (outcome.new ≡ outcome.old)
+        × (previous.new ≡ previous.old)) }
+{
+    if *is_linked {
+        return Ok(());
+    }
+    let mut made = tables_of_project(alloc, seed, project, tables.take(), meter)?;
+    let updated = link_anew(
+        alloc,
+        project,
+        &mut made.symbol_table,
+        &made.matches,
+        canvas,
+        meter,
+    );
+    *tables = Some(made);
+    let updated = updated?;
+    let effect = EditEffect {
+        known: true,
+        gone: None,
+        same_script: true,
+        is_current: false,
+    };
+    record_outcome(updated, previous, outcome, effect);
+    *is_linked = true;
+    Ok(())
+}
+
+impl DeferredSession {
+    /// Gives back the memory of a session that is over, as `Session::close` does.
+    pub fn close(self) {}
+
+    /// Stages an edit, after the one before it is made without a link.
+    fn stage_edit(&mut self, edit: Edit<'_>, meter: &mut Meter) -> Result<(), EditRefusal>
+        ensures accepted { OnOk result (After self.old.project (change_of edit.entry) (Ok self.new.project)) }
+        ensures refused { IfErr result (λ r. RefusedAs self.old.project (change_of edit.entry) (refusal_of r)) }
+        ensures unchanged { OnErr result (self.new.project ≡ self.old.project) }
+        ensures unlinked { self.new.last ≡ self.old.last }
+    {
+        settle_staged(
+            self.alloc,
+            &mut self.project,
+            &mut self.staged,
+            &mut self.previous,
+            &self.outcome,
+            &mut self.is_linked,
+        );
+        let staged = self.project.stage(edit, meter)?;
+        let same = puts_same(&self.project, &staged);
+        if is_unchanged(&self.project, &staged, same) {
+            return Ok(());
+        }
+        match follow_if_made(
+            self.alloc,
+            self.seed,
+            &self.project,
+            &staged,
+            &mut self.tables,
+            meter,
+        ) {
+            Err(_) => Err(EditRefusal::NoMemory),
+            Ok(()) => {
+                self.staged = Some(staged);
+                Ok(())
+            }
+        }
+    }
+
+    /// Links the project over what is kept of it.
+    fn link_now(&mut self, meter: &mut Meter) -> Result<Linked, NoMemory>
+        ensures linked { IfOk result (λ l. l ≡ linked_of (link self.old.project)) }
+        ensures last { OnOk result (self.new.last ≡ link self.old.project) }
+        ensures unlinked { OnErr result (self.new.last ≡ self.old.last) }
+        ensures project { self.new.project ≡ self.old.project }
+    {
+        let Some(staged) = self.staged.take() else {
+            link_unstaged(
+                self.alloc,
+                &self.project,
+                self.seed,
+                &mut self.tables,
+                &mut self.previous,
+                &mut self.outcome,
+                &mut self.is_linked,
+                &mut self.canvas,
+                meter,
+            )?;
+            return Ok(self.outcome.summary(&self.canvas));
+        };
+        let stale = LinkOutcome::Faulty(Vec::new(self.alloc));
+        match link_staged(
+            self.alloc,
+            &self.project,
+            &staged,
+            self.seed,
+            &mut self.tables,
+            &self.previous,
+            seen(self.is_linked, &self.outcome, &stale),
+            &mut self.canvas,
+            meter,
+        ) {
+            Err(refused) => {
+                self.staged = Some(staged);
+                Err(refused)
+            }
+            Ok((updated, effect)) => {
+                self.project.commit(staged);
+                record_outcome(updated, &mut self.previous, &mut self.outcome, effect);
+                self.is_linked = true;
+                Ok(self.outcome.summary(&self.canvas))
+            }
+        }
+    }
+}
+
+impl DeferredLinker for DeferredSession {
+    ghost project = { λ s. s.project };
+
+    ghost last = { λ s. s.last };
+
+    fn stage(&mut self, edit: Edit<'_>, meter: &mut Meter) -> Result<(), EditRefusal> {
+        self.stage_edit(edit, meter)
+    }
+
+    fn make_link(&mut self, meter: &mut Meter) -> Result<Linked, NoMemory> {
+        self.link_now(meter)
+    }
+
+    fn image(&self) -> &[u8] {
+        self.outcome.image(&self.canvas)
+    }
+
+    fn map(&self) -> &[u8] {
+        self.outcome.map()
+    }
+
+    fn faults(&self) -> &[u8] {
+        self.outcome.faults()
+    }
+
+    fn status(&self) -> u8 {
+        self.outcome.status()
+    }
+}

@@ -1,9 +1,0 @@
-use Rattle.std.proofs.Common.{◌≡◌, ◌++◌, map}
-use Rattle.symres.specs.Sorted.{compared_number}
-use Rattle.symres_table.specs.Known.{entry_spelled}
-use Rattle.symres.proofs.sorted.compared.Given as goal
-
--- the names so far, and those that are left
-abbrev pub invariant-loop-name : goal.invariant-loop-name
-invariant-loop-name l =
-    map compared_number l.list.items ++ map entry_spelled l.name-iterator ≡ l.decisions.names.order
