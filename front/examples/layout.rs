@@ -1,4 +1,4 @@
-//! Prints what a script comes to over objects, for `front/tests/layout.py`, which holds that to GNU ld:
+//! Prints what a script comes to over objects, for `tests/fuzz/layout.py`, which holds that to GNU ld:
 //!
 //! ```text
 //! layout WORDS ..        as those of GNU ld: -T script, objects, -u, -e, --defsym, --gc-sections, -z, -N, -Ttext ..

@@ -1,5 +1,6 @@
 //! The front end of `ldi`: GNU ld's command line (`ld.ldi`), a watcher (`ldi-watch`), a translator of scripts
-//! (`ldi-adapt`) and a tool for debuggers (`ldi-gdb`). It starts `ldi session`, which makes the images; it is not proved.
+//! (`ldi-adapt`) and a tool for debuggers (`ldi-gdb`). It starts `ldi session --deferred`, which makes the images; it
+//! is not proved.
 //!
 //! A link is one flow of plain data:
 //!
@@ -28,17 +29,21 @@ pub mod checker;
 pub mod command;
 pub mod finish;
 pub mod gdb;
+pub mod gnu_map;
 pub mod inputs;
 pub mod layout;
 pub mod mirror;
 pub mod objects;
+mod parallel;
 pub mod place;
+mod quick;
 pub mod report;
 pub mod residual;
 pub mod script;
 pub mod server;
 pub mod snapshot;
 pub mod streams;
+pub mod unloaded;
 pub mod watch;
 
 pub mod adapt;

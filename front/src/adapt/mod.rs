@@ -1,23 +1,22 @@
 //! `ldi-adapt`: a script of GNU ld's language as one of the profile.
 
 pub(crate) mod invented;
+mod refusal;
 mod words;
+mod writing;
 
 use std::ffi::OsString;
 use std::io::Write;
 use std::path::{Path, PathBuf};
-use std::process::{Command as Process, Stdio};
-
-use bstr::{BStr, ByteSlice};
 
 use crate::checker::check;
-use crate::layout::{evaluate, Evaluation, Settings, Stop};
+use crate::layout::{Evaluation, Stop};
 use crate::mirror::{Held, Mirror, Options, Wanted};
 use crate::objects::{Object, Origin};
 use crate::place::{write_file, Reader as PipeReader, TEXT};
-use crate::plan::{find_program, Environment};
+use crate::plan::{find_program, own_version, Environment};
 use crate::report::link_map::LinkMap;
-use crate::residual::{residual, Note, NoteKind, Request, Residual, Topic};
+use crate::residual::{NoteKind, Residual};
 use crate::script::{Disk, Reader, Reading, ScriptError};
 use crate::snapshot::Bytes;
 use words::{Call, USAGE};
@@ -46,6 +45,10 @@ pub fn main(words: &[OsString]) -> u8 {
         print!("{USAGE}");
         return 0;
     }
+    if words == ["--version"] {
+        println!("ldi-adapt {}", own_version(&environment));
+        return 0;
+    }
     match run(words, &environment) {
         Ok(status) => status,
         Err(fault) => {
@@ -65,7 +68,7 @@ fn run(words: &[OsString], environment: &Environment) -> Result<u8, AdaptFault> 
     let call = Call::read(words)?;
     let objects = call.objects.as_ref().map(|paths| read_objects(paths)).transpose()?;
     let reading = read_script(&call)?;
-    let (result, evaluation) = adapted(&reading, objects.as_deref());
+    let (result, evaluation) = writing::adapted(&reading, objects.as_deref());
     for note in &result.notes {
         eprintln!("{note}");
     }
@@ -75,8 +78,9 @@ fn run(words: &[OsString], environment: &Environment) -> Result<u8, AdaptFault> 
         lines.iter().for_each(|line| eprintln!("{line}"));
         status = status.max(u8::from(!lines.is_empty()));
     }
-    if status < 2 && is_refused(&result, environment) {
-        eprintln!("{}:1: left: the adapted script is refused there", call.script.display());
+    let refused = if status < 2 { refusal::lines(&call.script, &result, environment) } else { Vec::new() };
+    for line in refused {
+        eprintln!("{line}: left: the adapted script is refused there");
         status = 2;
     }
     match &call.out {
@@ -132,62 +136,6 @@ fn read_script(call: &Call) -> Result<Reading, AdaptFault> {
     Ok(reader.finish())
 }
 
-/// The script in the profile: by what GNU ld makes of it over the objects, or over invented ones.
-fn adapted(reading: &Reading, objects: Option<&[Object]>) -> (Residual, Option<Result<Evaluation, Stop>>) {
-    match objects {
-        Some(objects) => {
-            let (result, evaluation) = adapted_over(reading, objects, false);
-            (result, Some(evaluation))
-        }
-        None => (adapted_over_any(reading), None),
-    }
-}
-
-/// Without objects: what is written in the same words over two kinds of them. The rest is left.
-fn adapted_over_any(reading: &Reading) -> Residual {
-    let over = |kind| adapted_over(reading, &invented::objects(&reading.script, kind), true);
-    let ((mut result, evaluation), (other, _)) = (over(invented::Kind::Small), over(invented::Kind::Large));
-    if let Err(stop) = &evaluation {
-        let place = reading.source.place(stop.span().map_or(0, |span| span.start));
-        let sentence = format!("it is not known whether GNU ld makes the same of it: {stop}");
-        result.notes.push(Note { kind: NoteKind::Changed, topic: Topic::Statement, place, sentence });
-    }
-    let lines = |text: &[u8]| text.lines().map(<[u8]>::to_vec).collect::<Vec<_>>();
-    let (own, others) = (lines(&result.text), lines(&other.text));
-    for (index, line) in own.iter().enumerate() {
-        if others.get(index) != Some(line) || own.len() != others.len() {
-            let place = result.lines.get(index).cloned().unwrap_or_default();
-            let sentence = "what stands here depends on the objects: give them by --objects".into();
-            result.notes.push(Note { kind: NoteKind::Left, topic: Topic::Statement, place, sentence });
-        }
-    }
-    result
-}
-
-/// The script in the profile over objects, and what GNU ld makes of it. Where these are invented, the objects of the link
-/// may define any name.
-fn adapted_over(reading: &Reading, objects: &[Object], is_invented: bool) -> (Residual, Result<Evaluation, Stop>) {
-    let evaluation = evaluate(&reading.script, objects, &Settings::default());
-    let names: Vec<&BStr> = objects.iter().map(|object| object.name()).collect();
-    let defines = |name: &BStr| {
-        is_invented || objects.iter().any(|object| object.globals_named(name).any(|one| one.rank().is_some()))
-    };
-    let result = residual(Request {
-        script: &reading.script,
-        source: &reading.source,
-        evaluation: evaluation.as_ref().ok(),
-        objects: &names,
-        is_followed: false,
-        entry: None,
-        has_default_entry: false,
-        defines: &defines,
-        kept: &[],
-        keeps_more: false,
-        collects_start_stop: false,
-    });
-    (result, evaluation)
-}
-
 /// What is another in the image of the objects than GNU ld makes, where `ldi` can be had and links them.
 fn differences(
     reading: &Reading,
@@ -223,16 +171,4 @@ fn differences(
     };
     let of_places = checked.differences.iter().map(|one| format!("{}: changed: {one}", at(one.span)));
     of_places.chain(checked.merged.iter().map(|one| format!("{}: changed: {one}", at(one.span)))).collect()
-}
-
-/// Whether `readscript` refuses the script, where it can be had.
-fn is_refused(result: &Residual, environment: &Environment) -> bool {
-    let path = std::env::temp_dir().join(format!("ldi-adapt-{}", std::process::id()));
-    if std::fs::write(&path, &result.text).is_err() {
-        return false;
-    }
-    let done = Process::new(find_program("readscript", environment)).arg(&path).stdin(Stdio::null()).output();
-    // The file is in a folder that the system clears where it cannot be removed.
-    let _ = std::fs::remove_file(&path);
-    done.map_or(false, |done| done.status.code() == Some(1) && !done.stdout.is_empty())
 }

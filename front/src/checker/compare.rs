@@ -10,6 +10,7 @@ use crate::objects::Object;
 use crate::report::link_map::LinkMap;
 use crate::script::tree::{Name, Span};
 use bstr::{BStr, ByteSlice};
+use object::elf::SHF_ALLOC;
 
 /// The differences that are looked for.
 const MOST: usize = 10;
@@ -267,6 +268,8 @@ pub struct NotLoaded {
     pub size: u64,
     /// Where it stands.
     pub span: Option<Span>,
+    /// Whether its header says that it takes memory, as its name does (`.bss`): GNU ld's segments have its addresses.
+    pub is_memory_by_name: bool,
 }
 
 /// The sections of the script that are not loaded and not empty.
@@ -277,6 +280,7 @@ pub(super) fn not_loaded(evaluation: &Evaluation) -> Vec<NotLoaded> {
         name: output.name.clone(),
         size: place.size,
         span: output.span,
+        is_memory_by_name: place.bits & u64::from(SHF_ALLOC) != 0,
     };
     evaluation.in_image().filter(is_out).map(of).collect()
 }

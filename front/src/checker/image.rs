@@ -1,12 +1,10 @@
 //! What an image of `ldi` has: sections that are loaded, and global symbols (docs/layout.md, 'Image').
 
-use crate::layout::names::{QuickHasher, QuickMap};
+use crate::quick::{QuickMap, QuickSet};
 use bstr::{BStr, ByteSlice};
 use object::elf::{self, FileHeader64, ProgramHeader64, SectionHeader64, Sym64};
 use object::read::elf::FileHeader;
 use object::{LittleEndian as Little, Pod};
-use std::collections::HashSet;
-use std::hash::BuildHasherDefault;
 use thiserror::Error;
 
 /// Bytes that are no image of `ldi`.
@@ -28,7 +26,7 @@ pub(super) struct Loaded<'a> {
 }
 
 /// Some values.
-pub(super) type Values = HashSet<u64, BuildHasherDefault<QuickHasher>>;
+pub(super) type Values = QuickSet<u64>;
 
 /// An image.
 pub(super) struct Image<'a> {

@@ -143,6 +143,10 @@ pub(super) fn merged(evaluation: &Evaluation, objects: &[Object]) -> Vec<Merged>
     }
     let owners: Vec<ObjectIndex> = properties.iter().map(|(_, section)| section.object).collect();
     let has_others = distinct(&owners) < objects.len();
+    let is_of_link = |section: &InputSection| {
+        objects.get(section.object.0 as usize).map_or(false, |object| object.has_note_of_link())
+    };
+    properties.retain(|(_, section)| !is_of_link(section));
     if let (Some((output, section)), true) = (properties.first(), properties.len() > 1 || has_others) {
         let (first, others) = (name_of(objects, section.object), distinct(&owners).saturating_sub(1));
         found.push(Merged { cause: MergedCause::Properties { first, others }, span: output.span });

@@ -1,12 +1,15 @@
 //! GNU ld's command line: its options as one table, response files; a `Command`.
 
+mod build_id;
 mod help;
 mod options;
 mod read;
+mod sorting;
 #[cfg(test)]
 mod tests;
 mod words;
 
+pub use build_id::BuildId;
 pub use help::help;
 pub use options::{
     find_keyword, find_option, Action, Argument, Effect, FoundOption, KeywordEffect, OptionRow, OPTIONS,
@@ -14,6 +17,7 @@ pub use options::{
 pub use read::{at_sysroot, number, path_of, read_command};
 pub use words::{expand_words, split_words, Words};
 
+use crate::layout::settings::{SectionSort, SortCommon};
 use bstr::BString;
 use indexmap::IndexMap;
 use std::collections::BTreeSet;
@@ -32,6 +36,8 @@ pub enum Format {
     Default,
     /// `binary`: any bytes are an object's `.data`.
     Binary,
+    /// `-R`: an image whose symbols alone are taken.
+    JustSymbols,
 }
 
 /// What holds for an input by the options before it.
@@ -103,6 +109,32 @@ pub enum OutputFormat {
     Binary,
 }
 
+/// Which symbols are left out.
+#[derive(Clone, Copy, PartialEq, Eq, Hash, Debug)]
+pub enum Strip {
+    /// None.
+    None,
+    /// `-S`: those of debug information.
+    Debug,
+    /// `-s`: all.
+    All,
+    /// `--retain-symbols-file`: all but those that its file names.
+    But,
+}
+
+/// Which local symbols are left out.
+#[derive(Clone, Copy, PartialEq, Eq, Hash, Debug)]
+pub enum Discard {
+    /// Compilers' labels in sections of merged constants.
+    MergedLabels,
+    /// `--discard-none`: none.
+    None,
+    /// `-X`: all labels of compilers.
+    Labels,
+    /// `-x`: all.
+    All,
+}
+
 /// What is asked of the server behind `ld.ldi`.
 #[derive(Clone, Copy, PartialEq, Eq, Hash, Debug)]
 pub enum ServerRequest {
@@ -155,10 +187,16 @@ pub struct Command {
     pub map_file: Option<PathBuf>,
     /// `-M`
     pub prints_map: bool,
+    /// `--Map-format=ldi`: the map is that of `ldi`, and not in GNU ld's form
+    pub has_own_map: bool,
+    /// `--cref`
+    pub has_cross_references: bool,
     /// `--gc-sections`
     pub collects_sections: bool,
     /// `--gc-keep-exported`
     pub keeps_exported: bool,
+    /// `--relax`: references by a global offset table become others where none is needed
+    pub relaxes: bool,
     /// `-z start-stop-gc`
     pub collects_start_stop: bool,
     /// `-init`: a symbol whose section `--gc-sections` keeps
@@ -187,8 +225,20 @@ pub struct Command {
     pub sysroot: PathBuf,
     /// `-nostdlib`
     pub is_without_standard_folders: bool,
+    /// `--eh-frame-hdr`
+    pub has_frame_table: bool,
     /// `-N`: the default script does not begin its data on a page of their own.
     pub is_omagic: bool,
+    /// `-n`
+    pub is_nmagic: bool,
+    /// `--sort-section`
+    pub sort_section: Option<SectionSort>,
+    /// `--sort-common`
+    pub sort_common: Option<SortCommon>,
+    /// `--unique`: patterns of names; `None` without it, no pattern for all orphans.
+    pub unique: Option<Vec<BString>>,
+    /// `--wrap`
+    pub wraps: Vec<BString>,
     /// `--section-start`: the address of each section
     pub section_starts: IndexMap<BString, u64>,
     /// `-Ttext-segment` and its like, `-Ttext`, `-Tdata`, `-Tbss`: what SEGMENT_START of a script gives for `text-segment`,
@@ -203,8 +253,20 @@ pub struct Command {
     pub keywords: Vec<BString>,
     /// `--oformat`
     pub output_format: Option<OutputFormat>,
+    /// `-s`, `-S` or `--retain-symbols-file`, the last one
+    pub strip: Strip,
+    /// The file of `--retain-symbols-file`
+    pub retained: Option<PathBuf>,
+    /// `-x`, `-X` or `--discard-none`, the last one
+    pub discard: Discard,
+    /// `-z unique-symbol`
+    pub has_unique_names: bool,
+    /// `--emit-relocs`
+    pub emits_relocations: bool,
     /// `--dependency-file`
     pub dependency_file: Option<PathBuf>,
+    /// `--build-id`, where it is not `none`
+    pub build_id: Option<BuildId>,
     /// `--verbose`
     pub is_verbose: bool,
     /// `-t`
@@ -237,8 +299,11 @@ impl Default for Command {
             entry: None,
             map_file: None,
             prints_map: false,
+            has_own_map: false,
+            has_cross_references: false,
             collects_sections: false,
             keeps_exported: false,
+            relaxes: true,
             collects_start_stop: false,
             init: BString::from("_init"),
             fini: BString::from("_fini"),
@@ -253,14 +318,26 @@ impl Default for Command {
             last_flags: InputFlags::default(),
             sysroot: PathBuf::new(),
             is_without_standard_folders: false,
+            has_frame_table: false,
             is_omagic: false,
+            is_nmagic: false,
+            sort_section: None,
+            sort_common: None,
+            unique: None,
+            wraps: Vec::new(),
             section_starts: IndexMap::new(),
             segment_starts: IndexMap::new(),
             page_size: None,
             common_page_size: None,
             keywords: Vec::new(),
             output_format: None,
+            strip: Strip::None,
+            retained: None,
+            discard: Discard::MergedLabels,
+            has_unique_names: false,
+            emits_relocations: false,
             dependency_file: None,
+            build_id: None,
             is_verbose: false,
             traces: false,
             asks: Vec::new(),

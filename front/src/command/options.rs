@@ -2,7 +2,7 @@
 //!
 //! docs/makefiles.md has the same table for people.
 
-use super::{Ask, Leniency, ServerRequest, WordsRefused};
+use super::{Ask, Discard, Leniency, ServerRequest, Strip, WordsRefused};
 use bstr::{BStr, BString, ByteSlice};
 
 /// Whether an option has a value.
@@ -23,6 +23,8 @@ pub enum Effect {
     Taken(Action),
     /// Nothing is said: it changes nothing of a static image, or only what `ldi` never makes.
     Ignored,
+    /// It is taken, and one line says what of it is not.
+    Noted(Action, &'static str),
     /// It has no effect here, and one line says what that means.
     Said(&'static str),
     /// Only another linker can do it; the text says what it is.
@@ -36,21 +38,29 @@ pub enum Action {
     Ask(Ask),
     BuildId,
     CollectSections(bool),
+    CompressDebugging,
     DefaultScript,
     Defsym,
     DependencyFile,
+    Discard(Discard),
+    EmitRelocations,
     EndGroup,
     Entry,
     Fini,
     Folder,
     Format,
+    FrameTable(bool),
     Init,
+    JustSymbols,
     KeepExported,
     Keyword,
     Lenient(Leniency),
     Library,
     Machine,
+    CrossReferences,
     MapFile,
+    MapFormat,
+    Nmagic,
     NoBuildId,
     NoFallback,
     NoServer,
@@ -65,7 +75,9 @@ pub enum Action {
     PrintMap,
     PrintMemoryUsage,
     PushState,
+    Relax(bool),
     Required,
+    RetainSymbols,
     Script,
     SectionStart,
     /// The address of a section, or of a segment of a default script, by its name without the point.
@@ -73,11 +85,16 @@ pub enum Action {
     Server(ServerRequest),
     StartGroup,
     Static(bool),
+    Strip(Strip),
+    SortCommon,
+    SortSection,
     Sysroot,
     Trace,
     Undefined,
+    Unique,
     Verbose,
     WholeArchive(bool),
+    Wrap,
 }
 
 /// A row of the table.
@@ -160,7 +177,7 @@ const ONE_DASH: &[&str] = &[
 ];
 
 use Argument::{Absent, Needed, Optional};
-use Effect::{Ignored, Impossible, Said, Taken};
+use Effect::{Ignored, Impossible, Noted, Said, Taken};
 
 const fn row(names: &'static str, argument: Argument, effect: Effect) -> OptionRow {
     OptionRow { names, argument, effect }
@@ -175,6 +192,8 @@ pub static OPTIONS: &[OptionRow] = &[
     row("e entry", Needed, Taken(Action::Entry)),
     row("Map", Needed, Taken(Action::MapFile)),
     row("M print-map", Absent, Taken(Action::PrintMap)),
+    row("Map-format", Needed, Taken(Action::MapFormat)),
+    row("cref", Absent, Taken(Action::CrossReferences)),
     row("L library-path", Needed, Taken(Action::Folder)),
     row("l library", Needed, Taken(Action::Library)),
     row("m", Needed, Taken(Action::Machine)),
@@ -191,6 +210,8 @@ pub static OPTIONS: &[OptionRow] = &[
     row("no-print-gc-sections", Absent, Taken(Action::PrintCollected(false))),
     row("print-memory-usage", Absent, Taken(Action::PrintMemoryUsage)),
     row("orphan-handling", Needed, Taken(Action::Orphans)),
+    row("relax", Absent, Taken(Action::Relax(true))),
+    row("no-relax", Absent, Taken(Action::Relax(false))),
     row("whole-archive", Absent, Taken(Action::WholeArchive(true))),
     row("no-whole-archive", Absent, Taken(Action::WholeArchive(false))),
     row("start-group (", Absent, Taken(Action::StartGroup)),
@@ -211,10 +232,24 @@ pub static OPTIONS: &[OptionRow] = &[
     row("b format", Needed, Taken(Action::Format)),
     row("oformat", Needed, Taken(Action::OutputFormat)),
     row("dependency-file", Needed, Taken(Action::DependencyFile)),
+    row("compress-debug-sections", Optional, Taken(Action::CompressDebugging)),
     row("build-id", Optional, Taken(Action::BuildId)),
     row("no-build-id", Absent, Taken(Action::NoBuildId)),
     row("no-pie", Absent, Taken(Action::Nothing)),
+    row("q emit-relocs", Absent, Taken(Action::EmitRelocations)),
+    row("s strip-all", Absent, Taken(Action::Strip(Strip::All))),
+    row("S strip-debug", Absent, Taken(Action::Strip(Strip::Debug))),
+    row("retain-symbols-file", Needed, Taken(Action::RetainSymbols)),
+    row("x discard-all", Absent, Taken(Action::Discard(Discard::All))),
+    row("X discard-locals", Absent, Taken(Action::Discard(Discard::Labels))),
+    row("discard-none", Absent, Taken(Action::Discard(Discard::None))),
     row("N omagic", Absent, Taken(Action::Omagic)),
+    row("n nmagic", Absent, Noted(Action::Nmagic, "segments lie in the file as their addresses modulo 4,096 ask")),
+    row("R just-symbols", Needed, Taken(Action::JustSymbols)),
+    row("wrap", Needed, Taken(Action::Wrap)),
+    row("sort-section", Needed, Taken(Action::SortSection)),
+    row("sort-common", Optional, Taken(Action::SortCommon)),
+    row("unique", Optional, Taken(Action::Unique)),
     row("v version", Absent, Taken(Action::Ask(Ask::Version))),
     row("V", Absent, Taken(Action::Ask(Ask::VersionAndEmulations))),
     row("help target-help", Absent, Taken(Action::Ask(Ask::Help))),
@@ -256,11 +291,8 @@ pub static OPTIONS: &[OptionRow] = &[
     row("map-whole-files", Absent, Ignored),
     row("no-map-whole-files", Absent, Ignored),
     row("Qy", Absent, Ignored),
-    row("S strip-debug", Absent, Ignored),
     row("strip-discarded", Absent, Ignored),
     row("no-strip-discarded", Absent, Ignored),
-    row("x discard-all", Absent, Ignored),
-    row("X discard-locals", Absent, Ignored),
     row("Y", Needed, Ignored),
     row("P depaudit", Needed, Ignored),
     row("audit", Needed, Ignored),
@@ -276,7 +308,6 @@ pub static OPTIONS: &[OptionRow] = &[
     row("check-sections", Absent, Ignored),
     row("copy-dt-needed-entries add-needed", Absent, Ignored),
     row("no-copy-dt-needed-entries no-add-needed", Absent, Ignored),
-    row("compress-debug-sections", Optional, Ignored),
     row("demangle", Optional, Ignored),
     row("no-demangle", Absent, Ignored),
     row("disable-multiple-abs-defs", Absent, Ignored),
@@ -288,8 +319,8 @@ pub static OPTIONS: &[OptionRow] = &[
     row("dynamic-list-cpp-new", Absent, Ignored),
     row("dynamic-list-cpp-typeinfo", Absent, Ignored),
     row("dynamic-list-data", Absent, Ignored),
-    row("eh-frame-hdr", Absent, Ignored),
-    row("no-eh-frame-hdr", Absent, Ignored),
+    row("eh-frame-hdr", Absent, Taken(Action::FrameTable(true))),
+    row("no-eh-frame-hdr", Absent, Taken(Action::FrameTable(false))),
     row("error-handling-script", Needed, Ignored),
     row("error-unresolved-symbols", Absent, Ignored),
     row("exclude-libs", Needed, Ignored),
@@ -319,8 +350,6 @@ pub static OPTIONS: &[OptionRow] = &[
     row("no-print-map-discarded", Absent, Ignored),
     row("qmagic", Absent, Ignored),
     row("reduce-memory-overheads", Absent, Ignored),
-    row("relax", Absent, Ignored),
-    row("no-relax", Absent, Ignored),
     row("rpath", Needed, Ignored),
     row("rpath-link", Needed, Ignored),
     row("spare-dynamic-tags", Needed, Ignored),
@@ -343,11 +372,6 @@ pub static OPTIONS: &[OptionRow] = &[
     row("ctf-share-types", Needed, Ignored),
     row("enable-non-contiguous-regions-warnings", Absent, Ignored),
     // said
-    row("s strip-all", Absent, Said("the image keeps its table of global names")),
-    row("discard-none", Absent, Said("the image has no local names; `ldi-gdb --symbols` adds them to a copy")),
-    row("retain-symbols-file", Needed, Said("the image keeps its table of global names")),
-    row("n nmagic", Absent, Said("segments lie in the file as their addresses modulo 4,096 ask")),
-    row("cref", Absent, Said("the map has no cross references")),
     row("y trace-symbol", Needed, Said("nothing is traced")),
     row("package-metadata", Optional, Said("the image has no note of a package")),
     row("version-script", Needed, Said("symbols have no versions, and none is hidden")),
@@ -356,15 +380,9 @@ pub static OPTIONS: &[OptionRow] = &[
     row("Ur", Absent, Impossible("relocatable output")),
     row("shared Bshareable", Absent, Impossible("a shared library")),
     row("pie pic-executable", Absent, Impossible("an executable that is placed when it is loaded")),
-    row("q emit-relocs", Absent, Impossible("relocations in the output")),
-    row("R just-symbols", Needed, Impossible("symbols of another image")),
     row("c mri-script", Needed, Impossible("a script of another language")),
     row("EB", Absent, Impossible("big-endian objects")),
-    row("wrap", Needed, Impossible("other names for symbols")),
-    row("sort-section", Needed, Impossible("sorts that the script does not have")),
-    row("sort-common", Optional, Impossible("another order of common blocks")),
     row("no-define-common", Absent, Impossible("common blocks that are not placed")),
-    row("unique", Optional, Impossible("output sections for single input sections")),
     row("split-by-file", Optional, Impossible("output sections for single files")),
     row("split-by-reloc", Optional, Impossible("output sections by the number of relocations")),
     row("embedded-relocs", Absent, Impossible("relocations in the output")),
@@ -390,18 +408,21 @@ pub enum KeywordEffect {
 }
 
 const KEYWORDS_TAKEN: &[&str] = &[
+    "call-nop",
     "common-page-size",
     "max-page-size",
     "norelro",
     "noseparate-code",
     "nostart-stop-gc",
+    "nounique-symbol",
     "relro",
     "separate-code",
     "start-stop-gc",
+    "start-stop-visibility",
+    "unique-symbol",
 ];
 
 const KEYWORDS_IGNORED: &[&str] = &[
-    "call-nop",
     "cet-report",
     "combreloc",
     "common",
@@ -437,7 +458,6 @@ const KEYWORDS_IGNORED: &[&str] = &[
     "nopack-relative-relocs",
     "notext",
     "nounique",
-    "nounique-symbol",
     "now",
     "origin",
     "pack-relative-relocs",
@@ -445,11 +465,9 @@ const KEYWORDS_IGNORED: &[&str] = &[
     "sectionheader",
     "shstk",
     "stack-size",
-    "start-stop-visibility",
     "text",
     "textoff",
     "unique",
-    "unique-symbol",
     "x86-64-baseline",
     "x86-64-v2",
     "x86-64-v3",

@@ -1,7 +1,8 @@
 //! The words of a command line, read into a `Command`.
 
 use super::options::{dashed, find_keyword, find_option, Action, Argument, Effect, KeywordEffect, OptionRow};
-use super::{Command, Defsym, Format, Input, InputFlags, Orphans, OutputFormat, WordsRefused};
+use super::sorting;
+use super::{BuildId, Command, Defsym, Format, Input, InputFlags, Orphans, OutputFormat, Strip, WordsRefused};
 use bstr::{BStr, BString, ByteSlice};
 use std::ffi::OsStr;
 use std::os::unix::ffi::OsStrExt;
@@ -44,7 +45,8 @@ struct Reader {
     flags: InputFlags,
     pushed: Vec<InputFlags>,
     is_in_group: bool,
-    has_build_id: bool,
+    /// The style of the last `--build-id`.
+    build_id: Option<BString>,
 }
 
 impl Reader {
@@ -71,8 +73,14 @@ impl Reader {
         if self.is_in_group {
             return Err(WordsRefused("--start-group without --end-group".to_owned()));
         }
-        if self.has_build_id {
-            self.command.note("--build-id: the image has no build ID");
+        if let Some(style) = self.build_id.take() {
+            self.command.build_id = BuildId::of_style(&style);
+            if self.command.build_id.is_none() {
+                self.command.note("warning: unrecognized --build-id style ignored");
+            }
+        }
+        if self.command.emits_relocations && self.command.strip == Strip::All {
+            self.impossible("-s: no symbols for the relocations of --emit-relocs".to_owned());
         }
         let mut command = self.command;
         command.last_flags = self.flags;
@@ -88,6 +96,10 @@ impl Reader {
         match row.effect {
             Effect::Taken(action) => return self.take(action, value.unwrap_or_else(|| b"".as_bstr())),
             Effect::Ignored => {}
+            Effect::Noted(action, meaning) => {
+                self.command.note(format!("{written}: {meaning}"));
+                return self.take(action, b"".as_bstr());
+            }
             Effect::Said(meaning) => self.command.note(format!("{written}: {meaning}")),
             Effect::Impossible(reason) => self.impossible(format!("{written}: {reason}")),
         }
@@ -105,20 +117,37 @@ impl Reader {
         let command = &mut self.command;
         match action {
             Action::Ask(ask) => command.asks.push(ask),
-            Action::BuildId => self.has_build_id = value != "none",
+            Action::BuildId => self.build_id = Some(value.to_owned()).filter(|style| style != "none"),
+            Action::CompressDebugging if value == "none" => {}
+            Action::CompressDebugging => {
+                command.note("--compress-debug-sections: debug information is not compressed");
+            }
             Action::CollectSections(does) => command.collects_sections = does,
             Action::DefaultScript => command.default_script = Some(path_of(value)),
+            Action::Discard(discard) => command.discard = discard,
+            Action::EmitRelocations => command.emits_relocations = true,
+            Action::Strip(strip) => command.strip = strip,
             Action::DependencyFile => command.dependency_file = Some(path_of(value)),
             Action::Entry => command.entry = Some(value.to_owned()),
             Action::Fini => command.fini = value.to_owned(),
             Action::Folder => self.folders.push(value.to_owned()),
             Action::Init => command.init = value.to_owned(),
+            Action::FrameTable(has) => command.has_frame_table = has,
             Action::KeepExported => command.keeps_exported = true,
+            Action::Relax(does) => command.relaxes = does,
+            Action::CrossReferences => command.has_cross_references = true,
+            Action::MapFormat => {
+                command.has_own_map = match value.as_bytes() {
+                    b"ldi" => true,
+                    b"gnu" => false,
+                    _ => return Err(WordsRefused(format!("--Map-format {value}: neither gnu nor ldi"))),
+                };
+            }
             Action::MapFile => command.map_file = Some(path_of(value)),
             Action::Lenient(leniency) => {
                 command.lenient.insert(leniency);
             }
-            Action::NoBuildId => self.has_build_id = false,
+            Action::NoBuildId => self.build_id = None,
             Action::NoFallback => command.is_without_fallback = true,
             Action::NoServer => command.is_without_server = true,
             Action::NoStandardFolders => command.is_without_standard_folders = true,
@@ -131,6 +160,8 @@ impl Reader {
             Action::Sysroot => command.sysroot = path_of(value),
             Action::Trace => command.traces = true,
             Action::Undefined => command.undefined.push(value.to_owned()),
+            Action::Unique => sorting::add_unique(command, value),
+            Action::Wrap => command.wraps.push(value.to_owned()),
             Action::Verbose => command.is_verbose = true,
             _ => return self.take_input(action, value),
         }
@@ -142,6 +173,10 @@ impl Reader {
         match action {
             Action::Library => self.command.inputs.push(Input::Library(value.to_owned(), self.flags)),
             Action::Script => self.script(path_of(value)),
+            Action::JustSymbols => {
+                let flags = InputFlags { format: Format::JustSymbols, ..self.flags };
+                self.command.inputs.push(Input::File(path_of(value), flags));
+            }
             Action::Format => self.format(value),
             Action::Static(is_static) => self.flags.is_static = is_static,
             Action::WholeArchive(is_whole) => self.flags.is_whole_archive = is_whole,
@@ -165,8 +200,15 @@ impl Reader {
     fn take_checked(&mut self, action: Action, value: &BStr) -> Result<(), WordsRefused> {
         match action {
             Action::Defsym => return self.defsym(value),
+            Action::RetainSymbols => {
+                self.command.strip = Strip::But;
+                self.command.retained = Some(path_of(value));
+            }
             Action::Keyword => return self.keyword(value),
             Action::Machine if value != "elf_x86_64" => self.impossible(format!("-m {value}: another machine")),
+            Action::Nmagic => self.command.is_nmagic = true,
+            Action::SortSection => self.command.sort_section = Some(sorting::sort_section(value)?),
+            Action::SortCommon => self.command.sort_common = Some(sorting::sort_common(value)?),
             Action::Omagic => {
                 self.command.is_omagic = true;
                 self.command
@@ -267,6 +309,7 @@ impl Reader {
     fn keyword_taken(&mut self, text: &BStr, name: &[u8], value: &[u8]) -> Result<(), WordsRefused> {
         match name {
             b"start-stop-gc" | b"nostart-stop-gc" => self.command.collects_start_stop = name == b"start-stop-gc",
+            b"unique-symbol" | b"nounique-symbol" => self.command.has_unique_names = name == b"unique-symbol",
             b"max-page-size" => self.command.page_size = Some(page(text, value)?),
             b"common-page-size" => self.command.common_page_size = Some(page(text, value)?),
             _ => {}

@@ -149,21 +149,22 @@ fn what_gcc_passes_by_itself_needs_no_other_linker() {
         "a.o",
     ]);
     assert!(command.impossible.is_empty());
-    assert_eq!(command.notes, ["--build-id: the image has no build ID"]);
+    assert!(command.notes.is_empty());
+    assert_eq!(command.build_id, Some(BuildId::Sha1));
     assert_eq!(command.inputs.len(), 1);
     assert_eq!(command.folders, [Path::new(".")]);
 }
 
 #[test]
 fn options_without_effect_are_said_once() {
-    let command = read(&["-s", "-s", "-z", "nosectionheader", "-zodd", "-z", "odd"]);
+    let command = read(&["-n", "-n", "-z", "nosectionheader", "-zodd", "-z", "odd"]);
     assert_eq!(command.notes.len(), 3);
     assert!(read(&["-z", "max-page-size=4096"]).notes.is_empty());
 }
 
 #[test]
 fn an_option_is_spoken_of_by_the_name_that_the_words_have() {
-    assert_eq!(read(&["--strip-all"]).notes, ["--strip-all: the image keeps its table of global names"]);
+    assert!(read(&["--nmagic"]).notes.concat().starts_with("--nmagic: "));
     assert_eq!(read(&["-relocatable"]).impossible, ["--relocatable: relocatable output"]);
     assert_eq!(read(&["--reloc"]).impossible, ["-r: relocatable output"]);
 }
@@ -187,9 +188,11 @@ fn orphans_are_kept_as_they_are_written() {
 
 #[test]
 fn the_last_build_id_holds() {
-    assert!(read(&["--build-id", "--build-id=none"]).notes.is_empty());
-    assert!(read(&["--build-id=sha1", "--no-build-id"]).notes.is_empty());
-    assert_eq!(read(&["--build-id=none", "--build-id=md5"]).notes.len(), 1);
+    assert_eq!(read(&["--build-id", "--build-id=none"]).build_id, None);
+    assert_eq!(read(&["--build-id=sha1", "--no-build-id"]).build_id, None);
+    assert_eq!(read(&["--build-id=none", "--build-id=md5"]).build_id, Some(BuildId::Md5));
+    assert!(read(&["--build-id=odd", "--build-id=0x12"]).notes.is_empty());
+    assert_eq!(read(&["--build-id=fast"]).notes, ["warning: unrecognized --build-id style ignored"]);
 }
 
 #[test]
@@ -237,6 +240,8 @@ fn every_option_can_be_read() {
             Some("end-group" | "pop-state" | "start-group") => continue,
             Some("orphan-handling") => "error",
             Some("section-start" | "defsym") => ".x=0",
+            Some("sort-section") => "name",
+            Some("Map-format") => "ldi",
             _ => "10",
         };
         let mut words = vec![BString::from(row.spelling())];
@@ -338,7 +343,7 @@ fn the_manual_has_each_option_under_its_effect() {
     let manual = include_str!("../../../docs/makefiles.md");
     type Belongs = fn(&Effect) -> bool;
     let headings: [(&str, Belongs); 4] = [
-        ("Taken", |effect| matches!(effect, Effect::Taken(_))),
+        ("Taken", |effect| matches!(effect, Effect::Taken(_) | Effect::Noted(..))),
         ("Ignored", |effect| matches!(effect, Effect::Ignored)),
         ("Said", |effect| matches!(effect, Effect::Said(_))),
         ("Handed over", |effect| matches!(effect, Effect::Impossible(_))),

@@ -1,8 +1,21 @@
 //! A file in pieces: stretches of the image of `ldi` at their new places, and headers that are written anew.
 
+use std::collections::BTreeMap;
 use std::ops::Range;
 
+use object::elf;
+
 use super::image::{Image, NotAnImage, Section, Segment, ELF_HEADER};
+use super::symbols::SymbolTable;
+use crate::snapshot::Bytes;
+
+/// Where fields are in the header of a file: EI_OSABI, e_phoff, e_shoff, e_phnum, e_shnum and e_shstrndx.
+const SYSTEM_AT: usize = 7;
+const SEGMENTS_AT: usize = 32;
+const SECTIONS_AT: usize = 40;
+const SEGMENT_COUNT_AT: usize = 56;
+const SECTION_COUNT_AT: usize = 60;
+const NAMES_AT: usize = 62;
 
 /// A file: pieces at ascending places, with zeros between. No byte of the image is copied for it.
 #[derive(Debug)]
@@ -24,6 +37,8 @@ enum Source {
     Image(Range<usize>),
     /// Other bytes.
     Own(Vec<u8>),
+    /// Bytes that others have too.
+    Shared(Bytes),
 }
 
 impl FileImage {
@@ -48,14 +63,34 @@ impl FileImage {
         &self.image
     }
 
+    /// The image of `ldi`, for its memory to be used again.
+    pub fn into_image(self) -> Vec<u8> {
+        self.image
+    }
+
     /// The pieces with their places, which ascend; between them are zeros.
     pub fn pieces(&self) -> impl Iterator<Item = (u64, &[u8])> {
         self.pieces.iter().map(move |piece| {
             let bytes = match &piece.source {
                 Source::Image(range) => self.image.get(range.clone()).unwrap_or_default(),
                 Source::Own(bytes) => bytes,
+                Source::Shared(bytes) => bytes,
             };
             (piece.at, bytes)
+        })
+    }
+
+    /// The pieces from the one on that a place is in, or the last before it.
+    pub(super) fn pieces_from(&self, place: u64) -> impl Iterator<Item = (u64, &[u8])> {
+        let after = self.pieces.partition_point(|piece| piece.at <= place);
+        self.pieces().skip(after.saturating_sub(1))
+    }
+
+    /// Where a byte of the image of `ldi` is in the file; `None` where it is not there.
+    pub fn place_of(&self, offset: usize) -> Option<u64> {
+        self.pieces.iter().find_map(|piece| match &piece.source {
+            Source::Image(range) if range.contains(&offset) => Some(piece.at + (offset - range.start) as u64),
+            _ => None,
         })
     }
 
@@ -136,6 +171,10 @@ pub(super) struct FilePlan {
     pub(super) names: Option<Vec<u8>>,
     /// The number of the section with the names.
     pub(super) names_in: usize,
+    /// The table of symbols, where it is another, or there is to be none.
+    pub(super) symbols: Option<Option<SymbolTable>>,
+    /// The bytes of the sections that the image does not have, by their numbers.
+    pub(super) contents: BTreeMap<usize, Bytes>,
 }
 
 impl FilePlan {
@@ -154,7 +193,39 @@ impl FilePlan {
             sections: image.sections.clone(),
             names: None,
             names_in: image.names_in,
+            symbols: None,
+            contents: BTreeMap::new(),
         }
+    }
+
+    /// The bytes of sections that are not those of the image, by their numbers. A table of symbols that is not wanted goes.
+    fn own_bytes(&mut self) -> BTreeMap<usize, Vec<u8>> {
+        let mut own = BTreeMap::new();
+        let table = self.sections.iter().position(|section| section.kind == elf::SHT_SYMTAB);
+        let strings = table.and_then(|table| self.sections.get(table)).map(|table| table.link as usize);
+        match (self.symbols.take(), table, strings) {
+            (Some(Some(symbols)), Some(table), Some(strings)) => {
+                if let Some(header) = self.sections.get_mut(table) {
+                    header.info = symbols.first_global;
+                }
+                own.insert(table, symbols.entries);
+                own.insert(strings, symbols.names);
+            }
+            (Some(None), Some(table), Some(strings)) => self.remove(&[table, strings]),
+            _ => {}
+        }
+        own.extend(self.names.take().map(|names| (self.names_in, names)));
+        own
+    }
+
+    /// Takes sections out that none before them refers to.
+    fn remove(&mut self, numbers: &[usize]) {
+        self.names_in -= numbers.iter().filter(|number| **number < self.names_in).count();
+        let mut number = 0;
+        self.sections.retain(|_| {
+            number += 1;
+            !numbers.contains(&(number - 1))
+        });
     }
 
     /// The file: the headers, what is loaded, what is not loaded, and the section headers.
@@ -165,23 +236,25 @@ impl FilePlan {
         }
         pieces.sort_by_key(|piece| piece.at);
         let mut end = self.end;
+        let is_of_gnu = matches!(&self.symbols, Some(Some(symbols)) if symbols.is_of_gnu);
+        let mut own = self.own_bytes();
         for (index, section) in self.sections.iter_mut().enumerate() {
             if section.is_allocated() || section.size == 0 {
+                continue;
+            }
+            if let Some(content) = self.contents.remove(&index) {
+                section.offset = aligned(end, section.align);
+                end = section.offset + content.len() as u64;
+                pieces.push(Piece { at: section.offset, source: Source::Shared(content) });
                 continue;
             }
             let old = range(section.offset, section.size);
             end = aligned(end, 8);
             section.offset = end;
-            let source = match self.names.take() {
-                Some(names) if index == self.names_in => {
-                    section.size = names.len() as u64;
-                    Source::Own(names)
-                }
-                names => {
-                    self.names = names;
-                    Source::Image(old)
-                }
-            };
+            let source = own.remove(&index).map_or(Source::Image(old), Source::Own);
+            if let Source::Own(bytes) = &source {
+                section.size = bytes.len() as u64;
+            }
             pieces.push(Piece { at: end, source });
             end += section.size;
         }
@@ -189,27 +262,32 @@ impl FilePlan {
         let headers: Vec<u8> = self.sections.iter().flat_map(Section::bytes).collect();
         let length = end + headers.len() as u64;
         pieces.push(Piece { at: end, source: Source::Own(headers) });
-        pieces.insert(0, Piece { at: 0, source: Source::Own(front(&image, end, &self.segments)) });
+        pieces.insert(0, Piece { at: 0, source: Source::Own(self.front(&image, end, is_of_gnu)) });
         FileImage { image, pieces, length }
     }
-}
 
-/// The ELF header with another place of the section headers, and the program headers.
-fn front(image: &[u8], sections_at: u64, segments: &[Segment]) -> Vec<u8> {
-    let mut front = image.get(..ELF_HEADER as usize).unwrap_or_default().to_vec();
-    let segments_at = if segments.is_empty() { 0 } else { ELF_HEADER };
-    let count = u16::try_from(segments.len()).unwrap_or(u16::MAX);
-    for (at, bytes) in [
-        (32, segments_at.to_le_bytes().to_vec()),
-        (40, sections_at.to_le_bytes().to_vec()),
-        (56, count.to_le_bytes().to_vec()),
-    ] {
-        if let Some(field) = front.get_mut(at..at + bytes.len()) {
-            field.copy_from_slice(&bytes);
+    /// The ELF header with another place of the section headers, and the program headers.
+    fn front(&self, image: &[u8], sections_at: u64, is_of_gnu: bool) -> Vec<u8> {
+        let mut front = image.get(..ELF_HEADER as usize).unwrap_or_default().to_vec();
+        let segments_at = if self.segments.is_empty() { 0 } else { ELF_HEADER };
+        let number = |count: usize| u16::try_from(count).unwrap_or(u16::MAX).to_le_bytes().to_vec();
+        for (at, bytes) in [
+            (SEGMENTS_AT, segments_at.to_le_bytes().to_vec()),
+            (SECTIONS_AT, sections_at.to_le_bytes().to_vec()),
+            (SEGMENT_COUNT_AT, number(self.segments.len())),
+            (SECTION_COUNT_AT, number(self.sections.len())),
+            (NAMES_AT, number(self.names_in)),
+        ] {
+            if let Some(field) = front.get_mut(at..at + bytes.len()) {
+                field.copy_from_slice(&bytes);
+            }
         }
+        if let (true, Some(system)) = (is_of_gnu, front.get_mut(SYSTEM_AT)) {
+            *system = elf::ELFOSABI_GNU;
+        }
+        front.extend(self.segments.iter().flat_map(Segment::bytes));
+        front
     }
-    front.extend(segments.iter().flat_map(Segment::bytes));
-    front
 }
 
 /// The lowest multiple of a power of two at or above a place.

@@ -2,24 +2,35 @@
 //!
 //! What is loaded stays as `ldi` answered it, byte for byte; `finish` ends with a test of that.
 
+mod build_id;
+mod digest;
 mod file_image;
 mod flat;
+mod headers;
 mod image;
+mod inserted;
 mod loaded;
 mod names;
 mod pages;
 mod program_headers;
 mod rights;
+mod symbols;
+mod unloaded;
 
 use bstr::BString;
 
+pub use build_id::{hash_of, place_of_note, HashKind};
 pub use file_image::FileImage;
 pub use flat::NoFlatImage;
+pub use headers::LoadedHeaders;
 pub use image::NotAnImage;
 pub use loaded::Differs;
 pub use pages::TooFar;
 pub use program_headers::{NotWritten, WantedSegment};
 pub use rights::Rights;
+use symbols::{EmptySection, RelocationTable};
+pub use symbols::{LaidOut, LinkedNames, NoTable, Strip, SymbolOptions, Symbols};
+pub use unloaded::Unloaded;
 
 /// The page size of the images of `ldi`.
 pub const PAGE: u64 = 4096;
@@ -35,10 +46,16 @@ pub struct Form {
     pub segments: Option<Vec<WantedSegment>>,
     /// Why the program headers of PHDRS cannot be known.
     pub segments_problem: Option<String>,
+    /// The headers of the file that are loaded, where the script has no PHDRS.
+    pub headers: Option<LoadedHeaders>,
     /// Output sections that have another name in the image of `ldi`, and the names that they are to have.
     pub names: Vec<(BString, BString)>,
     /// The rights of output sections in GNU ld's file.
     pub rights: Vec<Rights>,
+    /// Which symbols the file has.
+    pub symbols: SymbolOptions,
+    /// Whether debug information is left out (`--strip-debug`).
+    pub strips_debugging: bool,
     /// Whether the bytes are wanted as they lie in memory, without headers (`--oformat binary`).
     pub is_flat: bool,
 }
@@ -49,8 +66,11 @@ impl Default for Form {
             page: PAGE,
             segments: None,
             segments_problem: None,
+            headers: None,
             names: Vec::new(),
             rights: Vec::new(),
+            symbols: SymbolOptions::default(),
+            strips_debugging: false,
             is_flat: false,
         }
     }
@@ -73,12 +93,18 @@ pub enum FinishError {
     /// What is there is no image of `ldi`.
     #[error(transparent)]
     NotAnImage(#[from] NotAnImage),
+    /// The headers of the file cannot be loaded where GNU ld's are.
+    #[error("the headers of the file are not in memory: {0}")]
+    NoHeaders(NotWritten),
     /// Load addresses are too far apart.
     #[error(transparent)]
     NoFlatImage(#[from] NoFlatImage),
     /// Segments would lie too far apart in the file.
     #[error(transparent)]
     TooFar(#[from] TooFar),
+    /// There is no table of symbols, or none of relocations.
+    #[error(transparent)]
+    NoTable(#[from] NoTable),
     /// The file would not load what `ldi` answered: a fault of this program.
     #[error(transparent)]
     Differs(#[from] Differs),
@@ -93,22 +119,32 @@ pub struct Finished {
     pub notes: Vec<FinishNote>,
 }
 
-/// Makes the file of a form from an image of `ldi`.
+/// Makes the file of a form from an image of `ldi`, with sections that are not loaded; without `symbols` its table of
+/// symbols is that of the image.
 ///
 /// # Errors
 /// Where the form has no file for this image, and where the file would not load what the image loads.
-pub fn finish(mut image: Vec<u8>, form: &Form) -> Result<Finished, FinishError> {
+pub fn finish(
+    mut image: Vec<u8>,
+    form: &Form,
+    symbols: Option<&Symbols<'_>>,
+    unloaded: Vec<Unloaded>,
+) -> Result<Finished, FinishError> {
     if form.is_flat {
         let flat = flat::flat_binary(&image)?;
         return Ok(Finished { file: FileImage::whole(flat), notes: Vec::new() });
     }
     rights::write(&mut image, &form.rights)?;
     let mut notes = Vec::new();
-    let mut plan = match &form.segments {
-        Some(segments) => with_segments(&image, form, segments, &mut notes)?,
-        None => pages::with_pages(&image, form.page, false)?,
+    let mut plan = match (&form.segments, form.headers) {
+        (Some(segments), _) => with_segments(&image, form, segments, &mut notes)?,
+        (None, Some(headers)) => Some(with_headers(&image, form, headers)?),
+        (None, None) => pages::with_pages(&image, form.page, false)?,
     };
     names::rename(&image, &form.names, &mut plan)?;
+    let (relocations, missing) = put_symbols(&image, form, symbols, &unloaded, &mut plan)?;
+    unloaded::add(&image, unloaded, &mut plan)?;
+    inserted::insert(&image, relocations, missing, &mut plan)?;
     let (segments, file) = match plan {
         None => return Ok(Finished { file: FileImage::whole(image), notes }),
         Some(plan) => (plan.segments.clone(), plan.file(image)),
@@ -122,6 +158,33 @@ pub fn finish(mut image: Vec<u8>, form: &Form) -> Result<Finished, FinishError> 
         .collect();
     loaded::check(&file, &segments, &outside)?;
     Ok(Finished { file, notes })
+}
+
+/// The sections that are put among those of an image.
+type More = (Vec<RelocationTable>, Vec<EmptySection>);
+
+/// Gives the file its table of symbols, or takes that of the image away; gives the sections that go with it.
+fn put_symbols(
+    data: &[u8],
+    form: &Form,
+    symbols: Option<&Symbols<'_>>,
+    unloaded: &[Unloaded],
+    plan: &mut Option<file_image::FilePlan>,
+) -> Result<More, FinishError> {
+    let image = image::Image::read(data)?;
+    let (table, more) = match symbols.filter(|_| form.symbols.has_table()) {
+        Some(symbols) => {
+            let found = symbols::table_of(&image, symbols, &form.symbols, &form.names, unloaded)?;
+            (Some(found.symbols), (found.relocations, found.missing))
+        }
+        None if form.symbols.emits_relocations => return Err(NoTable::Layout.into()),
+        None if form.symbols.has_table() => return Ok(More::default()),
+        None => (None, More::default()),
+    };
+    let mut changed = file_image::plan_or_unchanged(data, plan.take())?;
+    changed.symbols = Some(table);
+    *plan = Some(changed);
+    Ok(more)
 }
 
 /// The file with the program headers of PHDRS, else with those of `ldi`, and a note of why.
@@ -143,6 +206,15 @@ fn with_segments(
             Ok(pages::with_pages(image, form.page, true)?)
         }
     }
+}
+
+/// The file with the program headers of `ldi`, and its own headers in memory.
+fn with_headers(image: &[u8], form: &Form, headers: LoadedHeaders) -> Result<file_image::FilePlan, FinishError> {
+    let wanted = headers::wanted(image, headers)?;
+    program_headers::write(image, &wanted, form.page).map_err(|fault| match fault {
+        NotWritten::NotAnImage(fault) => fault.into(),
+        fault => FinishError::NoHeaders(fault),
+    })
 }
 
 #[cfg(test)]

@@ -34,7 +34,7 @@ pub(super) fn with_pages(data: &[u8], page: u64, in_file_order: bool) -> Result<
     }
     let loaded = placed.iter().map(|(old, new)| (new.offset, range(old.offset, old.file_size))).collect();
     let segments = placed.iter().map(|(_, new)| *new).collect();
-    Ok(Some(FilePlan { segments, loaded, end, sections, names: None, names_in: image.names_in }))
+    Ok(Some(FilePlan { segments, loaded, end, sections, ..FilePlan::unchanged(&image) }))
 }
 
 /// The segments with their new places, in the order of the image's headers; and the end of the last one.

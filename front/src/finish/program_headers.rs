@@ -32,6 +32,8 @@ pub struct WantedSegment {
     pub has_file_header: bool,
     /// PHDRS: the segment has the program headers.
     pub has_program_headers: bool,
+    /// Where it begins that has the headers alone, and no sections.
+    pub address: Option<u64>,
     /// The names of its sections in the image, in their order.
     pub sections: Vec<BString>,
 }
@@ -312,7 +314,7 @@ impl Writer<'_> {
             let mut segment = self.written(entry);
             let mut align = entry.align;
             if entry.is_load() && entry.wants_headers() {
-                put_headers_in(entry, &mut segment)?;
+                self.put_headers_in(entry, &mut segment)?;
             } else if entry.wants_headers() {
                 segment = self.table(entry, segment.flags)?;
                 align = WORD;
@@ -344,6 +346,27 @@ impl Writer<'_> {
                 parts().map(|part| part.header.end()).max().unwrap_or(0).wrapping_sub(segment.address);
         }
         segment
+    }
+
+    /// Lets the first PT_LOAD begin with the headers.
+    fn put_headers_in(&self, entry: &Entry<'_>, segment: &mut Segment) -> Result<(), NotWritten> {
+        let start = if entry.wanted.has_file_header { 0 } else { ELF_HEADER };
+        if let (true, Some(address)) = (entry.parts.is_empty(), entry.wanted.address) {
+            let size = ELF_HEADER + PROGRAM_HEADER * self.entries.len() as u64 - start;
+            *segment =
+                Segment { offset: start, address, load: address, file_size: size, memory_size: size, ..*segment };
+            return Ok(());
+        }
+        let more = segment.offset.wrapping_sub(start);
+        if entry.parts.is_empty() || segment.address < more || segment.load < more {
+            return Err(NotWritten::NoRoom(entry.wanted.name.clone()));
+        }
+        segment.offset = start;
+        segment.address -= more;
+        segment.load -= more;
+        segment.file_size += more;
+        segment.memory_size += more;
+        Ok(())
     }
 
     /// PT_PHDR with PHDRS: the table itself, at its address in the PT_LOAD that has it.
@@ -404,21 +427,6 @@ impl Writer<'_> {
             }
         }
         let segments = self.entries.iter().map(|entry| entry.written).collect();
-        FilePlan { segments, loaded, end, sections, names: None, names_in: image.names_in }
+        FilePlan { segments, loaded, end, sections, ..FilePlan::unchanged(image) }
     }
-}
-
-/// Lets the first PT_LOAD begin with the headers.
-fn put_headers_in(entry: &Entry<'_>, segment: &mut Segment) -> Result<(), NotWritten> {
-    let start = if entry.wanted.has_file_header { 0 } else { ELF_HEADER };
-    let more = segment.offset.wrapping_sub(start);
-    if entry.parts.is_empty() || segment.address < more || segment.load < more {
-        return Err(NotWritten::NoRoom(entry.wanted.name.clone()));
-    }
-    segment.offset = start;
-    segment.address -= more;
-    segment.load -= more;
-    segment.file_size += more;
-    segment.memory_size += more;
-    Ok(())
 }

@@ -1,5 +1,6 @@
 //! Sections that GNU ld makes writable or executable, or not, where the image of `ldi` has it otherwise: `.text` of
-//! writable input sections, sections of data commands alone. What is loaded stays as it is, with other rights.
+//! writable input sections, sections of data commands alone. What is loaded stays as it is, with other rights. And the
+//! types of notes and tables of functions, by which other programs find them; to `ldi` all sections with bytes are data.
 
 use std::collections::HashMap;
 
@@ -11,12 +12,16 @@ use super::image::{Image, NotAnImage, Section, Segment, ELF_HEADER, PROGRAM_HEAD
 const RIGHTS: [(u32, u32); 2] = [(elf::SHF_WRITE, elf::PF_W), (elf::SHF_EXECINSTR, elf::PF_X)];
 const MASK: u64 = (elf::SHF_WRITE | elf::SHF_EXECINSTR) as u64;
 /// Where sh_flags stands in a section header, p_flags in a program header, and e_shoff in the header of the file.
+const KIND_OF_SECTION: u64 = 4;
 const FLAGS_OF_SECTION: u64 = 8;
 const FLAGS_OF_SEGMENT: u64 = 4;
 const SECTION_HEADER: u64 = 64;
 const SECTIONS_AT: usize = 40;
 
-/// The rights that the output section of a place is to have.
+/// The types that are written in place of SHT_PROGBITS.
+const KINDS: [u32; 4] = [elf::SHT_NOTE, elf::SHT_INIT_ARRAY, elf::SHT_FINI_ARRAY, elf::SHT_PREINIT_ARRAY];
+
+/// The rights that the output section of a place is to have, and its type.
 #[derive(Clone, Copy, PartialEq, Eq, Debug)]
 pub struct Rights {
     /// Its address.
@@ -25,9 +30,12 @@ pub struct Rights {
     pub size: u64,
     /// SHF_WRITE and SHF_EXECINSTR, of `sh_flags`; other bits are not looked at.
     pub flags: u64,
+    /// `sh_type`, of notes and tables of functions.
+    pub kind: u32,
 }
 
-/// Writes the rights of sections into their headers, and into those of the segments that have such a section.
+/// Writes the rights and types of sections into their headers, and rights into those of the segments that have such a
+/// section.
 pub(super) fn write(data: &mut [u8], wanted: &[Rights]) -> Result<(), NotAnImage> {
     for (at, bytes) in changes(data, wanted)? {
         let place = usize::try_from(at).ok().and_then(|at| data.get_mut(at..at.checked_add(bytes.len())?));
@@ -40,19 +48,22 @@ pub(super) fn write(data: &mut [u8], wanted: &[Rights]) -> Result<(), NotAnImage
 
 /// The bytes that become others, with their places in the file.
 fn changes(data: &[u8], wanted: &[Rights]) -> Result<Vec<(u64, Vec<u8>)>, NotAnImage> {
-    let wanted: HashMap<(u64, u64), u64> = wanted.iter().map(|one| ((one.address, one.size), one.flags)).collect();
+    let wanted: HashMap<(u64, u64), &Rights> = wanted.iter().map(|one| ((one.address, one.size), one)).collect();
     let mut image = Image::read(data)?;
     let headers_at = data.get(SECTIONS_AT..SECTIONS_AT + 8).and_then(|bytes| bytes.try_into().ok());
     let headers_at = headers_at.map_or(0, u64::from_le_bytes);
     let (mut found, mut changed) = (Vec::new(), Vec::new());
     for (number, section) in image.sections.iter_mut().enumerate().filter(|(_, one)| one.is_allocated()) {
         let own = wanted.get(&(section.address, section.size));
-        let flags = own.map_or(section.flags, |own| section.flags & !MASK | own & MASK);
+        let flags = own.map_or(section.flags, |own| section.flags & !MASK | own.flags & MASK);
+        let header = headers_at.wrapping_add(SECTION_HEADER * number as u64);
         if flags != section.flags {
             section.flags = flags;
-            let at = headers_at.wrapping_add(SECTION_HEADER * number as u64).wrapping_add(FLAGS_OF_SECTION);
-            found.push((at, flags.to_le_bytes().to_vec()));
+            found.push((header.wrapping_add(FLAGS_OF_SECTION), flags.to_le_bytes().to_vec()));
             changed.push(number);
+        }
+        if let Some(own) = own.filter(|own| section.kind == elf::SHT_PROGBITS && KINDS.contains(&own.kind)) {
+            found.push((header.wrapping_add(KIND_OF_SECTION), own.kind.to_le_bytes().to_vec()));
         }
     }
     let is_changed = |segment: &Segment| {

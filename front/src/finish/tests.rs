@@ -2,6 +2,7 @@
 
 use super::image::{Image, Section, Segment};
 use super::*;
+use object::elf;
 
 /// A section of an image that is made: name, flags, address, load address, bytes (`None` without file bytes), size.
 #[derive(Clone, Copy)]
@@ -109,7 +110,7 @@ fn wanted(name: &str, kind: u32, sections: &[&str]) -> WantedSegment {
 #[test]
 fn an_image_without_a_form_stays() {
     let data = text_and_data();
-    let done = finish(data.clone(), &Form::default()).unwrap();
+    let done = finish(data.clone(), &Form::default(), None, Vec::new()).unwrap();
     assert!(done.notes.is_empty());
     assert_eq!(done.file.into_vec(), data);
 }
@@ -117,7 +118,7 @@ fn an_image_without_a_form_stays() {
 #[test]
 fn segments_are_aligned_to_larger_pages() {
     let form = Form { page: 0x20_0000, ..Form::default() };
-    let file = finish(text_and_data(), &form).unwrap().file.to_vec();
+    let file = finish(text_and_data(), &form, None, Vec::new()).unwrap().file.to_vec();
     let image = Image::read(&file).unwrap();
     for segment in &image.segments {
         assert_eq!(segment.align, 0x20_0000);
@@ -132,7 +133,7 @@ fn segments_are_aligned_to_larger_pages() {
 fn segments_too_far_apart_are_refused() {
     let form = Form { page: 1 << 40, ..Form::default() };
     let descending = image(&[Made(".a", 4, 0x2000, 0, Some(b"a"), 1), Made(".b", 4, 0x1000, 0, Some(b"b"), 1)]);
-    assert!(matches!(finish(descending, &form), Err(FinishError::TooFar(_))));
+    assert!(matches!(finish(descending, &form, None, Vec::new()), Err(FinishError::TooFar(_))));
 }
 
 #[test]
@@ -142,7 +143,7 @@ fn program_headers_are_those_of_phdrs() {
         segments: Some(vec![all, wanted("data", 1, &[".data", ".bss"]), wanted("note", 4, &[])]),
         ..Form::default()
     };
-    let done = finish(text_and_data(), &form).unwrap();
+    let done = finish(text_and_data(), &form, None, Vec::new()).unwrap();
     assert!(done.notes.is_empty());
     let file = done.file.to_vec();
     let image = Image::read(&file).unwrap();
@@ -157,7 +158,7 @@ fn the_first_load_may_have_the_headers() {
     let first = WantedSegment { has_file_header: true, has_program_headers: true, ..wanted("text", 1, &[".text"]) };
     let table = WantedSegment { has_program_headers: true, ..wanted("headers", 6, &[]) };
     let form = Form { segments: Some(vec![table, first, wanted("data", 1, &[".data", ".bss"])]), ..Form::default() };
-    let file = finish(text_and_data(), &form).unwrap().file.to_vec();
+    let file = finish(text_and_data(), &form, None, Vec::new()).unwrap().file.to_vec();
     let segments = Image::read(&file).unwrap().segments;
     assert_eq!((segments[1].offset, segments[1].address, segments[1].file_size), (0, 0x400000, 0x1004));
     assert_eq!((segments[0].offset, segments[0].address, segments[0].file_size), (64, 0x400040, 3 * 56));
@@ -166,14 +167,14 @@ fn the_first_load_may_have_the_headers() {
 #[test]
 fn a_section_in_no_segment_is_said() {
     let form = Form { segments: Some(vec![wanted("text", 1, &[".text"])]), ..Form::default() };
-    let notes = finish(text_and_data(), &form).unwrap().notes;
+    let notes = finish(text_and_data(), &form, None, Vec::new()).unwrap().notes;
     assert_eq!(notes, [FinishNote::Outside(".data".into()), FinishNote::Outside(".bss".into())]);
 }
 
 #[test]
 fn program_headers_that_cannot_be_are_said() {
     let twice = vec![wanted("a", 1, &[".text"]), wanted("b", 1, &[".text"])];
-    let done = finish(text_and_data(), &Form { segments: Some(twice), ..Form::default() }).unwrap();
+    let done = finish(text_and_data(), &Form { segments: Some(twice), ..Form::default() }, None, Vec::new()).unwrap();
     assert_eq!(
         done.notes[0].to_string(),
         "PHDRS: .text is in a and in b, both PT_LOAD: segments follow addresses, sizes \
@@ -181,10 +182,10 @@ fn program_headers_that_cannot_be_are_said() {
     );
     assert_eq!(done.file.to_vec(), text_and_data());
     let late = vec![wanted("a", 1, &[".text"]), WantedSegment { has_file_header: true, ..wanted("b", 1, &[".data"]) }];
-    let done = finish(text_and_data(), &Form { segments: Some(late), ..Form::default() }).unwrap();
+    let done = finish(text_and_data(), &Form { segments: Some(late), ..Form::default() }, None, Vec::new()).unwrap();
     assert!(matches!(done.notes[0], FinishNote::NotWritten(NotWritten::LateHeaders(_))));
     let unknown = Form { segments: Some(vec![]), segments_problem: Some("why".into()), ..Form::default() };
-    let note = finish(text_and_data(), &unknown).unwrap().notes.remove(0);
+    let note = finish(text_and_data(), &unknown, None, Vec::new()).unwrap().notes.remove(0);
     assert_eq!(note, FinishNote::NotWritten(NotWritten::Unknown("why".into())));
 }
 
@@ -192,7 +193,7 @@ fn program_headers_that_cannot_be_are_said() {
 fn sections_get_their_names() {
     let form =
         Form { names: vec![(".data".into(), ".text".into()), (".bss".into(), ".b+s".into())], ..Form::default() };
-    let file = finish(text_and_data(), &form).unwrap().file.to_vec();
+    let file = finish(text_and_data(), &form, None, Vec::new()).unwrap().file.to_vec();
     let image = Image::read(&file).unwrap();
     let names: Vec<&bstr::BStr> = image.sections.iter().map(|one| image.name(one).unwrap()).collect();
     assert_eq!(names, ["", ".text", ".text", ".b+s", ".shstrtab"]);
@@ -204,9 +205,9 @@ fn sections_have_the_rights_of_gnu_ld() {
     let text = Made(".text", 5, 0x1000, 0x1000, Some(b"abcd"), 4);
     let data = Made(".data", 0, 0x2000, 0x2000, Some(b"efgh"), 4);
     let rights = |flags: [u64; 2]| {
-        let of = |address, flags| Rights { address, size: 4, flags };
+        let of = |address, flags| Rights { address, size: 4, flags, kind: 1 };
         let form = Form { rights: vec![of(0x1000, flags[0]), of(0x2000, flags[1])], ..Form::default() };
-        let file = finish(image(&[text, data]), &form).unwrap().file.into_vec();
+        let file = finish(image(&[text, data]), &form, None, Vec::new()).unwrap().file.into_vec();
         let image = Image::read(&file).unwrap();
         let sections: Vec<u64> = image.sections.iter().filter(|one| one.size == 4).map(|one| one.flags).collect();
         (sections, image.segments.iter().map(|one| one.flags).collect::<Vec<u32>>())
@@ -215,15 +216,29 @@ fn sections_have_the_rights_of_gnu_ld() {
     assert_eq!(rights([6, 3]), (vec![6, 3], vec![5, 6]));
 }
 
+/// elf.c, `elf_fake_sections`: notes and tables of functions have types of their own.
+#[test]
+fn sections_have_the_types_of_gnu_ld() {
+    let note = Made(".n", 4, 0x1000, 0x1000, Some(b"abcd"), 4);
+    let kind = |kind| {
+        let own = Rights { address: 0x1000, size: 4, flags: 0, kind };
+        let form = Form { rights: vec![own], ..Form::default() };
+        let file = finish(image(&[note]), &form, None, Vec::new()).unwrap().file.into_vec();
+        let sections = Image::read(&file).unwrap().sections;
+        sections.iter().filter(|one| one.size == 4).map(|one| one.kind).collect::<Vec<u32>>()
+    };
+    assert_eq!((kind(elf::SHT_NOTE), kind(elf::SHT_NOBITS)), (vec![elf::SHT_NOTE], vec![elf::SHT_PROGBITS]));
+}
+
 #[test]
 fn a_flat_binary_has_the_bytes_by_their_load_addresses() {
     let form = Form { is_flat: true, ..Form::default() };
-    let flat = finish(text_and_data(), &form).unwrap().file.into_vec();
+    let flat = finish(text_and_data(), &form, None, Vec::new()).unwrap().file.into_vec();
     assert_eq!(flat.len(), 0x1004);
     assert_eq!((&flat[..4], &flat[0x1000..]), (&b"code"[..], &b"data"[..]));
     let far = image(&[Made(".a", 4, 0, 0, Some(b"a"), 1), Made(".b", 4, 1 << 40, 1 << 40, Some(b"b"), 1)]);
-    assert!(matches!(finish(far, &form), Err(FinishError::NoFlatImage(_))));
-    assert!(finish(image(&[]), &form).unwrap().file.is_empty());
+    assert!(matches!(finish(far, &form, None, Vec::new()), Err(FinishError::NoFlatImage(_))));
+    assert!(finish(image(&[]), &form, None, Vec::new()).unwrap().file.is_empty());
 }
 
 #[test]
@@ -258,12 +273,12 @@ fn no_bytes_make_it_panic() {
         Form { segments: Some(vec![wanted("a", 1, &[".text", ".data", ".bss"])]), ..Form::default() },
     ] {
         for length in 0..data.len().min(900) {
-            let _ = finish(data[..length].to_vec(), &form);
+            let _ = finish(data[..length].to_vec(), &form, None, Vec::new());
         }
         for at in 0..data.len() {
             let mut torn = data.clone();
             torn[at] = 0xFF;
-            let _ = finish(torn, &form);
+            let _ = finish(torn, &form, None, Vec::new());
         }
     }
 }

@@ -9,7 +9,7 @@ use bstr::{BStr, BString, ByteSlice};
 
 use super::objects::{member_path, placed_objects, Objects, Placed};
 use crate::objects::{Elf, SectionFlags};
-use crate::report::link_map::LinkMap;
+use crate::report::link_map::{LinkMap, Piece};
 use crate::snapshot::Bytes;
 
 /// Where sections are put that are not in the image: an address that no x86-64 has, so that gdb sets nothing there.
@@ -61,8 +61,11 @@ impl Script {
     fn load(&mut self, path: &[u8], placed: &Placed<'_>, data: Bytes) {
         self.text.extend_from_slice(b"add-symbol-file ");
         self.text.extend_from_slice(&quoted(path));
-        let inside = placed.pieces.iter().map(|piece| (piece.section.clone(), piece.address));
-        for (name, address) in inside.chain(left_out(placed, data)) {
+        let elf = Elf::parse(data).ok();
+        let is_whole = |piece: &&&Piece| elf.as_ref().map_or(true, |elf| !is_merged(elf, piece));
+        let pieces: Vec<&Piece> = placed.pieces.iter().filter(is_whole).copied().collect();
+        let inside = pieces.iter().map(|piece| (piece.section.clone(), piece.address));
+        for (name, address) in inside.chain(left_out(&pieces, elf.as_ref())) {
             self.text.extend_from_slice(b" -s ");
             self.text.extend_from_slice(&quoted(&name));
             let mut text = String::new();
@@ -85,13 +88,20 @@ fn quoted(word: &[u8]) -> Vec<u8> {
     std::iter::once(b'"').chain(escaped).chain(std::iter::once(b'"')).collect()
 }
 
+/// Whether a piece is what `ld.ldi` has left of strings or constants, so that what is at a place of the section is elsewhere.
+fn is_merged(elf: &Elf, piece: &Piece) -> bool {
+    let mut own = elf.sections().filter(|section| section.name == piece.section).peekable();
+    own.peek().map_or(false, |first| first.flags.has(SectionFlags::MERGE))
+        && own.all(|section| section.size != piece.size)
+}
+
 /// The sections of an object that are not in the image, each at an address of its own where nothing is.
-fn left_out(placed: &Placed<'_>, data: Bytes) -> Vec<(BString, u64)> {
-    let elf = match Elf::parse(data) {
-        Ok(elf) => elf,
-        Err(_) => return Vec::new(),
+fn left_out(pieces: &[&Piece], elf: Option<&Elf>) -> Vec<(BString, u64)> {
+    let elf = match elf {
+        Some(elf) => elf,
+        None => return Vec::new(),
     };
-    let mut inside: Vec<(&BStr, u64)> = placed.pieces.iter().map(|it| (it.section.as_bstr(), it.size)).collect();
+    let mut inside: Vec<(&BStr, u64)> = pieces.iter().map(|it| (it.section.as_bstr(), it.size)).collect();
     inside.sort_unstable();
     let mut taken = vec![false; inside.len()];
     let mut address = NOWHERE;
@@ -115,6 +125,19 @@ fn left_out(placed: &Placed<'_>, data: Bytes) -> Vec<(BString, u64)> {
 #[cfg(test)]
 mod tests {
     use super::*;
+    use crate::objects::tests::{object, WrittenSection};
+
+    /// docs/makefiles.md, 'What it does': strings are merged.
+    #[test]
+    fn a_piece_of_another_size_is_merged() {
+        let flags = (SectionFlags::ALLOC.0 | SectionFlags::MERGE.0, SectionFlags::ALLOC.0);
+        let sections = [(".rodata.str", flags.0, &b"text\0"[..]), (".rodata", flags.1, b"1234")];
+        let sections = sections.map(|(name, flags, data)| WrittenSection { name, kind: 1, flags, data });
+        let elf = Elf::parse(object(&sections, &[], &[]).into()).unwrap();
+        let piece = |section: &str, size| Piece { address: 0, size, object: "a.o".into(), section: section.into() };
+        let found = [(".rodata.str", 5), (".rodata.str", 3), (".rodata", 3), (".other", 3)];
+        assert_eq!(found.map(|(name, size)| is_merged(&elf, &piece(name, size))), [false, true, false, false]);
+    }
 
     #[test]
     fn words_of_gdb() {

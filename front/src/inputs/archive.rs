@@ -149,6 +149,12 @@ impl Archive {
         self.is_thin
     }
 
+    /// Whether both are thin and list the same members, in the same order and with the same symbol table: then they are the
+    /// same input, whose members are files of their own.
+    pub fn lists_the_same(&self, other: &Archive) -> bool {
+        self.is_thin && other.is_thin && self.members == other.members && self.symbols == other.symbols
+    }
+
     /// The members in their order.
     pub fn members(&self) -> &[Member] {
         &self.members

@@ -2,11 +2,13 @@
 
 use super::archive::{normalized, shown, Archive, MemberIndex};
 use super::names::{NameState, Names};
+use super::once::OnceLinked;
 use super::script_inputs::{ScriptInput, ScriptInputs};
 use super::undefined::UndefinedNames;
 use super::{InputFault, Loaded, Request};
 use crate::command::{at_sysroot, path_of, Command, Format, Input, InputFlags};
-use crate::objects::{binary_object, session_name, Binding, Home, Object, Origin, SectionIndex, SymbolKind};
+use crate::objects::{binary_object, session_name, Binding, Home, Object, OnceKey, Origin, SectionIndex, SymbolKind};
+use crate::objects::{just_symbols, with_wraps};
 use crate::script::tree::InputFile;
 use crate::script::Reader;
 use crate::snapshot::{Bytes, ReadFault, Snapshot};
@@ -70,6 +72,12 @@ impl KnownObjects {
     pub(super) fn put(&mut self, data: Bytes, object: Object) {
         self.0.insert(KnownObjects::key(&data), (data, object));
     }
+
+    /// The same for an object in the place of another of its name, which is let go.
+    pub(super) fn replace(&mut self, data: Bytes, object: Object) {
+        self.0.retain(|_, (_, old)| old.name() != object.name());
+        self.put(data, object);
+    }
 }
 
 /// Takes the inputs in their order.
@@ -87,6 +95,7 @@ pub(super) struct Loader<'a> {
     /// What is known of names before the first object.
     first_names: Names,
     has_commons: bool,
+    once: OnceLinked,
     /// Made where there are common blocks.
     undefined: Option<UndefinedNames>,
     entered: usize,
@@ -129,6 +138,7 @@ impl<'a> Loader<'a> {
             renamed: IndexMap::new(),
             first_names: names.clone(),
             has_commons: false,
+            once: OnceLinked::default(),
             undefined: None,
             names,
             entered: 0,
@@ -172,6 +182,12 @@ impl<'a> Loader<'a> {
             }
         }
         self.enter();
+        if let Some(key) = self.once.mixed() {
+            let text = match key {
+                OnceKey::Group(name) | OnceKey::Section(name) => name,
+            };
+            return Err(InputFault::OfOtherLinkers(format!("{text}: beside a group of sections of the same name")));
+        }
         Ok(self.loaded())
     }
 
@@ -189,6 +205,8 @@ impl<'a> Loader<'a> {
             known: self.known,
             archives: archives.into_iter().collect(),
             choosing: scanned.into_iter().flatten().collect(),
+            once: self.once,
+            wraps: self.command.wraps.clone(),
         }
     }
 
@@ -306,12 +324,20 @@ impl<'a> Loader<'a> {
 
     /// Takes a file by what it is; gives the archives among it, which a group goes through again.
     fn file(&mut self, path: &Path, flags: InputFlags) -> Result<Vec<ArchiveIndex>, InputFault> {
+        // A folder of `-R` is one of the dynamic linker.
+        if flags.format == Format::JustSymbols && path.is_dir() {
+            return Ok(Vec::new());
+        }
         if let Some(index) = self.archives.get_index_of(path) {
             return self.archive(ArchiveIndex(index), flags);
         }
         let data = self.snapshot.read(path).map_err(|fault| cannot_read(path, &fault))?;
         self.files.push(path.to_owned());
-        if flags.format == Format::Binary {
+        if flags.format == Format::JustSymbols {
+            let object = just_symbols(&data)
+                .ok_or_else(|| InputFault::OfOtherLinkers(format!("-R {}: no ELF file of x86-64", shown(path))))?;
+            self.object(Origin::of_file(path), object, &[])?;
+        } else if flags.format == Format::Binary {
             let object = binary_object(shown(path), &data);
             self.object(Origin::of_file(path), object, &[BINARY_SECTION])?;
         } else if Archive::is_one(&data) {
@@ -429,7 +455,7 @@ impl<'a> Loader<'a> {
                 continue;
             }
             let is_needed = match self.names.state(name.as_bstr()) {
-                Some(NameState::Undefined) => true,
+                Some(NameState::Undefined) => !self.once.is_dropped(name.as_bstr()),
                 Some(NameState::Common) => self.defines_data(archive, name.as_bstr(), *offset)?,
                 state => {
                     *is_done = matches!(state, Some(NameState::Weak | NameState::Defined));
@@ -525,15 +551,26 @@ impl<'a> Loader<'a> {
         let known = self.before.and_then(|before| before.known.get(&data));
         let object = match known {
             Some(known) => known.clone().renamed(name, origin),
-            None => Object::new(name, origin, data.clone()),
+            None => Object::new(name, origin, with_wraps(data.clone(), &self.command.wraps)),
         };
         if let Some(fault) = object.fault().filter(|fault| fault.is_of_other_linkers()) {
             return Err(InputFault::OfOtherLinkers(format!("{full_name}: {fault}")));
         }
         self.has_commons |= object.has_commons();
         self.known.put(data, object.clone());
-        self.objects.push(object.with_retained(retained));
+        let object = self.once.take(self.objects.len(), object);
+        self.objects.push(self.as_before(object).with_retained(retained));
         Ok(())
+    }
+
+    /// The object of before where it is the same with the same bytes, which need not be sent again then.
+    fn as_before(&self, object: Object) -> Object {
+        let before = self.before.filter(|_| object.has_groups());
+        let before = before.and_then(|before| before.objects.get(self.objects.len()));
+        match before.filter(|before| before.is_same(&object)) {
+            Some(before) => before.clone(),
+            None => object,
+        }
     }
 
     /// Goes through the names of the objects taken since the last time.

@@ -3,6 +3,7 @@
 mod archive;
 mod loader;
 mod names;
+mod once;
 mod replacing;
 mod script_inputs;
 #[cfg(test)]
@@ -19,6 +20,7 @@ use crate::snapshot::Snapshot;
 use bstr::{BStr, BString, ByteSlice};
 use indexmap::IndexMap;
 use loader::{KnownObjects, Loader};
+use once::OnceLinked;
 use std::collections::HashMap;
 use std::path::PathBuf;
 use std::sync::Arc;
@@ -67,6 +69,9 @@ pub struct Loaded {
     archives: HashMap<PathBuf, Arc<Archive>>,
     /// The symbol tables of the archives that were gone through.
     choosing: Vec<Arc<[(BString, u64)]>>,
+    once: OnceLinked,
+    /// `--wrap`
+    wraps: Vec<BString>,
 }
 
 /// Whether the words or the scripts name an input.

@@ -1,8 +1,8 @@
 //! What is known of names at a point of the command line, as GNU ld keeps it: what decides which members are taken.
 
 use crate::objects::{Binding, Home, NameFilter, Object, Symbol};
+use crate::quick::QuickMap;
 use bstr::{BStr, BString};
-use std::collections::HashMap;
 
 /// What is known of a name, or what an object has of it.
 #[derive(Clone, Copy, PartialEq, Eq, PartialOrd, Ord, Hash, Debug)]
@@ -47,7 +47,7 @@ impl NameState {
 /// 1,000.
 #[derive(Clone, Debug, Default)]
 pub struct Names {
-    known: HashMap<BString, Option<NameState>>,
+    known: QuickMap<BString, Option<NameState>>,
     filter: NameFilter,
     taken: Vec<Object>,
 }
@@ -55,7 +55,7 @@ pub struct Names {
 impl Names {
     /// From now on it is known what is known of these names.
     pub fn ask<'a>(&mut self, names: impl IntoIterator<Item = &'a BString>) {
-        let new: HashMap<BString, Option<NameState>> =
+        let new: QuickMap<BString, Option<NameState>> =
             names.into_iter().filter(|name| !self.known.contains_key(*name)).map(|name| (name.clone(), None)).collect();
         if new.is_empty() {
             return;

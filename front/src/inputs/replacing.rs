@@ -3,13 +3,30 @@
 use super::names::NameState;
 use super::{Archive, Loaded};
 use crate::command::Command;
-use crate::objects::Object;
+use crate::objects::{with_wraps, Object};
 use crate::snapshot::{Bytes, Snapshot};
 use bstr::BStr;
 use std::collections::HashMap;
 use std::path::{Path, PathBuf};
+use std::sync::Arc;
+
+/// An object that takes the place of another.
+struct Replaced {
+    place: usize,
+    /// The bytes of its file.
+    data: Bytes,
+    /// With all of its sections.
+    whole: Object,
+    /// As it is in this link.
+    new: Object,
+}
 
 impl Loaded {
+    /// An object with other bytes of its file.
+    pub fn object_of(&self, old: &Object, data: Bytes) -> Object {
+        Object::new(old.name().to_owned(), old.origin().clone(), with_wraps(data, &self.wraps))
+    }
+
     /// The places of the objects that a file is, where it is no archive.
     pub fn places_of(&self, path: &Path) -> &[usize] {
         self.plain.get(path).map_or(&[], Vec::as_slice)
@@ -26,30 +43,43 @@ impl Loaded {
     pub fn take_changed(&mut self, command: &Command, snapshot: &mut Snapshot, changed: &[PathBuf]) -> bool {
         let found: Option<Vec<_>> = changed.iter().map(|path| self.objects_of(command, snapshot, path)).collect();
         let is_same = found.is_some();
-        for (place, data, new) in found.into_iter().flatten().flatten() {
-            self.known.put(data, new.clone());
+        for Replaced { place, data, whole, new } in found.into_iter().flatten().flatten() {
+            self.known.replace(data, whole);
             self.names.replace(place, &new);
             self.objects.get_mut(place).into_iter().for_each(|old| *old = new.clone());
         }
         is_same
     }
 
-    /// The objects that a file is now, with their places and its bytes; `None` where the link would be another.
-    fn objects_of(
-        &self,
-        command: &Command,
-        snapshot: &mut Snapshot,
-        path: &Path,
-    ) -> Option<Vec<(usize, Bytes, Object)>> {
+    /// Takes a thin archive that was written anew and lists the members that it listed, as `ar` does after one of them was
+    /// made. Says whether the file is one; its members are files of their own.
+    pub fn take_list(&mut self, path: &Path, data: &Bytes) -> bool {
+        let is_read_once = self.files.iter().filter(|file| *file == path).count() == 1;
+        let old = match self.archives.get_mut(path).filter(|old| is_read_once && old.is_thin()) {
+            Some(old) => old,
+            None => return false,
+        };
+        match Archive::parse(path, data.clone()) {
+            Ok(new) if new.lists_the_same(old) => {
+                *old = Arc::new(new);
+                true
+            }
+            _ => false,
+        }
+    }
+
+    /// The objects that a file is now; `None` where the link would be another.
+    fn objects_of(&self, command: &Command, snapshot: &mut Snapshot, path: &Path) -> Option<Vec<Replaced>> {
         let places = self.plain.get(path)?;
         let data = snapshot.read(path).ok().filter(|data| !Archive::is_one(data))?;
         let objects = places.iter().map(|&place| {
             let old = self.objects.get(place)?;
-            let new = Object::new(old.name().to_owned(), old.origin().clone(), data.clone());
+            let whole = self.object_of(old, data.clone());
+            let new = self.in_its_place(place, whole.clone())?;
             let is_alike = new.fault() == old.fault() && new.retained() == old.retained();
             let chooses = |name: &&BStr| self.is_choosing(command, name);
             let is_same = is_alike && !differing(old, &new).iter().any(chooses);
-            is_same.then(|| (place, data.clone(), new))
+            is_same.then(|| Replaced { place, data: data.clone(), whole, new })
         });
         objects.collect()
     }

@@ -2,14 +2,14 @@
 
 use super::names::{NameState, Names};
 use crate::objects::Object;
+use crate::quick::QuickMap;
 use bstr::BString;
-use std::collections::HashMap;
 
 /// What is known of every name, and how many names were added to the list: an undefined name, or a common block of a name
 /// that was not known (bfd/linker.c, `bfd_link_add_undef`).
 #[derive(Debug)]
 pub(super) struct UndefinedNames {
-    states: HashMap<BString, NameState>,
+    states: QuickMap<BString, NameState>,
     /// By object: how many names were added up to it.
     counts: Vec<usize>,
 }

@@ -4,7 +4,7 @@
 //! retained. From these, sections are reached by relocations; code reaches its tables of exceptions by its entries of
 //! `.eh_frame`; a reference to `__start_NAME` reaches all sections NAME.
 
-use super::evaluation::{Base, Origin};
+use super::evaluation::{Base, InputSection, Origin};
 use super::flags::Flags;
 use super::ids::{NameId, SectionId};
 use super::link::Link;
@@ -244,18 +244,42 @@ impl<'a> Marked<'a> {
             }
         }
         for (number, section) in self.link.sections.iter().enumerate() {
-            let is_plain = || {
-                let object = self.objects.get(section.object.0 as usize);
-                let has_relocations = |number| object.map_or(false, |object| object.has_relocations(number));
-                !section.flags.has(Flags::ALLOC) && !section.number().map_or(false, has_relocations)
-            };
-            let is_special = section.flags.has(Flags::DEBUGGING) || is_plain();
+            let is_special = section.flags.has(Flags::DEBUGGING) || self.is_plain(section);
             let is_in_group = section.bits & u64::from(elf::SHF_GROUP) != 0;
             let is_linked = section.bits & u64::from(elf::SHF_LINK_ORDER) != 0;
             if has_kept.get(section.object.0 as usize) == Some(&true) && is_special && !is_in_group && !is_linked {
                 if let Some(is_marked) = self.is_marked.get_mut(number) {
                     *is_marked = true;
                 }
+            }
+        }
+        for (number, object) in self.objects.iter().enumerate() {
+            if has_kept.get(number) == Some(&true) && object.has_groups() {
+                self.mark_groups(ObjectIndex(number as u32), object);
+            }
+        }
+    }
+
+    /// Whether a section is neither loaded nor has relocations.
+    fn is_plain(&self, section: &InputSection) -> bool {
+        let object = self.objects.get(section.object.0 as usize);
+        let has_relocations = |number| object.map_or(false, |object| object.has_relocations(number));
+        !section.flags.has(Flags::ALLOC) && !section.number().map_or(false, has_relocations)
+    }
+
+    /// Groups of debug information alone, or of plain sections alone (`_bfd_elf_gc_mark_debug_special_section_group`).
+    fn mark_groups(&mut self, index: ObjectIndex, object: &Object) {
+        for group in object.sections().filter(|section| section.kind == SectionKind::GROUP) {
+            let words = object.contents(group.index).chunks_exact(4).skip(1);
+            let numbers = words.filter_map(|word| word.try_into().ok().map(u32::from_le_bytes));
+            let members: Vec<SectionId> =
+                numbers.filter_map(|number| self.rows.find(index, SectionIndex(number))).collect();
+            let sections = || members.iter().filter_map(|id| self.link.section(*id));
+            let is_debugging = sections().all(|section| section.flags.has(Flags::DEBUGGING));
+            if is_debugging || sections().all(|section| self.is_plain(section)) {
+                members.into_iter().for_each(|id| {
+                    self.is_marked.get_mut(id.index()).into_iter().for_each(|is_marked| *is_marked = true);
+                });
             }
         }
     }

@@ -3,6 +3,7 @@
 use super::evaluation::Base;
 use super::ids::SectionId;
 use super::link::Link;
+use super::name_table::table_order;
 use super::names::QuickMap;
 use super::rows::Rows;
 use super::settings::SortCommon;
@@ -126,126 +127,12 @@ fn sorted(mut blocks: Vec<(Vec<u8>, Block)>, sort: Option<SortCommon>) -> Vec<(V
     blocks
 }
 
-/// The names in the order of GNU ld's table of symbols, which depends on the order in which they were entered.
-fn table_order<'a>(link: &'a Link<'_>, objects: &'a [Object]) -> Vec<&'a [u8]> {
-    let of_script = link.program.symbols.named().map(|name| name.as_slice());
-    let of_objects = objects.iter().flat_map(|object| object.globals()).map(|symbol| symbol.name.as_ref());
-    let mut table = Table::default();
-    let mut seen: HashSet<&[u8], std::hash::BuildHasherDefault<super::names::QuickHasher>> = HashSet::default();
-    for name in of_script.chain(of_objects) {
-        if seen.insert(name) {
-            table.insert(name);
-        }
-    }
-    table.listed()
-}
-
-/// GNU ld's table of symbols (hash.c): chains, whose entries a larger table has in another order.
-struct Table<'a> {
-    names: Vec<(&'a [u8], u64)>,
-    next: Vec<Option<usize>>,
-    heads: Vec<Option<usize>>,
-}
-
-/// hash.c, `DEFAULT_SIZE`
-const BUCKETS: usize = 4051;
-/// hash.c, `higher_prime_number`, from the first that is greater than `BUCKETS`
-const SIZES: [usize; 12] =
-    [4093, 8191, 16381, 32749, 65521, 131_071, 262_139, 524_287, 1_048_573, 2_097_143, 4_194_301, 8_388_593];
-
-impl Default for Table<'_> {
-    fn default() -> Self {
-        Table { names: Vec::new(), next: Vec::new(), heads: vec![None; BUCKETS] }
-    }
-}
-
-impl<'a> Table<'a> {
-    fn insert(&mut self, name: &'a [u8]) {
-        let (id, hash) = (self.names.len(), hash_of(name));
-        self.names.push((name, hash));
-        self.next.push(None);
-        self.push_front(id, id, hash);
-        if self.names.len() > self.heads.len() * 3 / 4 {
-            if let Some(size) = SIZES.iter().find(|size| **size > self.heads.len()) {
-                self.grow(*size);
-            }
-        }
-    }
-
-    /// Puts a chain, from its first to its last entry, in front of its bucket.
-    fn push_front(&mut self, first: usize, last: usize, hash: u64) {
-        let bucket = (hash % self.heads.len() as u64) as usize;
-        if let (Some(next), Some(head)) = (self.next.get_mut(last), self.heads.get_mut(bucket)) {
-            *next = *head;
-            *head = Some(first);
-        }
-    }
-
-    fn next_of(&self, id: usize) -> Option<usize> {
-        self.next.get(id).copied().flatten()
-    }
-
-    fn hash(&self, id: usize) -> u64 {
-        self.names.get(id).map_or(0, |(_, hash)| *hash)
-    }
-
-    fn grow(&mut self, size: usize) {
-        let old = std::mem::replace(&mut self.heads, vec![None; size]);
-        for head in old {
-            let mut at = head;
-            while let Some(first) = at {
-                let hash = self.hash(first);
-                let mut last = first;
-                while let Some(next) = self.next_of(last).filter(|next| self.hash(*next) == hash) {
-                    last = next;
-                }
-                at = self.next_of(last);
-                self.push_front(first, last, hash);
-            }
-        }
-    }
-
-    fn listed(&self) -> Vec<&'a [u8]> {
-        let mut found = Vec::with_capacity(self.names.len());
-        for head in &self.heads {
-            let mut at = *head;
-            while let Some(id) = at {
-                found.extend(self.names.get(id).map(|(name, _)| *name));
-                at = self.next_of(id);
-            }
-        }
-        found
-    }
-}
-
-/// hash.c, `bfd_hash_hash`: the sum of a byte and its shift is of 32 bits.
-fn hash_of(name: &[u8]) -> u64 {
-    let mixed = |hash: u64, word: u32| {
-        let hash = hash.wrapping_add(u64::from(word.wrapping_add(word << 17)));
-        hash ^ (hash >> 2)
-    };
-    let hash = name.iter().fold(0, |hash, byte| mixed(hash, u32::from(*byte)));
-    mixed(hash, name.len() as u32)
-}
-
 #[cfg(test)]
 mod tests {
     use super::*;
 
     fn block(align: u64) -> Block {
         Block { owner: ObjectIndex(0), size: 1, align }
-    }
-
-    /// hash.c: a table lists its buckets, and of a bucket the last entry first; a larger one turns chains around.
-    #[test]
-    fn a_table_grows() {
-        let names: Vec<String> = (0..4000).map(|number| format!("name_{}", number)).collect();
-        let mut table = Table::default();
-        for name in &names {
-            table.insert(name.as_bytes());
-        }
-        assert_eq!(table.heads.len(), 8191);
-        assert_eq!(table.listed().len(), 4000);
     }
 
     /// ldlang.c, `lang_common`: greater alignments first, and those of more than 16 as one.

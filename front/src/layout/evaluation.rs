@@ -2,10 +2,12 @@
 
 use super::flags::Flags;
 use super::ids::{NameId, OutputId, RegionId, SectionId, StatementId, SymbolId};
+use super::merging::Merges;
 use super::names::{Names, QuickMap};
 use crate::objects::{ObjectIndex, SectionIndex};
 use crate::script::tree::{Name, Span};
 use bstr::{BStr, ByteSlice};
+use std::sync::Arc;
 
 /// What a value counts from.
 #[derive(Clone, Copy, PartialEq, Eq, Hash, Debug)]
@@ -42,6 +44,8 @@ pub struct Evaluation {
     pub outputs: Vec<OutputSection>,
     /// The output sections in their order, those of orphans among them.
     pub order: Vec<OutputId>,
+    /// The output sections that are made, as GNU ld lists them.
+    pub listed: Vec<OutputId>,
     /// The statements outside of output sections in their order; each output section is one.
     pub top: Vec<StatementId>,
     /// The input sections, by their index: in the order of objects and headers.
@@ -58,16 +62,31 @@ pub struct Evaluation {
     pub header_count: u64,
     /// Whether the script asks for SIZEOF_HEADERS.
     pub wants_headers: bool,
+    /// Where the headers of the file are in memory, if they are, and PHDRS do not say it.
+    pub headers: Option<HeaderPlace>,
     /// What is read-only after relocation: from DATA_SEGMENT_ALIGN to DATA_SEGMENT_RELRO_END.
     pub relro: Option<(u64, u64)>,
     /// The input sections that no statement takes and that are not empty, in the order in which they were placed.
     pub orphans: Vec<SectionId>,
+    /// What is merged.
+    pub merges: Arc<Merges>,
     /// The values that expressions had last, by their spans.
     pub values: QuickMap<Span, Value>,
     /// The statement of a span.
     pub by_span: QuickMap<Span, StatementId>,
     /// The symbol of a name.
     pub by_name: QuickMap<Name, SymbolId>,
+    /// The names that something has named before the objects were read, in that order, and those after.
+    pub named: (Vec<Name>, Vec<Name>),
+}
+
+/// Where the headers of the file are in memory (elf.c, `_bfd_elf_map_sections_to_segments`).
+#[derive(Clone, Copy, PartialEq, Eq, Debug)]
+pub enum HeaderPlace {
+    /// In the segment of the first section, in front of it.
+    WithFirst,
+    /// In a segment of their own, from this address on.
+    Apart(u64),
 }
 
 /// Where the program begins.
@@ -169,6 +188,8 @@ pub struct OutputSection {
     pub segments: Vec<Name>,
     /// The address in front of the colon is given.
     pub has_own_address: bool,
+    /// The section that takes its symbols, of one that is taken out of the image.
+    pub nearby: Option<OutputId>,
 }
 
 impl OutputSection {
@@ -332,6 +353,13 @@ pub struct Symbol {
     pub is_in_objects: bool,
     /// Whether it is HIDDEN.
     pub is_hidden: bool,
+    /// The output section that GNU ld's table of symbols has it in; `None` of an absolute one.
+    pub section: Option<OutputId>,
+    /// Whether the script hides it, by which it is local in the image.
+    pub is_local: bool,
+    /// The symbols that its assignments name alone: it takes the type of the last one, and the visibilities of all (elflink.c,
+    /// `_bfd_elf_copy_link_hash_symbol_type`).
+    pub likes: Vec<SymbolId>,
 }
 
 impl Evaluation {

@@ -98,6 +98,7 @@ impl Link<'_> {
     pub fn fold(&mut self, e: ExprId, at: Base, dot: u64) -> Result<Folded, Stop> {
         self.at = at;
         self.dot = dot;
+        self.is_from_address = false;
         self.depth = 0;
         self.load_depth = 0;
         self.fold_node(e)
@@ -134,7 +135,9 @@ impl Link<'_> {
             }
             Node::Conditional(test, yes, no) => {
                 let (test, yes, no) = (*test, *yes, *no);
+                let source = self.source;
                 let found = self.fold_node(test)?;
+                self.source = source;
                 match (found.is_valid, found.value) {
                     (false, _) => found,
                     (true, 0) => self.fold_node(no)?,
@@ -153,14 +156,17 @@ impl Link<'_> {
                 let (query, name) = (*query, *name);
                 self.fold_of_section(query, name, e)?
             }
-            Node::OfRegion(query, name) => self.fold_of_region(*query, name, e)?,
+            Node::OfRegion(query, name) => {
+                let (query, name) = (*query, name.clone());
+                self.fold_of_region(query, &name, e)?
+            }
             Node::Constant(name) => self.fold_constant(name, e)?,
             Node::Defined(symbol) => Folded::number(u64::from(self.is_defined(*symbol))),
             Node::Headers => self.fold_headers(),
             Node::Assert(condition, message) => {
                 let (condition, message) = (*condition, message.clone());
                 let found = self.fold_node(condition)?;
-                if self.phase == Phase::Final && found.value == 0 {
+                if self.phase == Phase::Final && found.value == 0 && self.settings.checks_assertions {
                     return refused(RefusedReason::Assertion(message), self.span(e));
                 }
                 found
@@ -182,13 +188,20 @@ impl Link<'_> {
     }
 
     /// An address, as counted from the section around (ldexp.c, `new_rel_from_abs`).
-    fn of_address(&self, address: u64) -> Folded {
+    fn of_address(&mut self, address: u64) -> Folded {
+        self.is_from_address = true;
         Folded::of(address.wrapping_sub(self.base_address(self.at)), self.at)
     }
 
     /// The value as an absolute one (ldexp.c, `make_abs`).
     pub fn absolute(&self, found: Folded) -> Folded {
         Folded { value: self.address(found), base: Base::Absolute, ..found }
+    }
+
+    /// The same, after which the expression has no address that counts from the section around.
+    fn made_absolute(&mut self, found: Folded) -> Folded {
+        self.is_from_address = false;
+        self.absolute(found)
     }
 
     /// The value as an address.
@@ -208,6 +221,7 @@ impl Link<'_> {
             None => return Ok(Folded::UNKNOWN),
             Some(symbol) => symbol,
         };
+        self.source = self.source.and(id);
         let is_defined = symbol.is_defined();
         if !is_defined {
             if phase == Phase::Final || phase != Phase::Mark && to_dot {
@@ -273,12 +287,12 @@ impl Link<'_> {
         }
     }
 
-    fn fold_of_region(&self, query: Query, name: &Name, e: ExprId) -> Result<Folded, Stop> {
+    fn fold_of_region(&mut self, query: Query, name: &Name, e: ExprId) -> Result<Folded, Stop> {
         let region = self.program.region_names.get(name).and_then(|id| self.region(*id));
-        match region {
+        match region.map(|region| (region.origin, region.length)) {
             None => refused(RefusedReason::UndefinedRegion(name.clone()), self.span(e)),
-            Some(region) if query == Query::Length => Ok(Folded::number(region.length)),
-            Some(region) => Ok(self.of_address(region.origin)),
+            Some((_, length)) if query == Query::Length => Ok(Folded::number(length)),
+            Some((origin, _)) => Ok(self.of_address(origin)),
         }
     }
 
@@ -313,7 +327,7 @@ impl Link<'_> {
                     let found = self.fold_node(load);
                     self.load_depth -= 1;
                     let found = found?;
-                    Ok(if found.is_valid { self.absolute(found) } else { found })
+                    Ok(if found.is_valid { self.made_absolute(found) } else { found })
                 }
             },
             Query::Sizeof => Ok(Folded::number(place.map_or(0, |place| match output.has_address {
@@ -349,9 +363,10 @@ impl Link<'_> {
             Unary::Align => self.of_address(align_up(self.dot, found.value)),
             Unary::Next => {
                 let align = self.address(found);
+                self.is_from_address = false;
                 Folded { value: align_up(self.dot, align), base: Base::Absolute, ..found }
             }
-            Unary::Absolute => self.absolute(found),
+            Unary::Absolute => self.made_absolute(found),
             Unary::Log2Ceil => Folded::number(log2_ceil(found.value)),
             Unary::SegmentEnd => self.segment_end(found),
         })
@@ -366,7 +381,7 @@ impl Link<'_> {
         }
         if left.base != found.base {
             if found.base != Base::Number && left.base != Base::Number {
-                found = self.absolute(found);
+                found = self.made_absolute(found);
                 left = self.absolute(left);
             } else if found.base == Base::Number {
                 std::mem::swap(&mut found.base, &mut left.base);

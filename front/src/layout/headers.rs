@@ -1,5 +1,6 @@
 //! How many program headers GNU ld's image has, for SIZEOF_HEADERS: guessed before the first layout, found after each.
 
+use super::evaluation::HeaderPlace;
 use super::flags::Flags;
 use super::ids::OutputId;
 use super::link::Link;
@@ -92,6 +93,15 @@ impl Link<'_> {
         count
     }
 
+    /// Where the headers of the file are in memory, if they are, and PHDRS do not say it.
+    pub fn header_place(&self) -> Option<HeaderPlace> {
+        match self.program.phdrs {
+            Some(_) => None,
+            None if !self.settings.paged => None,
+            None => place_of_headers(self, Loads::new(self).first?),
+        }
+    }
+
     /// How many program headers the image has (elf.c, `_bfd_elf_map_sections_to_segments`).
     pub fn found_headers(&self) -> u64 {
         if let Some(count) = self.program.phdrs {
@@ -159,20 +169,25 @@ impl<'a> Loads<'a> {
             _ => false,
         });
         let groups = self.groups.len() as u64 - u64::from(is_tbss_alone);
-        groups + u64::from(has_headers_alone(link, first))
+        let has_own = matches!(place_of_headers(link, first), Some(HeaderPlace::Apart(_)));
+        groups + u64::from(has_own)
     }
 }
 
-/// Whether the headers are in a segment of their own, in front of code.
-fn has_headers_alone(link: &Link<'_>, first: &Place) -> bool {
+/// Where the headers are in memory, if they are: in the segment of the first section, where there is room.
+fn place_of_headers(link: &Link<'_>, first: &Place) -> Option<HeaderPlace> {
     let settings = link.settings;
     let mask = settings.max_page.max(1) - 1;
     let count = link.headers.count.unwrap_or_else(|| link.guess_headers());
     let size = PROGRAM_HEADER.wrapping_mul(count).wrapping_add(ELF_HEADER);
     let has_room = link.headers.is_wanted || first.load & mask >= size & mask;
-    if !(settings.paged && has_room && settings.separate_code && first.flags.has(Flags::CODE)) {
-        return false;
+    if !has_room {
+        return None;
     }
+    if !(settings.paged && settings.separate_code && first.flags.has(Flags::CODE)) {
+        return Some(HeaderPlace::WithFirst);
+    }
+    // In a segment of their own, in front of code.
     let mut at = first.load.wrapping_sub(size) & !mask;
     let mut is_apart = true;
     if at.wrapping_add(size).wrapping_sub(1) & !mask == first.load & !mask {
@@ -181,7 +196,8 @@ fn has_headers_alone(link: &Link<'_>, first: &Place) -> bool {
             at = at.wrapping_sub(mask + 1);
         }
     }
-    is_apart && first.load >= at && first.load >= size
+    let is_apart = is_apart && first.load >= at && first.load >= size;
+    Some(if is_apart { HeaderPlace::Apart(at) } else { HeaderPlace::WithFirst })
 }
 
 /// Whether a section begins another segment than the one before.

@@ -21,9 +21,24 @@ impl Link<'_> {
             self.program.top.splice(at..at, moved);
             let at = beside.and_then(|beside| self.program.order.iter().position(|id| *id == beside));
             let at = at.map_or(0, |at| at + 1);
-            self.program.order.splice(at..at, outputs);
+            self.program.order.splice(at..at, outputs.iter().copied());
+            self.move_made(&outputs, beside);
         }
         Ok(())
+    }
+
+    /// Moves sections that are made in the list of those, behind the last one that is made up to another.
+    fn move_made(&mut self, moved: &[OutputId], beside: Option<OutputId>) {
+        let made = &self.program.made;
+        let own: Vec<OutputId> = moved.iter().copied().filter(|id| made.contains(id)).collect();
+        let limit = beside.and_then(|beside| self.program.order.iter().position(|id| *id == beside));
+        let until = limit.and_then(|limit| self.program.order.get(..=limit)).unwrap_or_default();
+        let before = until.iter().rev().copied().find(|id| made.contains(id) && !own.contains(id));
+        if let Some(before) = before {
+            self.program.made.retain(|id| !own.contains(id));
+            let at = self.program.made.iter().position(|id| *id == before).map_or(0, |at| at + 1);
+            self.program.made.splice(at..at, own);
+        }
     }
 
     fn next_insert(&self) -> Option<(usize, InsertPlace, Name, Option<Span>)> {

@@ -5,11 +5,15 @@ use super::expression::power_of;
 use super::fold::{DataSegment, Folded, Phase};
 use super::headers::Headers;
 use super::ids::{ExprId, NameId, OutputId, RegionId, SectionId, StatementId, SymbolId};
+use super::merging::Merges;
+use super::names::QuickMap;
 use super::program::{Output, Place, Program, Region, Step};
 use super::settings::Settings;
+use super::standing::{Source, Standing};
 use super::stop::{refused, RefusedReason, Stop};
 use super::symbols::SymbolState;
 use crate::script::tree::Name;
+use std::sync::Arc;
 
 /// The state.
 pub(crate) struct Link<'a> {
@@ -30,6 +34,12 @@ pub(crate) struct Link<'a> {
     pub to_dot: bool,
     /// The symbol of the assignment that is evaluated, while its value does not use itself.
     pub assigned: Option<SymbolId>,
+    /// Whether the expression has an address that counts from the section around (ldexp.c, `rel_from_abs`).
+    pub is_from_address: bool,
+    /// The symbols that the expression names (ldexp.c, `assign_src`).
+    pub source: Source,
+    /// How far a pass is among the output sections.
+    pub standing: Standing,
     /// Counts the sizing passes, but for the one that finds empty sections.
     pub sizing: u32,
     pub headers: Headers,
@@ -39,6 +49,10 @@ pub(crate) struct Link<'a> {
     pub orphans: Vec<SectionId>,
     /// `-z relro`, as long as there is anything that it is for.
     pub relro: bool,
+    /// The sections with SHF_LINK_ORDER, and those that they belong to.
+    pub linked: QuickMap<SectionId, SectionId>,
+    /// What is merged.
+    pub merges: Arc<Merges>,
 }
 
 impl<'a> Link<'a> {
@@ -57,11 +71,16 @@ impl<'a> Link<'a> {
             segment: DataSegment::default(),
             to_dot: false,
             assigned: None,
+            is_from_address: false,
+            source: Source::None,
+            standing: Standing::default(),
             sizing: 0,
             headers: Headers::new(settings.relro),
             bounds: Vec::new(),
             orphans: Vec::new(),
             relro: settings.relro,
+            linked: QuickMap::default(),
+            merges: Arc::default(),
         }
     }
 

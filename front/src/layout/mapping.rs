@@ -4,6 +4,7 @@
 use super::evaluation::{Fate, InputSection};
 use super::expression::Node;
 use super::flags::Flags;
+use super::glob;
 use super::ids::{ExprId, OutputId, SectionId, StatementId};
 use super::link::Link;
 use super::matching::Match;
@@ -108,6 +109,7 @@ impl Link<'_> {
         body.iter().filter_map(of).flatten().any(|one| {
             self.section(one.section)
                 .map_or(false, |section| section.fate == Fate::Open && !section.flags.has(Flags::READONLY))
+                && !self.is_unique(one.section)
         })
     }
 
@@ -135,6 +137,9 @@ impl Link<'_> {
         let mut taken = Vec::with_capacity(found.len());
         let (mut last, is_reversed) = (None, self.is_reversed(id));
         for one in found {
+            if self.is_unique(one.section) {
+                continue;
+            }
             let like = self.section(one.section).map(Alike::of);
             let is_in = if like.is_some() && like == last && !is_reversed {
                 self.add_alike(id, one.section)
@@ -155,6 +160,16 @@ impl Link<'_> {
             self.program.common = Some(id);
         }
         Ok(())
+    }
+
+    /// Whether statements take no section of its name, by `--unique=PATTERN` (ldlang.c, `unique_section_p`).
+    fn is_unique(&self, id: SectionId) -> bool {
+        let patterns = self.settings.unique.as_deref().unwrap_or_default();
+        if patterns.is_empty() {
+            return false;
+        }
+        let name = self.section(id).map(|section| self.program.names.get(section.name));
+        name.map_or(false, |name| patterns.iter().any(|pattern| glob::matches(pattern, name)))
     }
 
     /// Makes an input section one of an output section, whose flags and alignment follow, or leaves it out; gives whether
@@ -262,6 +277,7 @@ impl Link<'_> {
                 own_kind: 0,
                 entry_size: 0,
             });
+            self.program.made.push(id);
         }
         for e in [address, load].into_iter().flatten() {
             self.make_named(e)?;

@@ -21,7 +21,10 @@ mod insert;
 mod link;
 mod mapping;
 mod matching;
+mod merging;
+pub mod name_table;
 pub mod names;
+mod ordering;
 mod orphans;
 mod overlaps;
 mod passes;
@@ -33,8 +36,10 @@ pub mod settings;
 mod sizing;
 mod sorting;
 mod special;
+mod standing;
 pub mod stop;
 mod symbols;
+mod taker;
 #[cfg(test)]
 mod tests;
 mod unwinding;
@@ -42,13 +47,20 @@ mod values;
 
 pub use evaluation::Evaluation;
 pub use flags::Flags;
+pub use merging::Merges;
 pub use settings::Settings;
-pub use stop::{NotEvaluated, Refused, Stop};
+pub use stop::{NotEvaluated, Refused, RefusedReason, Stop};
+pub use taker::Taker;
 
 use crate::objects::{Object, ObjectIndex};
 use crate::script::tree::{Name, Script, Span};
+use bstr::{BStr, BString, ByteSlice};
+pub(crate) use expression::is_plain as gives_number;
+pub(crate) use glob::has_wildcard;
+use link::Link;
 use program::Program;
 use rows::Rows;
+use std::sync::Arc;
 
 /// What GNU ld makes of a script over objects.
 ///
@@ -73,6 +85,8 @@ pub struct Layout {
     program: Program,
     rows: Rows,
     settings: Settings,
+    /// What was merged of these objects before some of them changed.
+    merged: Option<Arc<Merges>>,
 }
 
 impl Layout {
@@ -83,7 +97,7 @@ impl Layout {
     pub fn new(script: &Script, objects: &[Object], settings: &Settings) -> Result<Layout, Stop> {
         let mut program = compile::compile(script)?;
         let rows = Rows::new(&program.takings, &mut program.names, objects, settings);
-        Ok(Layout { program, rows, settings: settings.clone() })
+        Ok(Layout { program, rows, settings: settings.clone(), merged: None })
     }
 
     /// Takes objects some of which changed; gives whether that is all: their sections have the names, types, flags and
@@ -92,11 +106,24 @@ impl Layout {
         self.rows.renew(&self.program.names, objects, changed)
     }
 
+    /// Takes what an evaluation merged, of which the next one uses what is the same.
+    pub fn remember(&mut self, merged: &Arc<Merges>) {
+        self.merged = Some(Arc::clone(merged));
+    }
+
+    /// Some of the names that script and objects have, in the order of GNU ld's table of symbols.
+    pub fn table_order(&self, objects: &[Object], is_wanted: &dyn Fn(&BStr) -> bool) -> Vec<BString> {
+        let mut link = Link::new(self.program.clone(), Vec::new(), &self.settings);
+        link.want_names();
+        let names = name_table::table_order(&link, objects).into_iter().map(|name| name.as_bstr());
+        names.filter(|name| is_wanted(name)).map(BString::from).collect()
+    }
+
     /// Goes through the passes.
     ///
     /// # Errors
     /// `Stop::Refused` where GNU ld makes no image, `Stop::NotEvaluated` where something is not evaluated.
     pub fn evaluate(&self, objects: &[Object]) -> Result<Evaluation, Stop> {
-        passes::run(self.program.clone(), &self.rows, objects, &self.settings)
+        passes::run(self.program.clone(), &self.rows, objects, &self.settings, self.merged.as_deref())
     }
 }

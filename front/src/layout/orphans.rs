@@ -148,21 +148,24 @@ impl Orphans {
         }
     }
 
-    /// Its flags; writable where another orphan of its name is.
+    /// Its flags with those of later orphans of its name; read-only where all of them are.
     fn flags_of(&self, link: &Link<'_>, id: SectionId, section: &InputSection) -> Flags {
         let row = self.left.get(section.name.index()).map_or(&[][..], Vec::as_slice);
         let later = row.get(row.partition_point(|other| *other <= id)..).unwrap_or_default();
-        let is_writable = later.iter().filter_map(|other| link.section(*other)).any(|other| {
+        let is_like = |other: &&InputSection| {
             other.fate == Fate::Open
-                && !other.flags.has(Flags::EXCLUDE | Flags::READONLY)
+                && !other.flags.has(Flags::EXCLUDE)
                 && !(other.flags ^ section.flags).has(Flags::LOAD | Flags::ALLOC)
                 && other.kind == section.kind
-        });
-        if is_writable {
-            section.flags.without(Flags::READONLY)
-        } else {
-            section.flags
-        }
+        };
+        let others = later.iter().filter_map(|other| link.section(*other)).filter(is_like);
+        others.fold(section.flags, |flags, other| {
+            let both = flags | other.flags;
+            match flags.has(Flags::READONLY) && other.flags.has(Flags::READONLY) {
+                true => both,
+                false => both.without(Flags::READONLY),
+            }
+        })
     }
 
     /// The output section after which one goes; `None`: in front of all.

@@ -7,6 +7,7 @@ use super::flags::Flags;
 use super::fold::Phase;
 use super::ids::{OutputId, RegionId};
 use super::link::Link;
+use super::merging::Merges;
 use super::orphans::Orphans;
 use super::program::{Output, OutputKind, Program, StepKind};
 use super::result::first_made;
@@ -18,7 +19,13 @@ use crate::objects::Object;
 use crate::script::tree::Name;
 
 /// Goes through all passes.
-pub(crate) fn run(program: Program, rows: &Rows, objects: &[Object], settings: &Settings) -> Result<Evaluation, Stop> {
+pub(crate) fn run(
+    program: Program,
+    rows: &Rows,
+    objects: &[Object],
+    settings: &Settings,
+    merged: Option<&Merges>,
+) -> Result<Evaluation, Stop> {
     for (name, span) in files_of(&program) {
         if !objects.iter().any(|object| object.origin().archive.is_none() && object.origin().name == name) {
             return not_evaluated(NotEvaluatedReason::OpensFile(name), Some(span));
@@ -46,8 +53,10 @@ pub(crate) fn run(program: Program, rows: &Rows, objects: &[Object], settings: &
     link.collect(objects, rows);
     link.set_addresses()?;
     link.map(rows, objects)?;
+    link.find_linked(objects, rows);
     link.insert_statements()?;
     Orphans::run(&mut link)?;
+    link.merge(objects, merged);
     link.set_text();
     link.propagate_loads();
     link.undo_bounds();
@@ -64,7 +73,7 @@ pub(crate) fn run(program: Program, rows: &Rows, objects: &[Object], settings: &
 
 impl Link<'_> {
     /// The names that are wanted from the start are undefined (ldlang.c, `lang_place_undefineds`).
-    fn want_names(&mut self) {
+    pub fn want_names(&mut self) {
         let entry = self.settings.entry.as_ref().or(self.program.entry.as_ref());
         let is_name = |name: &&Name| !name.first().map_or(true, u8::is_ascii_digit);
         let names: Vec<Name> = entry
@@ -126,7 +135,7 @@ impl Link<'_> {
                 .expressions
                 .iter()
                 .any(|expression| matches!(&expression.node, Node::SegmentStart(name, _) if name == segment));
-            if !is_used && matches!(segment.as_slice(), b"text" | b"data" | b"bss") {
+            if !is_used {
                 let mut name = Name::from(".");
                 name.extend_from_slice(segment);
                 starts.push((name, *address));

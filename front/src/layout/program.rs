@@ -223,6 +223,8 @@ pub(crate) struct Program {
     pub outputs: Vec<Output>,
     /// The output sections in their order.
     pub order: Vec<OutputId>,
+    /// The output sections that are made, in the order in which that was done.
+    pub made: Vec<OutputId>,
     pub outputs_of: QuickMap<NameId, Vec<OutputId>>,
     pub takings: Vec<Taking>,
     pub expressions: Expressions,

@@ -12,8 +12,9 @@ use super::names::QuickMap;
 use super::program::{Output, OutputKind, Place, Step, StepKind};
 use super::symbols::SymbolState;
 use super::values::width_of;
-use crate::script::tree::Name;
+use crate::script::tree::{Name, Provision};
 use object::elf;
+use std::collections::HashSet;
 
 /// GNU ld's entry where nothing says it (elf.em, `ENTRY`: the scripts of x86-64 say `_start`).
 const DEFAULT_ENTRY: &[u8] = b"start";
@@ -22,18 +23,25 @@ impl Link<'_> {
     /// The evaluation, after the last pass.
     pub fn result(mut self) -> Evaluation {
         let entry = self.entry();
+        let hidden = self.hidden_by_script();
+        let named = self.program.symbols.named();
+        let named = (named.0.into_iter().cloned().collect(), named.1.into_iter().cloned().collect());
         let mut found = Evaluation {
             statements: self.program.steps.iter().map(|step| self.statement(step)).collect(),
             outputs: self.outputs(),
             symbols: self.program.symbols.iter().map(|symbol| self.symbol_result(symbol)).collect(),
+            named,
             regions: self.program.regions.iter().map(region_result).collect(),
             order: self.program.order.clone(),
+            listed: self.listed(),
             top: self.program.top.clone(),
             entry,
             header_count: self.headers.count.unwrap_or_else(|| self.found_headers()),
             wants_headers: self.headers.is_wanted,
+            headers: self.header_place(),
             relro: self.headers.relro.filter(|_| self.headers.has_relro),
             orphans: std::mem::take(&mut self.orphans),
+            merges: std::mem::take(&mut self.merges),
             ..Evaluation::default()
         };
         for expression in self.program.expressions.iter() {
@@ -46,7 +54,8 @@ impl Link<'_> {
                 found.by_span.insert(span, StatementId::new(number));
             }
         }
-        for (number, symbol) in found.symbols.iter().enumerate() {
+        for (number, symbol) in found.symbols.iter_mut().enumerate() {
+            symbol.is_local = hidden.contains(&SymbolId::new(number));
             found.by_name.insert(symbol.name.clone(), SymbolId::new(number));
         }
         found.sections = self.sections;
@@ -106,7 +115,34 @@ impl Link<'_> {
             is_weak: symbol.kind == super::symbols::SymbolKind::DefinedWeak,
             is_in_objects: symbol.is_in_objects,
             is_hidden: symbol.is_hidden,
+            section: self.section_of(symbol),
+            is_local: false,
+            likes: if symbol.of_script { symbol.likes.clone() } else { Vec::new() },
         }
+    }
+
+    /// The output section that a symbol is in at the end (ldexp.c, `set_sym_sections`; linker.c, `fix_syms`).
+    fn section_of(&self, symbol: &SymbolState) -> Option<OutputId> {
+        let own = match (symbol.section.and_then(|section| self.section(section)), symbol.base) {
+            (Some(section), _) => section.output()?,
+            (None, Base::Output(output)) => output,
+            (None, _) => return symbol.final_section.filter(|_| symbol.is_defined() && symbol.of_script),
+        };
+        match self.place(own) {
+            Some(place) if place.is_gone => {
+                self.nearby(own, self.symbol_value(symbol).map_or(0, |value| value.address))
+            }
+            _ => Some(own),
+        }
+    }
+
+    /// The symbols that the script hides, wherever it gives them a value (ldelf.c, `ldelf_find_exp_assignment`).
+    fn hidden_by_script(&self) -> HashSet<SymbolId> {
+        let hidden = |step: &Step| match step.kind {
+            StepKind::Assign { target, provision: Provision::Hidden | Provision::ProvideHidden, .. } => target,
+            _ => None,
+        };
+        self.program.steps.iter().filter_map(hidden).collect()
     }
 
     fn statement(&self, step: &Step) -> Statement {
@@ -168,7 +204,9 @@ impl Link<'_> {
         let mut segments = self.segments();
         let with_segments = |(number, output): (usize, &Output)| {
             let own = segments.remove(&OutputId::new(number)).unwrap_or_default();
-            self.output_result(output, own)
+            let gone = output.place.as_ref().filter(|place| place.is_gone);
+            let nearby = gone.and_then(|place| self.nearby(OutputId::new(number), place.address));
+            OutputSection { nearby, ..self.output_result(output, own) }
         };
         self.program.outputs.iter().enumerate().map(with_segments).collect()
     }
@@ -208,6 +246,7 @@ impl Link<'_> {
             load_region: output.load_region,
             segments,
             has_own_address: output.address.is_some(),
+            nearby: None,
         }
     }
 

@@ -64,7 +64,7 @@ fn build_id_section(size: u64) -> Made {
     Made {
         name: b".note.gnu.build-id",
         kind: elf::SHT_NOTE,
-        flags: Flags::ALLOC | Flags::LOAD | Flags::CONTENTS | Flags::READONLY | Flags::DATA,
+        flags: Flags::ALLOC | Flags::LOAD | Flags::READONLY | Flags::DATA,
         size: size.wrapping_add(16),
         align: 4,
         origin: Origin::Linker,
@@ -89,7 +89,7 @@ impl Rows {
             rows.first.push(rows.sections.len());
             for section in linked(object) {
                 let name = names.enter(section.name);
-                rows.sections.push(of_object(id, &section, name));
+                rows.sections.push(of_object(id, object, &section, name));
             }
             if owners.contains(&id) {
                 rows.commons.insert(id, SectionId::new(rows.sections.len()));
@@ -158,7 +158,7 @@ impl Rows {
             };
             for (old, section) in own.iter_mut().zip(linked(object)) {
                 let new = match names.find(section.name) {
-                    Some(name) => of_object(*id, &section, name),
+                    Some(name) => of_object(*id, object, &section, name),
                     None => return false,
                 };
                 if new != (InputSection { size: new.size, ..old.clone() }) {
@@ -176,12 +176,14 @@ fn linked(object: &Object) -> impl Iterator<Item = Section<'_>> + '_ {
     object.sections().filter(|section| section.kind.is_linked())
 }
 
-fn of_object(object: ObjectIndex, section: &Section<'_>, name: NameId) -> InputSection {
+fn of_object(number: ObjectIndex, object: &Object, section: &Section<'_>, name: NameId) -> InputSection {
     let flags = Flags::of_section(section.name, section.kind.0, section.flags.0);
+    // ldelf.c, `ldelf_setup_build_id`: the note's section has no SEC_HAS_CONTENTS, by which an orphan finds its place.
+    let flags = if object.is_build_note() { flags.without(Flags::CONTENTS) } else { flags };
     let align = 1u64.checked_shl(section.align.trailing_zeros()).unwrap_or(1);
     let is_out = flags.has(Flags::EXCLUDE);
     InputSection {
-        object,
+        object: number,
         origin: Origin::Header(section.index),
         name,
         flags,

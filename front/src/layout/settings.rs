@@ -35,6 +35,8 @@ pub struct Settings {
     pub sort_section: Option<SectionSort>,
     /// Whether `--build-id` makes a section `.note.gnu.build-id`, and its bytes.
     pub build_id: Option<u64>,
+    /// `--emit-relocs`: an output section with input sections is in the image, though these are empty.
+    pub keeps_empty: bool,
     /// `--gc-sections`
     pub gc: Option<GcSettings>,
     /// `--no-define-common`, or INHIBIT_COMMON_ALLOCATION: common blocks get no place.
@@ -44,6 +46,11 @@ pub struct Settings {
     pub script_first: bool,
     /// `--no-check-sections` is not given: sections that overlap, and those without a region of MEMORY, are refused.
     pub checks_sections: bool,
+    /// Whether an ASSERT that does not hold is refused.
+    pub checks_assertions: bool,
+    /// Whether sections with SHF_MERGE are merged, as GNU ld does; the objects of the session must be those of
+    /// [`Evaluation::merges`](super::Evaluation::merges) then.
+    pub merges: bool,
 }
 
 impl Default for Settings {
@@ -64,10 +71,13 @@ impl Default for Settings {
             sort_common: None,
             sort_section: None,
             build_id: None,
+            keeps_empty: false,
             gc: None,
             inhibits_common: false,
             script_first: true,
             checks_sections: true,
+            checks_assertions: true,
+            merges: false,
         }
     }
 }

@@ -7,7 +7,7 @@ use super::expression::align_power;
 use super::flags::Flags;
 use super::fold::{Phase, RelroSeen, SegmentPhase};
 use super::headers::{is_tbss, room};
-use super::ids::{ExprId, OutputId, RegionId, StatementId};
+use super::ids::{ExprId, OutputId, RegionId, SectionId, StatementId};
 use super::link::Link;
 use super::program::{Constraint, FillBytes, OutputKind, Place, Shape, StepKind};
 use super::stop::{not_evaluated, refused, NotEvaluatedReason, RefusedReason, Stop};
@@ -45,12 +45,17 @@ impl Link<'_> {
         self.segment.phase = SegmentPhase::None;
         self.one_pass(false)?;
         self.reset();
+        let sections = &self.sections;
+        let is_there = |id: &SectionId| {
+            sections.get(id.index()).map_or(false, |one| !one.flags.has(Flags::EXCLUDE | Flags::CREATED))
+        };
         for output in &mut self.program.outputs {
             if output.constraint == Constraint::Unmet {
                 continue;
             }
             if let Some(place) = &mut output.place {
-                if place.last_size == 0 && !place.flags.has(Flags::KEEP) {
+                let is_kept = self.settings.keeps_empty && place.inputs.iter().any(is_there);
+                if place.last_size == 0 && !place.flags.has(Flags::KEEP) && !is_kept {
                     output.is_ignored |= !output.updates_dot;
                     place.is_gone = true;
                 }
@@ -126,13 +131,14 @@ impl Link<'_> {
     pub fn settle_headers(&mut self, checks: bool) -> Result<(), Stop> {
         let mut tries = TRIES;
         loop {
+            let is_reordered = self.order_linked();
             let count = self.found_headers();
             let known = self.headers.count;
             let is_again = known != Some(count) && (tries > 6 || known.map_or(true, |known| known < count));
             if is_again || known == Some(count) {
                 self.headers.count = Some(count);
             }
-            if !is_again {
+            if !is_again && !is_reordered {
                 return Ok(());
             }
             tries -= 1;

@@ -127,6 +127,26 @@ pub enum RefusedReason {
     Newer(Name),
 }
 
+impl RefusedReason {
+    /// Whether GNU ld refuses the script whatever the objects are.
+    pub fn is_of_script(&self) -> bool {
+        use RefusedReason::{
+            BothAligns, BothLoads, Newer, NoRegion, RegionAttribute, SectionType, UndefinedRegion, UnknownConstant,
+        };
+        matches!(
+            self,
+            BothAligns(_)
+                | BothLoads(_)
+                | Newer(_)
+                | NoRegion(_)
+                | RegionAttribute(_)
+                | SectionType(_)
+                | UndefinedRegion(_)
+                | UnknownConstant(_)
+        )
+    }
+}
+
 /// Why it is not known what GNU ld does.
 #[derive(Clone, PartialEq, Eq, Debug, Error)]
 #[error("{reason}")]

@@ -1,7 +1,7 @@
 //! The symbols of a layout: names that are not local, as far as something has named them.
 
 use super::evaluation::Base;
-use super::ids::{SectionId, StatementId, SymbolId};
+use super::ids::{OutputId, SectionId, StatementId, SymbolId};
 use super::names::QuickMap;
 use crate::script::tree::Name;
 use bstr::ByteSlice;
@@ -39,6 +39,10 @@ pub(crate) struct SymbolState {
     pub by_linker: bool,
     /// It is in a section that is not linked.
     pub is_unlinked: bool,
+    /// The output section that an address of the script becomes one of at the end.
+    pub final_section: Option<OutputId>,
+    /// The symbols that assignments name alone, the last one last.
+    pub likes: Vec<SymbolId>,
 }
 
 impl SymbolState {
@@ -58,10 +62,10 @@ impl SymbolState {
 pub(crate) struct Symbols {
     all: Vec<SymbolState>,
     ids: QuickMap<Name, SymbolId>,
-    /// Those that something has named before the objects were read, in the order in which it did.
+    /// Those that something has named, in the order in which it did.
     named: Vec<SymbolId>,
-    /// Whether the objects are read, and that order is complete.
-    is_read: bool,
+    /// How many of these were named before the objects were read.
+    before_objects: Option<usize>,
 }
 
 impl Symbols {
@@ -87,6 +91,8 @@ impl Symbols {
             is_hidden: false,
             by_linker: false,
             is_unlinked: false,
+            final_section: None,
+            likes: Vec::new(),
         });
         id
     }
@@ -111,21 +117,21 @@ impl Symbols {
         let symbol = self.all.get_mut(id.index())?;
         if !symbol.is_known {
             symbol.is_known = true;
-            if !self.is_read {
-                self.named.push(id);
-            }
+            self.named.push(id);
         }
         Some(symbol)
     }
 
     /// The objects are read now.
     pub fn objects_are_read(&mut self) {
-        self.is_read = true;
+        self.before_objects.get_or_insert(self.named.len());
     }
 
-    /// The names that something has named before the objects were read, in that order.
-    pub fn named(&self) -> impl Iterator<Item = &Name> {
-        self.named.iter().filter_map(|id| self.get(*id)).map(|symbol| &symbol.name)
+    /// The names that something has named before the objects were read, and those after, in that order.
+    pub fn named(&self) -> (Vec<&Name>, Vec<&Name>) {
+        let (before, after) = self.named.split_at(self.before_objects.unwrap_or(self.named.len()));
+        let names = |ids: &[SymbolId]| ids.iter().filter_map(|id| self.get(*id)).map(|symbol| &symbol.name).collect();
+        (names(before), names(after))
     }
 
     /// The symbols, by their indices.

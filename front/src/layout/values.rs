@@ -8,6 +8,7 @@ use super::headers::room;
 use super::ids::{ExprId, OutputId, StatementId, SymbolId};
 use super::link::Link;
 use super::program::StepKind;
+use super::standing::Source;
 use super::stop::{refused, RefusedReason, Stop};
 use super::symbols::SymbolKind;
 use crate::script::tree::{BinaryOperator, DataWidth, Name, Provision};
@@ -47,9 +48,11 @@ impl Link<'_> {
     pub fn values(&mut self, phase: Phase) -> Result<(), Stop> {
         self.phase = phase;
         self.pass += 1;
+        self.stand_at_beginning();
         let mut dot = 0;
         for id in self.program.top.clone() {
             self.set_dot(id, dot);
+            self.stand_before(id);
             match self.step(id).map(|step| step.kind.clone()) {
                 Some(StepKind::Output(output)) => dot = self.values_of(output, dot)?,
                 Some(StepKind::Assign { .. }) => dot = self.assign(id, Base::Absolute, dot)?,
@@ -78,8 +81,10 @@ impl Link<'_> {
         let address = self.place(id).map(|place| place.address);
         let at = address.map_or(Base::Nowhere, |_| Base::Output(id));
         let mut inside = address.unwrap_or(dot);
+        self.stand_in(id);
         for inner in self.body(id) {
             self.set_dot(inner, inside);
+            self.stand_before(inner);
             let (kind, size, gap) = match self.step(inner) {
                 None => continue,
                 Some(step) => (step.kind.clone(), step.size, step.gap),
@@ -133,7 +138,7 @@ impl Link<'_> {
     /// An ASSERT as a statement.
     fn check(&mut self, condition: ExprId, message: &Name, at: Base, dot: u64) -> Result<(), Stop> {
         let found = self.fold(condition, at, dot)?;
-        if self.phase == Phase::Final && found.value == 0 {
+        if self.phase == Phase::Final && found.value == 0 && self.settings.checks_assertions {
             let span = self.program.expressions.span(condition);
             return refused(RefusedReason::Assertion(message.clone()), span);
         }
@@ -158,6 +163,7 @@ impl Link<'_> {
             return Ok(dot);
         }
         self.assigned = Some(target);
+        self.source = Source::None;
         let found = self.fold(value, at, dot)?;
         if self.phase == Phase::Final || self.assigned.is_some() {
             if let (true, Some(step)) = (is_provide, self.step_mut(id)) {
@@ -172,6 +178,10 @@ impl Link<'_> {
 
     fn define(&mut self, id: StatementId, target: SymbolId, found: Folded, at: Base, is_hidden: bool) {
         let pass = self.pass;
+        let is_absolute = found.base == Base::Absolute || found.base == Base::Number && at == Base::Absolute;
+        let is_moved = self.phase == Phase::Final && self.is_from_address && is_absolute;
+        let section = if is_moved { self.section_for_dot(id) } else { None };
+        let like = self.source.one();
         let symbol = match self.program.symbols.know(target) {
             None => return,
             Some(symbol) => symbol,
@@ -195,6 +205,11 @@ impl Link<'_> {
         symbol.by_linker = false;
         symbol.is_unlinked = false;
         symbol.statement = Some(id);
+        symbol.final_section = section;
+        if let Some(like) = like {
+            symbol.likes.retain(|other| *other != like);
+            symbol.likes.push(like);
+        }
         symbol.is_hidden |= is_hidden;
         let assigned = (symbol.value, symbol.base);
         if let Some(step) = self.step_mut(id) {

@@ -56,7 +56,8 @@ fn is_in_order(state: &State, objects: &[Held]) -> bool {
     state.order.len() == objects.len() && state.order.iter().zip(objects).all(|(name, held)| *name == held.name)
 }
 
-/// The removals, then each object that is new or elsewhere put behind the one before it.
+/// The removals; then each object that is elsewhere, put behind the one before it; then those that are new, the last one
+/// first. So no place depends on whether the session takes a new object.
 fn arrange<'a>(state: &State, objects: &'a [Held], changes: &mut Vec<Change<'a>>) {
     let wanted: HashMap<&BString, usize> = objects.iter().enumerate().map(|(at, held)| (&held.name, at)).collect();
     let mut order = Vec::with_capacity(objects.len());
@@ -68,22 +69,25 @@ fn arrange<'a>(state: &State, objects: &'a [Held], changes: &mut Vec<Change<'a>>
     }
     let staying: HashSet<usize> = longest_ascending(&order).into_iter().collect();
     let there: HashSet<usize> = order.iter().copied().collect();
-    let mut before = None;
+    let (mut before, mut count) = (None, 0);
+    let mut new = Vec::new();
     for (index, held) in objects.iter().enumerate() {
-        let is_there = there.contains(&index);
-        if !is_there && is_refused(state, held) {
+        if !there.contains(&index) {
+            if !is_refused(state, held) {
+                new.push(Change::Add(held, count));
+            }
             continue;
         }
         if !staying.contains(&index) {
-            if is_there {
-                order.retain(|other| *other != index);
-            }
+            order.retain(|other| *other != index);
             let at = place_after(&order, before);
             order.insert(at, index);
-            changes.push(if is_there { Change::Move(held, at) } else { Change::Add(held, at) });
+            changes.push(Change::Move(held, at));
         }
         before = Some(index);
+        count += 1;
     }
+    changes.extend(new.into_iter().rev());
 }
 
 /// The place behind an object, or the first one.
@@ -127,8 +131,7 @@ pub(super) fn apply(state: &mut State, changes: &[Change<'_>], answers: &[Answer
             None => Some(&Answer::Refused(Refusal::TOO_LONG)),
         };
         match answer {
-            Some(Answer::Linked { is_good, length }) => {
-                state.last = Some((*is_good, *length));
+            Some(Answer::Accepted) => {
                 state.accepted += 1;
                 accept(state, change);
             }
@@ -195,7 +198,7 @@ mod tests {
     fn brings(from: &str, to: &str) -> usize {
         let (mut now, wanted) = (state(from), objects(to));
         let changes = between(&now, &wanted);
-        let answers = vec![Answer::Linked { is_good: true, length: 0 }; changes.len()];
+        let answers = vec![Answer::Accepted; changes.len()];
         apply(&mut now, &changes, &answers);
         assert_eq!(now.order, wanted.iter().map(|held| held.name.clone()).collect::<Vec<_>>(), "{from} to {to}");
         changes.len()
@@ -219,25 +222,98 @@ mod tests {
         wanted[1].data = Bytes::from(b"other".to_vec());
         let changes = between(&now, &wanted);
         assert_eq!(changes, [Change::Replace(&wanted[1])]);
-        apply(&mut now, &changes, &[Answer::Linked { is_good: false, length: 0 }]);
+        apply(&mut now, &changes, &[Answer::Accepted]);
         assert_eq!(between(&now, &wanted), []);
-        assert_eq!(now.last, Some((false, 0)));
+        assert_eq!(now.accepted, 1);
     }
 
     #[test]
     fn what_is_refused_is_not_sent_again() {
         let (mut now, wanted) = (state("a"), objects("a b c d"));
-        let good = Answer::Linked { is_good: true, length: 0 };
-        let refused = |number| Answer::Refused(Refusal { number, inner: 1 });
+        let good = Answer::Accepted;
         let changes = between(&now, &wanted);
-        assert_eq!(changes.len(), 3);
-        apply(&mut now, &changes, &[refused(4), refused(3), refused(3)]);
-        let changes = between(&now, &wanted);
-        assert_eq!(changes, [Change::Add(&wanted[2], 1), Change::Add(&wanted[3], 2)]);
-        apply(&mut now, &changes, &[good, good]);
+        assert_eq!(changes, [Change::Add(&wanted[3], 1), Change::Add(&wanted[2], 1), Change::Add(&wanted[1], 1)]);
+        apply(&mut now, &changes, &[good, good, Answer::Refused(Refusal { number: 4, inner: 1 })]);
         assert_eq!(between(&now, &wanted), []);
         let mut other = wanted;
         other[1].data = Bytes::from(b"good".to_vec());
         assert_eq!(between(&now, &other), [Change::Add(&other[1], 1)]);
+    }
+    #[test]
+    fn no_place_depends_on_what_is_refused() {
+        let (mut now, wanted) = (state("c g"), objects("a b c d e f g h"));
+        let changes = between(&now, &wanted);
+        let refused = |change: &Change<'_>| !matches!(change, Change::Add(held, _) if held.name == "e");
+        let answer = |change| match refused(change) {
+            true => Answer::Refused(Refusal { number: 4, inner: 1 }),
+            false => Answer::Accepted,
+        };
+        let places = |change: &Change<'_>| matches!(change, Change::Add(_, at) if *at <= 2);
+        assert!(changes.iter().all(places), "{changes:?}");
+        let answers: Vec<Answer> = changes.iter().map(answer).collect();
+        apply(&mut now, &changes, &answers);
+        assert_eq!(now.order, ["c", "e", "g"]);
+        assert_eq!((now.refused.len(), now.stuck.len()), (5, 0));
+        assert_eq!(between(&now, &wanted), []);
+    }
+    /// A session of nothing but names: what it would answer to the changes, and what it has then.
+    fn answered(order: &mut Vec<BString>, changes: &[Change<'_>], refuses: impl Fn(&BString) -> bool) -> Vec<Answer> {
+        let (good, refused) = (Answer::Accepted, |number| Refusal { number, inner: 1 });
+        let mut answers = Vec::new();
+        for change in changes {
+            let mut moved = order.clone();
+            let (held, at) = match change {
+                Change::Add(held, at) => (held, *at),
+                Change::Move(held, at) => {
+                    moved.retain(|name| *name != held.name);
+                    (held, *at)
+                }
+                Change::Replace(_) => unreachable!("the bytes are those of the name"),
+                Change::Remove(name) => {
+                    order.retain(|other| other != name);
+                    answers.push(good);
+                    continue;
+                }
+            };
+            answers.push(match (at > moved.len(), refuses(&held.name)) {
+                (true, _) => Answer::Refused(refused(3)),
+                (_, true) => Answer::Refused(refused(4)),
+                _ => {
+                    moved.insert(at, held.name.clone());
+                    *order = moved;
+                    good
+                }
+            });
+        }
+        answers
+    }
+
+    #[test]
+    fn random_orders_are_brought_at_once_whatever_is_refused() {
+        let mut seed = 7_u64;
+        let mut next = |below: u64| {
+            seed ^= seed << 13;
+            seed ^= seed >> 7;
+            seed ^= seed << 17;
+            seed % below
+        };
+        let mut now = State::default();
+        for _ in 0..400 {
+            let mut names: Vec<u64> = (0..12).filter(|_| next(3) > 0).collect();
+            names.sort_by_key(|_| next(100));
+            let bad = next(1 << 12) & next(1 << 12);
+            let text: Vec<String> = names.iter().map(|name| format!("o{name}")).collect();
+            let wanted = objects(&text.join(" "));
+            let refuses = |name: &BString| bad >> name[1..].to_str().unwrap().parse::<u64>().unwrap() & 1 == 1;
+            let mut order = now.order.clone();
+            let (changes, there) = (between(&now, &wanted), now.order.clone());
+            let answers = answered(&mut order, &changes, |name| refuses(name) && !there.contains(name));
+            apply(&mut now, &changes, &answers);
+            assert_eq!(now.order, order);
+            assert!(now.stuck.is_empty() && between(&now, &wanted).is_empty(), "{changes:?}");
+            let taken = wanted.iter().map(|held| &held.name).filter(|name| !now.refused.contains_key(*name));
+            assert!(taken.eq(&now.order), "{:?}", now.order);
+            now.refused.clear();
+        }
     }
 }

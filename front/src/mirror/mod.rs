@@ -3,7 +3,6 @@
 mod edits;
 mod session;
 
-use std::collections::HashMap;
 use std::ffi::OsString;
 use std::fs::File;
 use std::process::ExitStatus;
@@ -13,16 +12,13 @@ use std::time::Duration;
 
 use bstr::BString;
 
+use crate::quick::QuickMap;
 use crate::snapshot::Bytes;
 pub use session::{
-    is_name, Answer, Edit, Options, Orphans, Query, Refusal, Session, SessionError, TakeError, GREATEST_NAME,
+    is_name, Answer, Edit, Linked, Options, Orphans, Query, Refusal, Session, SessionError, TakeError, GREATEST_NAME,
     GREATEST_PAYLOAD,
 };
 
-/// The script under which a link ends after its names, so that an edit costs no link.
-pub const SCRIPT_WITHOUT_LINK: &[u8] = b"ENTRY(a_name_that_nothing_defines)";
-/// More edits than these are sent under that script, and the script itself last.
-const HANDFUL: usize = 3;
 /// How often edits are made anew where a session refuses some.
 const ROUNDS: usize = 4;
 
@@ -49,17 +45,18 @@ pub struct Wanted<'a> {
 /// What came of bringing a session to what is wanted.
 #[derive(Clone, PartialEq, Eq, Debug, Default)]
 pub struct Brought {
-    /// Whether the last link is good, that is without faults.
+    /// Whether the link is good, that is without faults.
     pub is_good: bool,
     /// The bytes of its image.
     pub length: u64,
     /// The objects that are refused, by their place in the link, in its order.
     pub refused: Vec<(usize, Refusal)>,
-    /// Why the script is refused, where it is. It is not sent where objects are refused.
+    /// Why the script is refused, where it is, which is not sent where objects are refused; or that memory ran out as
+    /// all was linked.
     pub script_refused: Option<Refusal>,
     /// How many edits were sent.
     pub edits: usize,
-    /// How many of them were accepted, after which the session has another link.
+    /// How many were accepted since the last link, after which the session has another one.
     pub accepted: usize,
     /// Edits of other objects or of the order that were refused, by the names of the objects: the session is not what is
     /// wanted, and the link is not good.
@@ -76,6 +73,8 @@ pub struct Mirror {
     state: State,
     last_status: Option<ExitStatus>,
     process: Arc<AtomicU32>,
+    /// The memory of an earlier image.
+    spare: Vec<u8>,
 }
 
 /// What a session holds.
@@ -83,15 +82,15 @@ pub struct Mirror {
 pub(crate) struct State {
     /// The names in their order.
     order: Vec<BString>,
-    held: HashMap<BString, Bytes>,
+    held: QuickMap<BString, Bytes>,
     script: Option<Bytes>,
-    /// What the session said to its last accepted edit.
-    last: Option<(bool, u64)>,
+    /// The last link.
+    last: Linked,
     /// Objects that it refused, and why: these bytes under this name are not sent again.
-    refused: HashMap<BString, (Bytes, Refusal)>,
+    refused: QuickMap<BString, (Bytes, Refusal)>,
     /// Edits that were refused and say nothing of bytes, as of the last round.
     stuck: Vec<(BString, Refusal)>,
-    /// How many edits were accepted.
+    /// How many edits were accepted since the last link.
     accepted: usize,
 }
 
@@ -107,6 +106,7 @@ impl Mirror {
             state: State::default(),
             last_status: None,
             process: Arc::default(),
+            spare: Vec::new(),
         }
     }
 
@@ -123,57 +123,42 @@ impl Mirror {
         Ok(())
     }
 
-    /// Brings the objects alone, under a script with which that costs no link; a `bring` with the same ones follows.
-    /// Does nothing where the entry symbol is an option, as then each edit costs a link.
+    /// Brings the objects alone, and links nothing; a `bring` with the same ones follows.
     pub fn prepare(&mut self, options: &Options, objects: &[Held]) -> Result<(), SessionError> {
         self.start(options)?;
-        if options.entry.is_some() {
-            return Ok(());
-        }
-        let script = Bytes::from(SCRIPT_WITHOUT_LINK.to_vec());
-        self.with_session(|session, state| {
-            if state.script.as_ref() != Some(&script) {
-                send_script(session, state, &script)?;
-            }
-            send_objects(session, state, objects).map(|_| ())
-        })
+        self.with_session(|session, state| send_objects(session, state, objects).map(|_| ()))
     }
 
-    /// Sends what the session does not hold yet, and gives what its last link came to. The session is started anew
-    /// where the options are others. After an error it is ended, and the next call starts another one.
+    /// Sends what the session does not hold yet, has it linked, and gives what its last link came to. The session is
+    /// started anew where the options are others. After an error it is ended, and the next call starts another one.
     pub fn bring(&mut self, wanted: Wanted<'_>) -> Result<Brought, SessionError> {
         self.start(wanted.options)?;
-        let can_wait = wanted.options.entry.is_none();
         self.with_session(|session, state| {
-            let script = match &state.script {
-                Some(script) if **script == *wanted.script => script.clone(),
-                _ => Bytes::from(wanted.script.to_vec()),
-            };
-            let is_other = state.script.as_ref() != Some(&script);
-            let count = edits::between(state, wanted.objects).len() + usize::from(is_other);
-            let mut brought = Brought::default();
-            let accepted = state.accepted;
-            if count > HANDFUL && can_wait && state.script.as_deref() != Some(SCRIPT_WITHOUT_LINK) {
-                send_script(session, state, &Bytes::from(SCRIPT_WITHOUT_LINK.to_vec()))?;
-                brought.edits += 1;
-            }
-            brought.edits += send_objects(session, state, wanted.objects)?;
-            brought.refused = refused_of(state, wanted.objects);
-            brought.stuck = state.stuck.clone();
+            let edits = send_objects(session, state, wanted.objects)?;
+            let (refused, stuck) = (refused_of(state, wanted.objects), state.stuck.clone());
+            let mut brought = Brought { edits, refused, stuck, ..Brought::default() };
             let is_in_step = brought.refused.is_empty() && brought.stuck.is_empty();
-            if is_in_step && state.script.as_ref() != Some(&script) {
-                brought.script_refused = send_script(session, state, &script)?;
+            if is_in_step && state.script.as_deref() != Some(wanted.script) {
+                brought.script_refused = send_script(session, state, wanted.script)?;
                 brought.edits += 1;
             }
-            let (is_good, length) = state.last.unwrap_or_default();
-            let accepted = state.accepted - accepted;
-            Ok(Brought { is_good: is_good && brought.stuck.is_empty(), length, accepted, ..brought })
+            brought.accepted = state.accepted;
+            let link_refused = link(session, state)?;
+            let is_good = state.last.is_good && brought.stuck.is_empty() && link_refused.is_none();
+            let script_refused = brought.script_refused.or(link_refused);
+            Ok(Brought { is_good, length: state.last.length, script_refused, ..brought })
         })
     }
 
     /// The image of the last link; empty where it has faults.
     pub fn image(&mut self) -> Result<Vec<u8>, SessionError> {
-        self.query(Query::Image)
+        let spare = std::mem::take(&mut self.spare);
+        self.with_session(|session, _| session.query_into(Query::Image, spare))
+    }
+
+    /// Gives the memory of an image back, which the next one has: its pages need not be got from the system again.
+    pub fn reuse(&mut self, image: Vec<u8>) {
+        self.spare = image;
     }
 
     /// The map of the last link; empty where it has faults.
@@ -195,6 +180,13 @@ impl Mirror {
                 Err(error.into())
             }
             done => done,
+        }
+    }
+
+    /// Has the session end, which is waited for when the mirror is dropped.
+    pub fn dismiss(&mut self) {
+        if let Some(session) = &mut self.session {
+            session.dismiss();
         }
     }
 
@@ -220,6 +212,11 @@ impl Mirror {
     /// The session that runs, as for its memory.
     pub fn session(&self) -> Option<&Session> {
         self.session.as_ref()
+    }
+
+    /// Whether the session holds objects, as those of an earlier link.
+    pub fn has_objects(&self) -> bool {
+        !self.state.order.is_empty()
     }
 
     /// The number of the session's process, for other threads; 0 where there is none.
@@ -251,18 +248,32 @@ impl Mirror {
 }
 
 /// Sets the script; gives why it is refused, where it is.
-fn send_script(session: &mut Session, state: &mut State, script: &Bytes) -> Result<Option<Refusal>, SessionError> {
+fn send_script(session: &mut Session, state: &mut State, script: &[u8]) -> Result<Option<Refusal>, SessionError> {
     if script.len() > GREATEST_PAYLOAD {
         return Ok(Some(Refusal::TOO_LONG));
     }
     match session.edit_one(Edit::Script(script))? {
-        Answer::Linked { is_good, length } => {
-            state.last = Some((is_good, length));
-            state.script = Some(script.clone());
+        Answer::Accepted => {
+            state.script = Some(Bytes::from(script.to_vec()));
             state.accepted += 1;
             Ok(None)
         }
         Answer::Refused(refusal) => Ok(Some(refusal)),
+    }
+}
+
+/// Has all linked that was accepted since the last link; gives why it is not, which is memory: it is tried again next.
+fn link(session: &mut Session, state: &mut State) -> Result<Option<Refusal>, SessionError> {
+    if state.accepted == 0 {
+        return Ok(None);
+    }
+    match session.link()? {
+        Ok(linked) => {
+            state.last = linked;
+            state.accepted = 0;
+            Ok(None)
+        }
+        Err(refusal) => Ok(Some(refusal)),
     }
 }
 

@@ -1,4 +1,4 @@
-//! A running `ldi session`, and its protocol (docs/manual.md, 'Commands' and 'Answers').
+//! A running `ldi session --deferred`, and its protocol (docs/manual.md, 'Commands', 'Answers', 'A deferred session').
 
 use std::ffi::{OsStr, OsString};
 use std::fs::File;
@@ -127,15 +127,19 @@ impl Refusal {
 /// The answer to an edit.
 #[derive(Clone, Copy, PartialEq, Eq, Debug)]
 pub enum Answer {
-    /// It was accepted, and the link is good or has faults; the image has so many bytes.
-    Linked {
-        /// Whether the link has no faults.
-        is_good: bool,
-        /// The bytes of the image.
-        length: u64,
-    },
+    /// It was accepted; the next link has it.
+    Accepted,
     /// It was refused.
     Refused(Refusal),
+}
+
+/// A link that a session made.
+#[derive(Clone, Copy, PartialEq, Eq, Debug, Default)]
+pub struct Linked {
+    /// Whether it has no faults.
+    pub is_good: bool,
+    /// The bytes of its image.
+    pub length: u64,
 }
 
 /// What a session is asked for.
@@ -320,7 +324,7 @@ impl Session {
     ) -> Result<Session, SessionError> {
         let not_started = |error| SessionError::NotStarted { program: program.to_owned(), error };
         let mut child = Command::new(program)
-            .arg("session")
+            .args(["session", "--deferred"])
             .args(options.words())
             .stdin(Stdio::piped())
             .stdout(Stdio::piped())
@@ -360,10 +364,21 @@ impl Session {
         self.edit(&[edit])?.pop().ok_or(SessionError::Ended)
     }
 
+    /// Has the session link what was accepted since its last link; gives why it does not, which is memory.
+    pub fn link(&mut self) -> Result<Result<Linked, Refusal>, SessionError> {
+        linked(&self.exchange(b"link\n")?)
+    }
+
     /// Asks for something, and gives all of it.
     pub fn query(&mut self, query: Query) -> Result<Vec<u8>, SessionError> {
+        self.query_into(query, Vec::new())
+    }
+
+    /// The same with memory that is used again.
+    pub fn query_into(&mut self, query: Query, mut data: Vec<u8>) -> Result<Vec<u8>, SessionError> {
         let length = self.ask(query)?;
-        let mut data = Vec::with_capacity(length);
+        data.clear();
+        data.reserve_exact(length);
         let here = self.read.rest().len().min(length);
         data.extend_from_slice(self.read.rest().get(..here).unwrap_or_default());
         self.read.take(here);
@@ -409,6 +424,12 @@ impl Session {
     pub fn close(mut self) -> Option<i32> {
         self.to = None;
         self.child.wait().ok()?.code()
+    }
+
+    /// Has the session end, whatever it does, without a wait for that.
+    pub fn dismiss(&mut self) {
+        self.to = None;
+        let _ = self.child.kill(); // it may have ended
     }
 
     /// Ends the session, whatever it does; gives how it ended, which may have been before.
@@ -467,10 +488,15 @@ impl Session {
 
     /// Sends a query; gives the length of what follows.
     fn ask(&mut self, query: Query) -> Result<usize, SessionError> {
-        let mut out = Outgoing::new(vec![query.line()]);
+        asked(&self.exchange(query.line())?)
+    }
+
+    /// Sends a line; gives the line that answers it.
+    fn exchange(&mut self, line: &[u8]) -> Result<Vec<u8>, SessionError> {
+        let mut out = Outgoing::new(vec![line]);
         loop {
             if let Some(line) = self.read.take_line() {
-                return asked(&line);
+                return Ok(line);
             }
             self.step(&mut out)?;
         }
@@ -570,15 +596,28 @@ fn no_answer(line: &[u8]) -> SessionError {
 /// The answer to an edit.
 fn edited(line: &[u8]) -> Result<Answer, SessionError> {
     let read = || match words(line)?.as_slice() {
-        ["linked", status, length] => {
-            Some(Answer::Linked { is_good: status.parse::<u32>().ok()? == 0, length: length.parse().ok()? })
-        }
-        ["refused", number, inner] => {
-            Some(Answer::Refused(Refusal { number: number.parse().ok()?, inner: inner.parse().ok()? }))
-        }
-        _ => None,
+        ["accepted"] => Some(Answer::Accepted),
+        words => refused(words).map(Answer::Refused),
     };
     read().ok_or_else(|| no_answer(line))
+}
+
+/// The answer to `link`.
+fn linked(line: &[u8]) -> Result<Result<Linked, Refusal>, SessionError> {
+    let read = || match words(line)?.as_slice() {
+        ["linked", status, length] => {
+            Some(Ok(Linked { is_good: status.parse::<u32>().ok()? == 0, length: length.parse().ok()? }))
+        }
+        words => refused(words).map(Err),
+    };
+    read().ok_or_else(|| no_answer(line))
+}
+
+fn refused(words: &[&str]) -> Option<Refusal> {
+    match words {
+        ["refused", number, inner] => Some(Refusal { number: number.parse().ok()?, inner: inner.parse().ok()? }),
+        _ => None,
+    }
 }
 
 /// How many bytes follow the answer to a query.

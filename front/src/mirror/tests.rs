@@ -29,19 +29,22 @@ impl Drop for Program {
     }
 }
 
-/// Reads commands with their payloads, and says yes to each: the image is the number of edits so far.
+/// Reads commands with their payloads, and says yes to each: the image has the number of edits as of the last link, and
+/// that of links.
 const YES: &str = r#"
-edits=0
+[ "$1 $2" = 'session --deferred' ] || exit 2
+edits=0 links=0 image=
 while read word name first second; do
     case $word in
         add) head -c "$second" > /dev/null ;;
         replace) head -c "$first" > /dev/null ;;
         script) head -c "$name" > /dev/null ;;
-        image) printf 'bytes %d\n%d' ${#edits} "$edits"; continue ;;
+        link) links=$((links + 1)); image="$edits $links"; echo "linked 0 ${#image}"; continue ;;
+        image) printf 'bytes %d\n%s' ${#image} "$image"; continue ;;
         map|faults) printf 'bytes 0\n'; continue ;;
     esac
     edits=$((edits + 1))
-    echo "linked 0 ${#edits}"
+    echo accepted
 done
 "#;
 
@@ -58,16 +61,19 @@ fn a_project_is_opened_and_edited() {
     let mut objects = objects(30, 1000);
     let wanted = Wanted { options: &options, objects: &objects, script: b"SECTIONS { }" };
     let brought = mirror.bring(wanted).unwrap();
-    assert_eq!((brought.is_good, brought.edits, brought.refused.len()), (true, 32, 0));
-    assert_eq!(mirror.image().unwrap(), b"32");
-    assert_eq!(mirror.bring(wanted).unwrap().edits, 0);
+    assert_eq!((brought.is_good, brought.edits, brought.refused.len()), (true, 31, 0));
+    assert_eq!((brought.length, brought.accepted), (4, 31));
+    assert_eq!(mirror.image().unwrap(), b"31 1");
+    let again = mirror.bring(wanted).unwrap();
+    assert_eq!((again.is_good, again.length, again.edits, again.accepted), (true, 4, 0, 0));
+    assert_eq!(mirror.image().unwrap(), b"31 1");
     objects.swap(3, 4);
     let wanted = Wanted { options: &options, objects: &objects, script: b"SECTIONS { }" };
     assert_eq!(mirror.bring(wanted).unwrap().edits, 1);
     let mut file = File::create(std::env::temp_dir().join(format!("ldi-front-{}-image", std::process::id()))).unwrap();
-    assert_eq!(mirror.image_to(&mut file).unwrap(), 2);
+    assert_eq!(mirror.image_to(&mut file).unwrap(), 4);
     let path = std::env::temp_dir().join(format!("ldi-front-{}-image", std::process::id()));
-    assert_eq!(std::fs::read(&path).unwrap(), b"33");
+    assert_eq!(std::fs::read(&path).unwrap(), b"32 2");
     std::fs::remove_file(path).unwrap();
 }
 
@@ -84,24 +90,81 @@ fn other_options_start_another_session() {
 }
 
 #[test]
-fn objects_are_brought_before_the_script() {
+fn objects_are_brought_before_the_script_and_linked_with_it() {
     let program = Program::new("prepare", YES);
     let mut mirror = program.mirror();
-    let (options, objects) = (Options::default(), objects(9, 10));
+    let objects = objects(9, 10);
+    for options in [Options::default(), Options { entry: Some("main".into()), ..Options::default() }] {
+        mirror.prepare(&options, &objects).unwrap();
+        assert_eq!(mirror.image().unwrap(), b"");
+        let brought = mirror.bring(Wanted { options: &options, objects: &objects, script: b"a = 1;" }).unwrap();
+        assert_eq!((brought.edits, brought.accepted), (1, 10));
+        assert_eq!(mirror.image().unwrap(), b"10 1");
+    }
+}
+
+#[test]
+fn what_is_brought_before_a_script_that_is_there_is_linked() {
+    let program = Program::new("there", YES);
+    let mut mirror = program.mirror();
+    let (options, objects) = (Options::default(), objects(2, 10));
+    let bring = |mirror: &mut Mirror, count: usize| {
+        mirror.bring(Wanted { options: &options, objects: &objects[..count], script: b"a = 1;" }).unwrap()
+    };
+    bring(&mut mirror, 0);
     mirror.prepare(&options, &objects).unwrap();
-    assert_eq!(mirror.bring(Wanted { options: &options, objects: &objects, script: b"a = 1;" }).unwrap().edits, 1);
+    let brought = bring(&mut mirror, 2);
+    assert_eq!((brought.edits, brought.accepted), (0, 2));
+    assert_eq!(mirror.image().unwrap(), b"3 2");
+}
+
+#[test]
+fn the_others_are_linked_where_objects_are_refused() {
+    let refuses = YES.replace("    edits=$", "    [ $name = o1 ] && { echo refused 4 2; continue; }\n    edits=$");
+    let program = Program::new("others", &refuses);
+    let mut mirror = program.mirror();
+    let (options, objects) = (Options::default(), objects(4, 10));
+    let wanted = Wanted { options: &options, objects: &objects, script: b"a = 1;" };
+    let brought = mirror.bring(wanted).unwrap();
+    assert_eq!(brought.refused, [(1, Refusal { number: 4, inner: 2 })]);
+    assert_eq!((brought.edits, brought.accepted), (4, 3));
+    assert_eq!(mirror.image().unwrap(), b"3 1");
+    let brought = mirror.bring(wanted).unwrap();
+    assert_eq!((brought.refused.len(), brought.edits, brought.accepted), (1, 0, 0));
+    assert_eq!(mirror.image().unwrap(), b"3 1");
+}
+
+#[test]
+fn a_link_without_memory_is_tried_again() {
+    let once =
+        YES.replace("        link) ", "        link) [ $((tried += 1)) = 2 ] && { echo refused 7 0; continue; };");
+    let program = Program::new("memory", &once);
+    let mut mirror = program.mirror();
+    let (options, mut objects) = (Options::default(), objects(2, 10));
+    assert!(mirror.bring(Wanted { options: &options, objects: &objects, script: b"a = 1;" }).unwrap().is_good);
+    objects[1].data = Bytes::from(b"other".to_vec());
+    let wanted = Wanted { options: &options, objects: &objects, script: b"a = 1;" };
+    let brought = mirror.bring(wanted).unwrap();
+    assert_eq!((brought.is_good, brought.edits, brought.accepted), (false, 1, 1));
+    assert!(brought.script_refused.map_or(false, Refusal::is_memory));
+    assert_eq!(mirror.image().unwrap(), b"3 1");
+    let brought = mirror.bring(wanted).unwrap();
+    assert_eq!((brought.is_good, brought.edits, brought.accepted, brought.script_refused), (true, 0, 1, None));
+    assert_eq!(mirror.image().unwrap(), b"4 2");
 }
 
 #[test]
 fn a_session_that_ends_is_an_error_and_started_again() {
-    let program = Program::new("ends", "read line; echo linked 0 4; exit 0");
+    let program = Program::new("ends", "read line; echo accepted; exit 0");
     let mut mirror = program.mirror();
     let (options, objects) = (Options::default(), objects(1, 100));
     let wanted = Wanted { options: &options, objects: &objects, script: b"a = 1;" };
     assert!(matches!(mirror.bring(wanted), Err(SessionError::Ended)));
     assert!(mirror.session().is_none());
-    let program = Program::new("no", "echo no answer");
-    assert!(matches!(program.mirror().bring(wanted), Err(SessionError::NoAnswer(_))));
+    for text in ["echo no answer", "echo linked 0 4", &YES.replace("linked 0", "accepted")] {
+        let program = Program::new("no", text);
+        assert!(matches!(program.mirror().bring(wanted), Err(SessionError::NoAnswer(_))), "{text}");
+    }
     let mut mirror = Mirror::new("/nowhere/ldi".into(), None);
     assert!(matches!(mirror.bring(wanted), Err(SessionError::NotStarted { .. })));
 }
@@ -121,4 +184,37 @@ fn large_edits_and_many_answers_block_nobody() {
     let (options, objects) = (Options::default(), objects(40, 300_000));
     let brought = mirror.bring(Wanted { options: &options, objects: &objects, script: b"a = 1;" }).unwrap();
     assert!(brought.is_good);
+}
+
+#[test]
+fn a_session_goes_on_where_its_image_cannot_be_written() {
+    let program = Program::new("full", &YES.replace("printf 'bytes %d\\n%s' ${#image} \"$image\"", FULL));
+    let mut mirror = program.mirror();
+    let (options, objects) = (Options::default(), objects(2, 10));
+    mirror.bring(Wanted { options: &options, objects: &objects, script: b"a = 1;" }).unwrap();
+    for _ in 0..2 {
+        let mut full = File::options().write(true).open("/dev/full").unwrap();
+        match mirror.image_to(&mut full) {
+            Err(TakeError::File(error)) => assert_eq!(error.raw_os_error(), Some(libc::ENOSPC)),
+            other => panic!("{other:?}"),
+        }
+        assert_eq!(mirror.image().unwrap().len(), 300_000);
+    }
+    assert!(mirror.bring(Wanted { options: &options, objects: &objects[..1], script: b"a = 1;" }).unwrap().is_good);
+}
+
+/// An image of more bytes than a pipe holds at once.
+const FULL: &str = "printf 'bytes 300000\\n'; head -c 300000 /dev/zero";
+
+#[test]
+fn the_memory_of_an_image_is_used_again() {
+    let program = Program::new("spare", YES);
+    let mut mirror = program.mirror();
+    let options = Options::default();
+    let wanted = Wanted { options: &options, objects: &objects(3, 10), script: b"SECTIONS { }" };
+    mirror.bring(wanted).unwrap();
+    mirror.reuse(vec![b'x'; 100]);
+    let image = mirror.image().unwrap();
+    assert_eq!((image.as_slice(), image.capacity()), (&b"4 1"[..], 100));
+    assert!(mirror.image().unwrap().capacity() < 100);
 }

@@ -15,6 +15,8 @@ use std::ops::Range;
 
 const BITCODE: &[u8] = b"BC\xc0\xde";
 const MAGIC: &[u8] = b"\x7fELF";
+/// How the name of a section begins of which GNU ld links the first alone.
+pub(super) const LINK_ONCE: &[u8] = b".gnu.linkonce";
 /// A common symbol that gcc gives an object of slim LTO.
 const SLIM_LTO: &[u8] = b"__gnu_lto_slim";
 
@@ -31,6 +33,9 @@ pub struct Elf {
     /// The hashes of the global names, by symbol from the first global one.
     hashes: Vec<u32>,
     has_commons: bool,
+    has_groups: bool,
+    /// Flags that the bytes do not have any more, by section; ascending.
+    cleared: Vec<(SectionIndex, SectionFlags)>,
 }
 
 /// A stretch of an object's bytes; an object has less than 4 GiB.
@@ -66,12 +71,18 @@ impl Elf {
     /// # Errors
     /// What the file is instead, where it is no relocatable object of ELF-64 for x86-64.
     pub fn parse(data: Bytes) -> Result<Elf, ObjectFault> {
+        Elf::parse_cleared(data, Vec::new())
+    }
+
+    /// The same for bytes out of which some flags of sections were taken, ascending: they count as if they were there.
+    pub(super) fn parse_cleared(data: Bytes, cleared: Vec<(SectionIndex, SectionFlags)>) -> Result<Elf, ObjectFault> {
         let header = header_of(&data)?;
         let headers = header
             .section_headers(Little, &*data)
             .map_err(|_| ObjectFault::Malformed("its section headers are past its end"))?;
         let names_in = header.shstrndx(Little, &*data).unwrap_or(0);
-        let mut tables = Elf { headers_at: header.e_shoff.get(Little) as usize, ..Elf::empty(data.clone()) };
+        let headers_at = header.e_shoff.get(Little) as usize;
+        let mut tables = Elf { headers_at, cleared, ..Elf::empty(data.clone()) };
         let strings = headers.get(names_in as usize).map_or(0..0, |names| contents_of(names, &data));
         tables.section_names = headers
             .iter()
@@ -80,6 +91,8 @@ impl Elf {
             .unwrap_or_default();
         tables.symbols = symbol_table(headers, &data).unwrap_or_default();
         tables.relocations = relocation_tables(headers, &data);
+        tables.has_groups = headers.iter().any(|one| one.sh_type.get(Little) == elf::SHT_GROUP)
+            || tables.section_names.iter().any(|name| tables.text(*name).starts_with(LINK_ONCE));
         tables.read_globals();
         if tables.has_commons && tables.globals().any(|symbol| symbol.name == SLIM_LTO) {
             return Err(ObjectFault::SlimLto);
@@ -97,6 +110,8 @@ impl Elf {
             symbols: Table::default(),
             hashes: Vec::new(),
             has_commons: false,
+            has_groups: false,
+            cleared: Vec::new(),
         }
     }
 
@@ -175,6 +190,16 @@ impl Elf {
         self.has_commons
     }
 
+    /// Whether there are groups of sections, or sections of which the first of a name is linked alone.
+    pub fn has_groups(&self) -> bool {
+        self.has_groups
+    }
+
+    /// The flags of sections that the bytes do not have any more.
+    pub(super) fn cleared(&self) -> &[(SectionIndex, SectionFlags)] {
+        &self.cleared
+    }
+
     /// The global symbols of a name: none, one, or in odd objects several.
     pub fn globals_named<'a>(&'a self, name: &'a BStr) -> impl Iterator<Item = Symbol<'a>> + 'a {
         let (hash, first) = (hash_of(name), self.first_of_globals());
@@ -193,6 +218,11 @@ impl Elf {
     /// Whether a section has relocations.
     pub fn has_relocations(&self, section: SectionIndex) -> bool {
         self.tables_of(section).any(|table| table.length > 0)
+    }
+
+    /// Whether a section has a table of relocations, which may be empty.
+    pub fn has_relocation_table(&self, section: SectionIndex) -> bool {
+        self.tables_of(section).next().is_some()
     }
 
     /// The relocations of a section, in the order of its tables.
@@ -235,7 +265,7 @@ impl Elf {
             index: SectionIndex(index),
             name: self.text(name),
             kind: SectionKind(header.sh_type.get(Little)),
-            flags: SectionFlags(header.sh_flags.get(Little)),
+            flags: SectionFlags(header.sh_flags.get(Little) | self.cleared_of(SectionIndex(index)).0),
             size: header.sh_size.get(Little),
             align: header.sh_addralign.get(Little).max(1),
             offset: header.sh_offset.get(Little),
@@ -243,6 +273,11 @@ impl Elf {
             info: header.sh_info.get(Little),
             entry_size: header.sh_entsize.get(Little),
         }
+    }
+
+    fn cleared_of(&self, index: SectionIndex) -> SectionFlags {
+        let found = self.cleared.binary_search_by_key(&index, |(other, _)| *other).ok();
+        found.and_then(|at| self.cleared.get(at)).map_or(SectionFlags::default(), |(_, flags)| *flags)
     }
 
     fn symbol_of(&self, index: u32, entry: &Sym64<Little>) -> Symbol<'_> {

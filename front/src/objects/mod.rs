@@ -1,25 +1,48 @@
 //! Objects: their sections, symbols and relocations; an object made one of the profile.
 
+mod aliases;
+mod build_note;
 mod commons;
+mod draft;
 mod elf;
 mod filter;
+mod groups;
+mod just_symbols;
+mod merged;
+mod merging;
 mod names;
 mod profile;
+mod properties;
+mod relaxing;
 mod section;
 mod symbol;
+mod tabled;
 #[cfg(test)]
 pub(crate) mod tests;
+mod wrapping;
 
+pub use aliases::with_aliases;
+pub use build_note::{build_note, build_note_object, BUILD_ID_SECTION, NOTE_HEAD};
 pub use commons::{with_common_section, BlockPlace, CommonSection};
 pub use elf::Elf;
 pub(crate) use filter::NameFilter;
+pub use groups::{once_of, Once, OnceKey};
+pub use just_symbols::just_symbols;
+pub use merged::{Leaving, MergeFindings, MergeRequests, OwnMerged, MERGED};
+pub use merging::{MergeKind, MergeSource, Merged, MergedPart};
 pub use names::{Definition, LinkNames};
-pub use profile::{binary_object, session_name, with_loaded, without_retain, GREATEST_NAME};
+pub use profile::{binary_object, session_name, with_loaded, GREATEST_NAME};
+pub use properties::{Properties, PROPERTIES};
 pub use section::{Relocation, Section, SectionFlags, SectionIndex, SectionKind};
 pub use symbol::{Binding, Home, Rank, Symbol, SymbolIndex, SymbolKind, Visibility};
+pub use tabled::{
+    table_object, NamedLocal, TableEntry, Tabled, Wanted, ENTRY_SIZE, GLOBAL_OFFSET_TABLE, HEADER_SECTION, TABLE,
+};
+pub use wrapping::{with_wraps, wrapped_name};
 
 use crate::snapshot::Bytes;
 use bstr::{BStr, BString, ByteSlice};
+use profile::Profiled;
 use std::ops::Deref;
 use std::os::unix::ffi::OsStrExt;
 use std::path::{Path, PathBuf};
@@ -107,20 +130,56 @@ struct Inner {
     elf: Arc<Elf>,
     fault: Option<ObjectFault>,
     retained: Vec<SectionIndex>,
+    relaxed: Vec<(SectionIndex, u64)>,
+    unique: Vec<SymbolIndex>,
+    tabled: Vec<Tabled>,
+    has_note_of_link: bool,
+    is_build_note: bool,
 }
 
 impl Object {
     /// An object: its name in the session of `ldi`, where it is from, and its bytes as its file has them.
     ///
-    /// Sections with SHF_GNU_RETAIN lose that flag, which `ldi` need not know; [`Object::retained`] has them. Bytes that
-    /// are no object have no sections and no symbols, and [`Object::fault`] says why.
+    /// Its bytes become those of the profile of `ldi`: without flags that `ldi` need not know, and without references by a
+    /// global offset table where none is needed. Sections with SHF_GNU_RETAIN are in [`Object::retained`]. Bytes that are
+    /// no object have no sections and no symbols, and [`Object::fault`] says why.
     pub fn new(name: BString, origin: Origin, data: Bytes) -> Object {
-        let (data, retained) = without_retain(data);
-        let (elf, fault) = match Elf::parse(data.clone()) {
+        let Profiled { data, cleared, retained, relaxed, tabled, unique } = Profiled::of(data);
+        let (elf, fault) = match Elf::parse_cleared(data.clone(), cleared) {
             Ok(elf) => (elf, None),
             Err(fault) => (Elf::empty(data), Some(fault)),
         };
-        Object(Arc::new(Inner { name, origin, elf: Arc::new(elf), fault, retained }))
+        Object(Arc::new(Inner {
+            name,
+            origin,
+            elf: Arc::new(elf),
+            fault,
+            retained,
+            relaxed,
+            unique,
+            tabled,
+            has_note_of_link: false,
+            is_build_note: false,
+        }))
+    }
+
+    /// The same without some sections: names that they define are undefined.
+    #[must_use]
+    pub fn without(self, dropped: &[SectionIndex]) -> Object {
+        groups::without(self.data(), dropped).and_then(|data| self.with_bytes(data)).unwrap_or(self)
+    }
+
+    /// The same with other bytes, which are in the profile; `None` where these are no object.
+    fn with_bytes(&self, data: Bytes) -> Option<Object> {
+        let elf = Elf::parse_cleared(data, self.elf().cleared().to_vec()).ok()?;
+        let mut changed = self.clone();
+        Arc::make_mut(&mut changed.0).elf = Arc::new(elf);
+        Some(changed)
+    }
+
+    /// The references that need a global offset table.
+    pub fn tabled(&self) -> &[Tabled] {
+        &self.0.tabled
     }
 
     /// The same with sections that `--gc-sections` keeps whatever names them.
@@ -141,6 +200,17 @@ impl Object {
             inner.origin = origin;
         }
         self
+    }
+
+    /// Whether another one has the same name, place and bytes, and the same is said of it.
+    pub fn is_same(&self, other: &Object) -> bool {
+        let (one, two) = (&self.0, &other.0);
+        one.name == two.name
+            && one.origin == two.origin
+            && one.retained == two.retained
+            && one.fault == two.fault
+            && self.elf().cleared() == other.elf().cleared()
+            && self.data() == other.data()
     }
 
     /// Its name in the session of `ldi`: 1 to 255 bytes from `!` to `~`, no other object's.
@@ -166,6 +236,42 @@ impl Object {
     /// Why it is no object that `ldi` links.
     pub fn fault(&self) -> Option<&ObjectFault> {
         self.0.fault.as_ref()
+    }
+
+    /// An object of the linker's own, with the note of a build ID in its section number 1.
+    pub fn build_note(name: BString, origin: Origin, id: &[u8]) -> Object {
+        let mut object = Object::new(name, origin, build_note_object(id)).with_retained(&[SectionIndex(1)]);
+        Arc::make_mut(&mut object.0).is_build_note = true;
+        object
+    }
+
+    /// Whether it is the linker's own, with the note of a build ID.
+    pub fn is_build_note(&self) -> bool {
+        self.0.is_build_note
+    }
+
+    /// Whether its note of properties is that of the whole link.
+    pub fn has_note_of_link(&self) -> bool {
+        self.0.has_note_of_link
+    }
+
+    fn set_note_of_link(&mut self) {
+        Arc::make_mut(&mut self.0).has_note_of_link = true;
+    }
+
+    /// The symbols that had the binding STB_GNU_UNIQUE, ascending.
+    pub fn unique(&self) -> &[SymbolIndex] {
+        &self.0.unique
+    }
+
+    /// Whether the field at an offset of a section is a reference that went by a global offset table.
+    pub fn is_relaxed(&self, section: SectionIndex, offset: u64) -> bool {
+        self.0.relaxed.contains(&(section, offset))
+    }
+
+    /// Whether there are references that went by a global offset table.
+    pub fn has_relaxed(&self) -> bool {
+        !self.0.relaxed.is_empty()
     }
 
     /// The sections that `--gc-sections` keeps whatever names them.

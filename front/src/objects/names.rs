@@ -1,8 +1,8 @@
 //! What the objects of a link have of names.
 
 use super::{Home, NameFilter, Object, ObjectIndex, Rank, SymbolIndex};
+use crate::quick::QuickMap;
 use bstr::{BStr, BString, ByteSlice};
-use std::collections::HashMap;
 
 /// The definition of a name: the first of the best ones (a strong one, a common block, a weak one).
 #[derive(Clone, Copy, PartialEq, Eq, Debug)]
@@ -33,7 +33,7 @@ struct Known {
 /// its scripts name 1,000.
 #[derive(Clone, Debug, Default)]
 pub struct LinkNames {
-    known: HashMap<BString, Known>,
+    known: QuickMap<BString, Known>,
 }
 
 impl LinkNames {
@@ -46,7 +46,7 @@ impl LinkNames {
 
     /// Looks more names up.
     pub fn ask<N: AsRef<[u8]>>(&mut self, objects: &[Object], names: impl IntoIterator<Item = N>) {
-        let new: HashMap<BString, Known> = names
+        let new: QuickMap<BString, Known> = names
             .into_iter()
             .filter(|name| !self.known.contains_key(name.as_ref().as_bstr()))
             .map(|name| (BString::from(name.as_ref()), Known::default()))

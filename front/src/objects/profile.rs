@@ -1,52 +1,162 @@
 //! An object made one of the profile: what `ldi` need not know is taken out of it, and names are those of its session.
 
-use super::{SectionFlags, SectionIndex};
+use super::draft::{Draft, Headers};
+use super::relaxing::{relaxed, Reference, Referred};
+use super::tabled::{tabled, wants_table, Tabled};
+use super::{SectionFlags, SectionIndex, SymbolIndex};
 use crate::snapshot::Bytes;
 use bstr::{BString, ByteVec};
-use object::elf::{FileHeader64, SectionHeader64};
+use object::elf::{self, FileHeader64, Rela64, SectionHeader64, Sym64};
 use object::read::elf::{FileHeader, SectionHeader};
 use object::LittleEndian as Little;
 use std::collections::HashSet;
 
 /// The most bytes of a name in the session of `ldi`.
 pub const GREATEST_NAME: usize = 255;
+/// The number of `ELFOSABI_GNU` and that of `ELFOSABI_FREEBSD`, under which SHF_GNU_RETAIN and STB_GNU_UNIQUE count.
+const SYSTEMS: [u8; 2] = [elf::ELFOSABI_GNU, elf::ELFOSABI_FREEBSD];
+/// Where `EI_OSABI` is.
+const SYSTEM_AT: usize = 7;
+/// Where fields are in a symbol (`st_info`) and in a relocation (`r_info`, `r_addend`).
+const INFO_AT: usize = 4;
+const TYPE_AT: usize = 8;
+const ADDEND_AT: usize = 16;
 
-/// The bytes of an object without the flag SHF_GNU_RETAIN, which counts for `--gc-sections` alone, and the sections that
-/// had it. The flag counts in files of the systems GNU and FreeBSD (`EI_OSABI`).
-pub fn without_retain(data: Bytes) -> (Bytes, Vec<SectionIndex>) {
-    let places = retained_sections(&data).unwrap_or_default();
-    if places.is_empty() {
-        return (data, Vec::new());
-    }
-    let mut changed = data.to_vec();
-    let mut retained = Vec::with_capacity(places.len());
-    for (index, at, flags) in places {
-        if let Some(field) = changed.get_mut(at..at + 8) {
-            field.copy_from_slice(&(flags & !SectionFlags::GNU_RETAIN.0).to_le_bytes());
-            retained.push(index);
-        }
-    }
-    (changed.into(), retained)
+/// An object's bytes as `ldi` takes them, and what was taken out.
+#[derive(Clone, Debug, Default)]
+pub(super) struct Profiled {
+    /// The bytes.
+    pub(super) data: Bytes,
+    /// Flags that `ldi` need not know and that the layout goes by: SHF_GROUP and SHF_LINK_ORDER; ascending.
+    pub(super) cleared: Vec<(SectionIndex, SectionFlags)>,
+    /// The sections that had SHF_GNU_RETAIN.
+    pub(super) retained: Vec<SectionIndex>,
+    /// Where references by a global offset table became others: section and offset, in the order of the tables.
+    pub(super) relaxed: Vec<(SectionIndex, u64)>,
+    /// The references that need a table.
+    pub(super) tabled: Vec<Tabled>,
+    /// The symbols that had the binding STB_GNU_UNIQUE, ascending.
+    pub(super) unique: Vec<SymbolIndex>,
 }
 
-/// Where the flags are of each section with SHF_GNU_RETAIN, and what they are.
-fn retained_sections(data: &[u8]) -> Option<Vec<(SectionIndex, usize, u64)>> {
-    const OSABI_AT: usize = 7;
-    const GNU: u8 = 3;
-    const FREEBSD: u8 = 9;
-    const FLAGS_AT: usize = 8;
-    if !data.starts_with(b"\x7fELF\x02\x01") || !matches!(data.get(OSABI_AT), Some(&GNU | &FREEBSD)) {
-        return None;
+impl Profiled {
+    /// Takes out of an object what `ldi` need not know: flags of sections, STB_GNU_UNIQUE (a name is one in an image), and
+    /// references by a global offset table where none is needed.
+    pub(super) fn of(data: Bytes) -> Profiled {
+        let mut found = Profiled { data: data.clone(), ..Profiled::default() };
+        let headers = match Headers::of(&data) {
+            Some(headers) => headers,
+            None => return found,
+        };
+        let mut draft = Draft::new(data.clone());
+        let is_of_system = data.get(SYSTEM_AT).map_or(false, |system| SYSTEMS.contains(system));
+        for (number, header) in headers.iter() {
+            let flags = SectionFlags(header.sh_flags(Little));
+            if flags.has(SectionFlags::ALLOC) {
+                found.clear(&mut draft, headers, number, flags, is_of_system);
+            }
+            match header.sh_type(Little) {
+                elf::SHT_RELA => found.relax(&mut draft, headers, header),
+                elf::SHT_SYMTAB if is_of_system => found.unique = take_unique(&mut draft, headers, header),
+                _ => {}
+            }
+        }
+        found.data = draft.finish();
+        found
     }
-    let header = FileHeader64::<Little>::parse(data).ok()?;
-    let headers = header.section_headers(Little, data).ok()?;
-    let begin = header.e_shoff(Little) as usize;
-    let found = headers.iter().enumerate().filter_map(|(index, section)| {
-        let flags = section.sh_flags(Little);
-        let at = begin + index * std::mem::size_of::<SectionHeader64<Little>>() + FLAGS_AT;
-        (flags & SectionFlags::GNU_RETAIN.0 != 0).then_some((SectionIndex(index as u32), at, flags))
-    });
-    Some(found.collect())
+
+    /// Takes flags out of a section.
+    fn clear(
+        &mut self,
+        draft: &mut Draft,
+        headers: Headers<'_>,
+        number: SectionIndex,
+        flags: SectionFlags,
+        is_of_system: bool,
+    ) {
+        let retain = if is_of_system { SectionFlags::GNU_RETAIN.0 } else { 0 };
+        let cleared = flags.0 & (SectionFlags::GROUP.0 | SectionFlags::LINK_ORDER.0);
+        if flags.0 & retain != 0 {
+            self.retained.push(number);
+        }
+        if cleared != 0 {
+            self.cleared.push((number, SectionFlags(cleared)));
+        }
+        if cleared | flags.0 & retain != 0 {
+            headers.put_flags(draft, number, flags.0 & !(cleared | retain));
+        }
+    }
+
+    /// Relaxes what a table of relocations has of a section that is loaded.
+    fn relax(&mut self, draft: &mut Draft, headers: Headers<'_>, table: &SectionHeader64<Little>) {
+        let number = SectionIndex(table.sh_info(Little));
+        let section = match headers.get(number) {
+            Some(section) if SectionFlags(section.sh_flags(Little)).has(SectionFlags::ALLOC) => section,
+            _ => return,
+        };
+        let (entries_at, entries) = headers.relocations(table);
+        let mut places = entries.iter().enumerate().filter(|(_, entry)| wants_table(kind_of(entry))).peekable();
+        if places.peek().is_none() {
+            return;
+        }
+        let (code_at, code) = headers.contents(section);
+        let symbols = headers.get(SectionIndex(table.sh_link(Little))).map_or(&[][..], |one| headers.symbols(one).1);
+        for (index, entry) in places {
+            let reference = Reference {
+                offset: entry.r_offset.get(Little),
+                kind: kind_of(entry),
+                addend: entry.r_addend.get(Little),
+                symbol: referred(symbols, entry),
+            };
+            let at = entries_at + index * std::mem::size_of::<Rela64<Little>>();
+            let relaxed = match relaxed(code, reference) {
+                Some(relaxed) => relaxed,
+                None => {
+                    self.tabled.extend(tabled(number, at, entry));
+                    continue;
+                }
+            };
+            draft.put(at, &relaxed.offset.to_le_bytes());
+            draft.put(at + TYPE_AT, &relaxed.kind.to_le_bytes());
+            draft.put(at + ADDEND_AT, &relaxed.addend.to_le_bytes());
+            for (place, byte) in relaxed.bytes {
+                draft.put(code_at + place as usize, &[byte]);
+            }
+            self.relaxed.push((number, relaxed.offset));
+        }
+    }
+}
+
+fn kind_of(entry: &Rela64<Little>) -> u32 {
+    entry.r_info.get(Little) as u32
+}
+
+/// What an object says of the symbol of a relocation.
+fn referred(symbols: &[Sym64<Little>], entry: &Rela64<Little>) -> Referred {
+    let number = (entry.r_info.get(Little) >> 32) as usize;
+    let symbol = match symbols.get(number) {
+        Some(symbol) if number > 0 => symbol,
+        _ => return Referred::ByTableAlone,
+    };
+    let is_local = symbol.st_info >> 4 == elf::STB_LOCAL;
+    match symbol.st_shndx.get(Little) {
+        _ if symbol.st_info & 15 == elf::STT_GNU_IFUNC => Referred::ByTableAlone,
+        elf::SHN_UNDEF if is_local => Referred::ByTableAlone,
+        elf::SHN_ABS => Referred::Number(symbol.st_value.get(Little)),
+        _ => Referred::Other,
+    }
+}
+
+/// Makes symbols that the dynamic linker is to know as one global; gives them.
+fn take_unique(draft: &mut Draft, headers: Headers<'_>, table: &SectionHeader64<Little>) -> Vec<SymbolIndex> {
+    let (begin, symbols) = headers.symbols(table);
+    let mut unique = Vec::new();
+    for (index, symbol) in symbols.iter().enumerate().filter(|(_, one)| one.st_info >> 4 == elf::STB_GNU_UNIQUE) {
+        let at = begin + index * std::mem::size_of::<Sym64<Little>>() + INFO_AT;
+        draft.put(at, &[elf::STB_GLOBAL << 4 | symbol.st_info & 15]);
+        unique.push(SymbolIndex(index as u32));
+    }
+    unique
 }
 
 /// The bytes of an object whose sections of these numbers have SHF_ALLOC, without flags that `ldi` does not link; `None`

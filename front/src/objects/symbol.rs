@@ -2,6 +2,7 @@
 
 use super::SectionIndex;
 use bstr::BStr;
+use object::elf;
 
 /// The number of a symbol in the table of its object; 0 is no symbol.
 #[derive(Clone, Copy, PartialEq, Eq, PartialOrd, Ord, Hash, Debug, Default)]
@@ -52,6 +53,16 @@ impl Visibility {
             1 => Visibility::Internal,
             2 => Visibility::Hidden,
             _ => Visibility::Protected,
+        }
+    }
+
+    /// The number in `st_other`.
+    pub fn number(self) -> u8 {
+        match self {
+            Visibility::Default => elf::STV_DEFAULT,
+            Visibility::Internal => elf::STV_INTERNAL,
+            Visibility::Hidden => elf::STV_HIDDEN,
+            Visibility::Protected => elf::STV_PROTECTED,
         }
     }
 

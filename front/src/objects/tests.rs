@@ -79,6 +79,13 @@ pub(crate) fn code(symbols: &[WrittenSymbol]) -> Vec<u8> {
     object(&[WrittenSection { name: ".text", kind: 1, flags: 6, data: b"\x90\xc3" }], symbols, &[])
 }
 
+/// An object that reads a name by a global offset table, by an instruction that needs none.
+pub(crate) fn got_object(name: &str) -> Object {
+    let text = WrittenSection { name: ".text", kind: 1, flags: 6, data: b"\x48\x8b\x05\0\0\0\0" };
+    let reference = Relocation { offset: 3, kind: 42, symbol: SymbolIndex(1), addend: -4 };
+    named(name, object(&[text], &[("g", 1, 0, 0, 0)], &[reference]))
+}
+
 fn parsed(data: Vec<u8>) -> Elf {
     Elf::parse(data.into()).unwrap()
 }
@@ -271,6 +278,26 @@ fn a_retained_section_loses_its_flag_in_files_of_gnu_alone() {
     assert_eq!(changed.retained(), [SectionIndex(1)]);
     assert_eq!(changed.section(SectionIndex(1)).unwrap().flags, SectionFlags(3));
     assert_eq!(changed.data().len(), data.len());
+}
+
+/// psABI, B.2: an object is sent as GNU ld would relax it.
+#[test]
+fn references_by_a_table_are_relaxed() {
+    let object = got_object("a.o");
+    assert_eq!(object.contents(SectionIndex(1)), b"\x48\xc7\xc0\0\0\0\0");
+    let found: Vec<_> = object.relocations(SectionIndex(1)).collect();
+    assert_eq!(found, [Relocation { offset: 3, kind: 11, symbol: SymbolIndex(1), addend: 0 }]);
+    assert!(object.has_relaxed() && object.is_relaxed(SectionIndex(1), 3) && !object.is_relaxed(SectionIndex(1), 2));
+}
+
+/// elflink.c, `elf_link_add_object_symbols`: STB_GNU_UNIQUE, which counts in files of the system GNU.
+#[test]
+fn a_name_that_is_unique_is_global() {
+    let mut data =
+        object(&[WrittenSection { name: ".data", kind: 1, flags: 3, data: b"x" }], &[("u", 10, 1, 0, 1)], &[]);
+    assert_eq!(named("a.o", data.clone()).globals().next().unwrap().binding, Binding::Other(10));
+    data[7] = 3;
+    assert_eq!(named("a.o", data).globals().next().unwrap().binding, Binding::Global);
 }
 
 #[test]

@@ -5,7 +5,9 @@ use bstr::ByteSlice;
 use super::messages;
 use super::verdict::Verdict;
 use crate::command::{Command, Leniency, Orphans};
-use crate::layout::Stop;
+use crate::layout::evaluation::Fate;
+use crate::layout::{Flags, Stop};
+use crate::objects::{Binding, Home, LinkNames, Object, ObjectIndex, SectionIndex, SymbolIndex};
 use crate::plan::LinkPlan;
 use crate::report::rules::FaultRule;
 use crate::report::{fault_lines, FaultLine, Value};
@@ -28,6 +30,9 @@ pub(crate) fn of_what_is_left(plan: &LinkPlan) -> Option<String> {
 pub(crate) fn of_faults(command: &Command, plan: &LinkPlan, faults: &[u8]) -> Option<String> {
     let stops = matches!(plan.evaluation, Err(Stop::Refused(_)));
     let is_own = |line: FaultLine<'_>| match &line.fault {
+        // GNU ld has an entry of a table where a number does not fit.
+        Some((FaultRule::FieldOverflow, words)) => !is_in_relaxed(plan, words),
+        Some((FaultRule::TargetNotInOutput, words)) if is_placed(command, plan, words) => false,
         Some((rule, words)) => is_own(*rule, words, command, stops),
         None => true,
     };
@@ -36,6 +41,49 @@ pub(crate) fn of_faults(command: &Command, plan: &LinkPlan, faults: &[u8]) -> Op
     }
     let sentences = messages::of_faults(command, plan, faults, None);
     first(sentences.iter().map(|diagnostic| diagnostic.message()).collect())
+}
+
+/// Whether GNU ld places the section that a reference is to: one that no statement takes, empty or not.
+fn is_placed(command: &Command, plan: &LinkPlan, words: &[Value<'_>]) -> bool {
+    let (name, number) = match (words.first(), words.get(3)) {
+        (Some(Value::Name(name)), Some(Value::Number(number))) => (*name, *number),
+        _ => return false,
+    };
+    let target = target_of(plan.inputs.objects(), name, SymbolIndex(number as u32));
+    let places = matches!(command.orphans, None | Some(Orphans::Place | Orphans::Warn));
+    let is_here = |(object, section): (ObjectIndex, SectionIndex)| {
+        let sections = plan.evaluation.iter().flat_map(|evaluation| &evaluation.sections);
+        let mut found = sections.filter(|one| one.object == object && one.number() == Some(section));
+        found.any(|one| one.fate != Fate::Discarded && !one.flags.has(Flags::EXCLUDE))
+    };
+    places && target.map_or(false, is_here)
+}
+
+/// The section that a symbol of an object is in, or that which has the definition of its name.
+fn target_of(objects: &[Object], object: &[u8], symbol: SymbolIndex) -> Option<(ObjectIndex, SectionIndex)> {
+    let (place, object) = objects.iter().enumerate().find(|(_, one)| one.name() == object)?;
+    let symbol = object.symbol(symbol)?;
+    let (place, home) = match symbol.binding {
+        Binding::Local => (ObjectIndex(place as u32), symbol.home),
+        _ => {
+            let known = LinkNames::look_up(objects, [symbol.name]);
+            let definition = known.definition(symbol.name)?;
+            (definition.object, definition.home)
+        }
+    };
+    match home {
+        Home::Section(section) => Some((place, section)),
+        _ => None,
+    }
+}
+
+/// Whether a fault is one of an object with references that went by a table.
+fn is_in_relaxed(plan: &LinkPlan, words: &[Value<'_>]) -> bool {
+    let name = match words.first() {
+        Some(Value::Name(name)) => *name,
+        _ => return false,
+    };
+    plan.inputs.objects().iter().any(|object| object.name() == name && object.has_relaxed())
 }
 
 /// Why GNU ld may make a link whose image would be another than GNU ld's; of a flat one nothing shows what is changed.
@@ -108,6 +156,9 @@ fn leniency(rule: FaultRule) -> Option<Leniency> {
 #[cfg(test)]
 mod tests {
     use super::*;
+    use crate::objects::tests::{code, WrittenSymbol};
+    use crate::objects::Origin;
+    use std::path::Path;
 
     fn own(line: &[u8], command: &Command, stops: bool) -> Vec<bool> {
         let of = |line: FaultLine<'_>| line.fault.map_or(true, |(rule, words)| is_own(rule, &words, command, stops));
@@ -151,6 +202,20 @@ mod tests {
         let lines = b"F12 a.o .text 0000000000000001 __ehdr_start\nF13 a.o .eh_frame 0000000000000020 3\n\
             F13 a.o .text 0000000000000020 3\nF13 entry\nF2 nothing\n";
         assert_eq!(own(lines, &Command::default(), false), [false, false, true, false, false]);
+    }
+
+    /// elflink.c: what refers to a section refers to that of the definition.
+    #[test]
+    fn a_reference_leads_to_the_section_of_a_definition() {
+        let home = |number| Some((ObjectIndex(number), SectionIndex(1)));
+        let object = |name: &str, symbols: &[WrittenSymbol<'_>]| {
+            Object::new(name.into(), Origin::of_file(Path::new(name)), code(symbols).into())
+        };
+        let objects = [object("a.o", &[("x", 1, 0, 0, 0), ("own", 0, 1, 0, 0)]), object("b.o", &[("x", 1, 1, 0, 0)])];
+        assert_eq!(target_of(&objects, b"a.o", SymbolIndex(1)), home(1));
+        assert_eq!(target_of(&objects, b"a.o", SymbolIndex(2)), home(0));
+        assert_eq!(target_of(&objects, b"a.o", SymbolIndex(3)), None);
+        assert_eq!(target_of(&objects, b"c.o", SymbolIndex(1)), None);
     }
 
     #[test]

@@ -8,16 +8,20 @@ use bstr::{BStr, ByteSlice};
 
 use super::fallback::Reasons;
 use super::host::{Asked, Host};
-use super::{another, messages, say, tables, verdict};
+use super::identified::{file_of, FileFault};
+use super::verdict::Verdict;
+use super::{another, maps, messages, orphans, say, tables, verdict};
 use crate::checker::NoImage;
 use crate::command::Command;
-use crate::finish::{finish, FileImage, FinishError};
+use crate::finish::LaidOut;
+use crate::finish::{FileImage, FinishError};
 use crate::inputs::InputFault;
 use crate::layout::stop::RefusedReason;
 use crate::layout::Stop;
-use crate::mirror::{Brought, Mirror, SessionError, Wanted};
+use crate::mirror::{Brought, Held, Mirror, Options, SessionError, Wanted};
 use crate::place::{NotWritten, PROGRAM, TEXT};
 use crate::plan::{find_program, options_of, Inputs, LinkPlan, PlanFault, Scripts, ScriptsFault};
+use crate::report::link_map::LinkMap;
 use crate::residual::{Note, NoteKind, Topic};
 use crate::script::tree::{Script, SectionsStatement, Statement};
 use crate::snapshot::Snapshot;
@@ -107,6 +111,8 @@ pub(crate) struct Planned {
     pub(crate) command: Command,
     /// The plan.
     pub(crate) plan: LinkPlan,
+    /// What came of the comparison of its last image; it is the same for objects that are alike.
+    pub(crate) verdict: Option<Verdict>,
 }
 
 /// Reads the inputs and plans the link, while the session takes the objects.
@@ -117,31 +123,36 @@ pub(crate) fn plan_link(
     mirror: &mut Mirror,
     asked: &Asked<'_>,
 ) -> Result<Planned, LinkFault> {
+    if mirror.session().is_none() {
+        // It gets ready while the objects are read; where it cannot be started, that is said once they are.
+        let _ = mirror.start(&options_of(&command, None));
+    }
     let inputs = Inputs::load(&command, scripts, snapshot)?;
     if let (Some(output), false) = (inputs.scripts.output(), command.has_output) {
         command.output = PathBuf::from(OsStr::from_bytes(output));
     }
     if command.traces {
-        inputs.held.iter().for_each(|held| println!("{}", held.name));
+        inputs.loaded.objects.iter().for_each(|object| println!("{}", object.name()));
     }
     check_outputs(&command, snapshot)?;
     let plan = opened(&command, inputs, mirror).map_err(|fault| session_fault(fault, asked))?;
-    Ok(Planned { command, plan })
+    Ok(Planned { command, plan, verdict: None })
 }
 
 /// Links what is planned, and gives the exit status.
 pub(crate) fn make(
-    planned: &Planned,
+    planned: &mut Planned,
     mirror: &mut Mirror,
     asked: Asked<'_>,
     host: &dyn Host,
 ) -> Result<Status, LinkFault> {
     let session = |fault| session_fault(fault, &asked);
-    let Planned { command, plan } = planned;
-    let link = Link { command, plan, asked, host };
-    if plan.residual.is_left() {
+    let Planned { command, plan, verdict } = planned;
+    let link = Link { command, plan, known: verdict, asked, host };
+    if link.plan.residual.is_left() {
         return link.left(mirror).map_err(session);
     }
+    let plan = &*link.plan;
     let wanted = Wanted { options: &plan.options, objects: plan.held(), script: &plan.residual.text };
     let brought = mirror.bring(wanted).map_err(session)?;
     match link.not_good(&brought, mirror).map_err(session)? {
@@ -154,15 +165,40 @@ fn session_fault(fault: SessionError, asked: &Asked<'_>) -> LinkFault {
     LinkFault::Session { program: find_program("ldi", asked.environment).to_string_lossy().into_owned(), fault }
 }
 
-/// The plan, made while the session takes the objects.
+/// The plan, made while the session takes the objects; one that has objects gets others when the plan is made.
 fn opened(command: &Command, inputs: Inputs, mirror: &mut Mirror) -> Result<LinkPlan, SessionError> {
-    let held = inputs.held.clone();
+    if mirror.has_objects() {
+        return Ok(LinkPlan::new(command, inputs));
+    }
+    plan_while_sending(command, inputs, mirror)
+}
+
+/// A plan that is made while a session takes the objects: first those that are sent as they were read, whatever the layout
+/// is, then the others.
+pub(crate) fn plan_while_sending(
+    command: &Command,
+    inputs: Inputs,
+    mirror: &mut Mirror,
+) -> Result<LinkPlan, SessionError> {
     let options = options_of(command, None);
+    let settled = inputs.settled();
+    let begun = while_sending(mirror, &options, &settled, || LinkPlan::begin(command, inputs))?;
+    let held = begun.held().to_vec();
+    while_sending(mirror, &options, &held, || LinkPlan::finish(command, begun))
+}
+
+/// Does something while a session takes objects.
+fn while_sending<T>(
+    mirror: &mut Mirror,
+    options: &Options,
+    objects: &[Held],
+    act: impl FnOnce() -> T,
+) -> Result<T, SessionError> {
     std::thread::scope(|scope| {
-        let sending = scope.spawn(|| mirror.prepare(&options, &held));
-        let plan = LinkPlan::new(command, inputs);
+        let sending = scope.spawn(|| mirror.prepare(options, objects));
+        let done = act();
         match sending.join() {
-            Ok(sent) => sent.map(|()| plan),
+            Ok(sent) => sent.map(|()| done),
             Err(_) => Err(SessionError::Ended),
         }
     })
@@ -171,7 +207,9 @@ fn opened(command: &Command, inputs: Inputs, mirror: &mut Mirror) -> Result<Link
 /// A link whose plan is made.
 struct Link<'a> {
     command: &'a Command,
-    plan: &'a LinkPlan,
+    plan: &'a mut LinkPlan,
+    /// What came of the comparison, where an image of the plan was compared before.
+    known: &'a mut Option<Verdict>,
     asked: Asked<'a>,
     host: &'a dyn Host,
 }
@@ -304,17 +342,20 @@ impl Link<'_> {
     }
 
     /// Writes the files of a good link.
-    fn good(&self, mirror: &mut Mirror, session: &dyn Fn(SessionError) -> LinkFault) -> Result<Status, LinkFault> {
+    fn good(self, mirror: &mut Mirror, session: &dyn Fn(SessionError) -> LinkFault) -> Result<Status, LinkFault> {
         let command = self.command;
         let image = mirror.image().map_err(session)?;
         let tables = command.prints_memory_usage || command.collects_sections && command.prints_collected;
-        let is_compared = verdict::wants_map(self.plan, command.collects_sections);
-        let wants_map = command.map_file.is_some() || command.prints_map || tables || is_compared;
+        let known = self.known.take();
+        let is_compared = known.is_none() && verdict::wants_map(self.plan, command.collects_sections);
+        let may_differ = known.as_ref().map_or_else(|| self.plan.may_differ(), |known| !known.agrees);
+        let wants_map = command.map_file.is_some() || command.prints_map || tables || is_compared || may_differ;
         let map = if wants_map { mirror.map().map_err(session)? } else { Vec::new() };
-        if !self.host.keeps_session() {
-            mirror.end();
+        if !self.host.keeps_session() && self.plan.inputs.identity().is_none() {
+            mirror.dismiss();
         }
-        let verdict = verdict::verdict(self.plan, &image, if is_compared { &map } else { b"" }, command.is_verbose)?;
+        let compare = || verdict::verdict(self.plan, &image, if is_compared { &map } else { b"" }, command.is_verbose);
+        let verdict = known.map_or_else(compare, Ok)?;
         if let Some(why) = another::of_verdict(self.plan, &verdict) {
             let say = || self.say_verdict(&verdict);
             return Ok(self.no_image(Some(why), &say, Status::Faults));
@@ -323,19 +364,39 @@ impl Link<'_> {
         if !verdict.prohibited.is_empty() {
             return Ok(Status::Faults);
         }
-        let finished = finish(image, &self.plan.form).map_err(LinkFault::Form)?;
+        let pieces = if verdict.agrees { None } else { LinkMap::read(&map).ok() };
+        let finished = match file_of(self.plan, image, LaidOut::of(verdict.agrees, pieces.as_ref()), mirror) {
+            Ok(finished) => finished,
+            Err(FileFault::Form(fault @ (FinishError::NoHeaders(_) | FinishError::NoTable(_)))) => {
+                let why = format!("{}: {fault}", self.path());
+                return Ok(self.no_image(Some(why.clone()), &|| say(&why), Status::Faults));
+            }
+            Err(FileFault::Form(fault)) => return Err(LinkFault::Form(fault)),
+            Err(FileFault::Session(fault)) => return Err(session(fault)),
+            Err(FileFault::NotMade(fault)) => {
+                let why = fault.to_string();
+                return Ok(self.no_image(Some(why.clone()), &|| say(&why), Status::Refused));
+            }
+        };
+        if !self.host.keeps_session() {
+            mirror.dismiss();
+        }
         for note in &finished.notes {
             say(format!("{}: {note}", self.path()));
         }
-        self.write_map(&map)?;
+        self.write_map(&map, verdict.agrees)?;
         self.write_image(&finished.file)?;
         self.write_dependencies()?;
         self.print_tables(&map);
+        if self.host.keeps_session() {
+            mirror.reuse(finished.file.into_image());
+        }
+        *self.known = Some(verdict);
         Ok(Status::Good)
     }
 
     /// Says what came of the comparison with GNU ld's image.
-    fn say_verdict(&self, verdict: &verdict::Verdict) {
+    fn say_verdict(&self, verdict: &Verdict) {
         self.report();
         verdict.lines.iter().for_each(|line| eprintln!("{line}"));
         self.notes();
@@ -352,8 +413,18 @@ impl Link<'_> {
         self.host.write(&self.command.output, &pieces_of(file, &zeros), PROGRAM).map_err(LinkFault::NotWritten)
     }
 
-    fn write_map(&self, map: &[u8]) -> Result<(), LinkFault> {
+    fn write_map(&self, map: &[u8], agrees: bool) -> Result<(), LinkFault> {
         let path = map_path(self.command);
+        let (own, references) = maps::of(self.command, self.plan, agrees);
+        let has_map = path.is_some() || self.command.prints_map;
+        if has_map && !self.command.has_own_map && own.is_none() {
+            say(format!("{}: the image is laid out otherwise than GNU ld's: the map is that of ldi", self.path()));
+        }
+        let map = own.unwrap_or_else(|| map.to_owned());
+        let map: &[u8] = &[map, references.clone()].concat();
+        if !has_map {
+            streams::print(Stream::Output, &references);
+        }
         let is_printed = path.as_deref() == Some(Path::new("-"));
         if self.command.prints_map || is_printed {
             streams::print(Stream::Output, map);
@@ -390,7 +461,8 @@ impl Link<'_> {
 
     fn print_tables(&self, map: &[u8]) {
         if self.command.collects_sections && self.command.prints_collected {
-            tables::removed_sections(self.plan.inputs.objects(), map).iter().for_each(say);
+            let merges = self.plan.evaluation.as_ref().ok().map(|evaluation| &*evaluation.merges);
+            tables::removed_sections(self.plan.inputs.objects(), merges, map).iter().for_each(say);
         }
         if self.command.prints_memory_usage {
             if let Ok(evaluation) = &self.plan.evaluation {
@@ -403,9 +475,14 @@ impl Link<'_> {
 /// Options and inputs of which something is said.
 pub(crate) fn notes_of(command: &Command, plan: &LinkPlan) -> Vec<String> {
     let script = &plan.inputs.scripts.reading.script;
-    let absent = command.section_starts.keys().filter(|name| !has_section(script, name));
+    let is_placed = |name: &[u8]| {
+        let mut outputs = plan.evaluation.iter().flat_map(|evaluation| evaluation.in_image());
+        outputs.any(|(output, _)| output.name == name)
+    };
+    let absent = command.section_starts.keys().filter(|name| !has_section(script, name) && !is_placed(name));
     let absent = absent.map(|section| format!("the address of {section}: the script has no such section"));
-    command.notes.iter().cloned().chain(absent).collect()
+    let placed = orphans::warnings(command, plan);
+    command.notes.iter().cloned().chain(absent).chain(plan.inputs.without_identity()).chain(placed).collect()
 }
 
 /// Why a symbol has no value, where its section is not in the image.

@@ -5,8 +5,11 @@ mod ask;
 mod builds;
 mod fallback;
 mod host;
+mod identified;
 mod link;
+mod maps;
 pub(crate) mod messages;
+mod orphans;
 mod tables;
 pub(crate) mod verdict;
 
@@ -23,8 +26,9 @@ use crate::snapshot::Snapshot;
 pub(crate) use fallback::{HandedOver, Reasons};
 use host::Alone;
 pub(crate) use host::{Asked, Host};
+pub(crate) use identified::{file_of, FileFault};
 use link::plan_link;
-pub(crate) use link::{make, notes_of, pieces_of, section_outside, zeros_of, Planned};
+pub(crate) use link::{make, notes_of, pieces_of, plan_while_sending, section_outside, zeros_of, Planned};
 pub use link::{LinkFault, Status};
 
 /// A line for people.
@@ -42,7 +46,11 @@ pub fn main(words: &[OsString]) -> u8 {
 fn by_itself(words: &[OsString], environment: &Environment) -> u8 {
     let mut mirror = Mirror::new(find_program("ldi", environment), None);
     let asked = Asked { words, environment, is_verbose: false };
-    said(run(asked, &mut Snapshot::new(), &mut mirror, &Alone)).0 as u8
+    let mut snapshot = Snapshot::new();
+    let Done(status, planned) = said(run(asked, &mut snapshot, &mut mirror, &Alone));
+    // The process ends, by which its memory is given back at once.
+    std::mem::forget((planned, snapshot));
+    status as u8
 }
 
 /// Says why a link ended, where it did; gives its status, and the plan that it went by.
@@ -143,8 +151,8 @@ fn run_command(
         return Ok(Status::Refused.into());
     }
     ask::print(&command, Some(&scripts), environment);
-    let planned = plan_link(command, scripts, snapshot, mirror, &asked)?;
-    let status = make(&planned, mirror, asked, host)?;
+    let mut planned = plan_link(command, scripts, snapshot, mirror, &asked)?;
+    let status = make(&mut planned, mirror, asked, host)?;
     Ok(Done(status, Some(planned)))
 }
 

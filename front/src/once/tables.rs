@@ -4,8 +4,8 @@ use std::collections::HashMap;
 
 use bstr::ByteSlice;
 
-use crate::layout::Evaluation;
-use crate::objects::{Object, SectionKind};
+use crate::layout::{Evaluation, Merges};
+use crate::objects::{Object, ObjectIndex, SectionKind};
 
 /// The name of the region that no script names.
 const DEFAULT_REGION: &str = "*default*";
@@ -40,7 +40,7 @@ pub(super) fn memory_usage(evaluation: &Evaluation) -> String {
 }
 
 /// A line for each section that is not in the output, of those that are not empty.
-pub(super) fn removed_sections(objects: &[Object], map: &[u8]) -> Vec<String> {
+pub(super) fn removed_sections(objects: &[Object], merges: Option<&Merges>, map: &[u8]) -> Vec<String> {
     let mut placed: HashMap<(Vec<u8>, Vec<u8>, u64), usize> = HashMap::new();
     for line in map.lines() {
         let words: Vec<&[u8]> = line.split_str(" ").collect();
@@ -50,9 +50,11 @@ pub(super) fn removed_sections(objects: &[Object], map: &[u8]) -> Vec<String> {
         }
     }
     let mut lines = Vec::new();
-    for object in objects {
+    for (number, object) in objects.iter().enumerate() {
+        let own = |section| merges.and_then(|merges| merges.own(ObjectIndex(number as u32), section));
         let sections = object.sections().filter(|one| one.flags.has(crate::objects::SectionFlags::ALLOC));
-        for section in sections.filter(|one| one.size > 0 && one.kind != SectionKind::NOTE) {
+        for section in sections.filter(|one| one.size > 0 && one.kind != SectionKind::NOTE && own(one.index).is_none())
+        {
             let key = (object.name().to_vec(), section.name.to_vec(), section.size);
             match placed.get_mut(&key).filter(|count| **count > 0) {
                 Some(count) => *count -= 1,

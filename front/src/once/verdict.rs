@@ -18,6 +18,8 @@ pub(crate) struct Verdict {
     pub(crate) lines: Vec<String>,
     /// Whether the image is another than GNU ld's, and nothing that is said explains it: then none is written.
     pub(crate) differs: bool,
+    /// Whether the image is laid out as was evaluated.
+    pub(crate) agrees: bool,
     /// The references that NOCROSSREFS prohibits: then none is written either.
     pub(crate) prohibited: Vec<Prohibited>,
 }
@@ -44,16 +46,21 @@ pub(crate) fn verdict(plan: &LinkPlan, image: &[u8], map: &[u8], is_verbose: boo
     } else {
         different(plan, &checked, is_verbose)
     };
+    verdict.agrees = checked.differences.is_empty();
     let inputs = &plan.inputs;
     verdict.prohibited = prohibited(&inputs.scripts.reading.script, inputs.objects(), evaluation);
     if !verdict.differs {
-        for one in &checked.not_loaded {
+        for one in checked.not_loaded.iter().filter(|one| plan.form.is_flat || one.is_memory_by_name) {
             let kind = match kind_of(plan, one.span) {
                 Some(kind) => kind,
                 None => continue,
             };
-            let what = format!("{kind} of {}: its {:#x} bytes are not in the image", one.name, one.size);
-            verdict.lines.push(line(plan, one.span, &format!("changed: {what}; GNU ld's has them, not loaded")));
+            let (here, there) = match plan.form.is_flat {
+                true => ("are not in the image", "GNU ld's has them, not loaded"),
+                false => ("are in no segment", "a segment of GNU ld's has their addresses"),
+            };
+            let what = format!("changed: {kind} of {}: its {:#x} bytes {here}; {there}", one.name, one.size);
+            verdict.lines.push(line(plan, one.span, &what));
         }
         for one in &checked.merged {
             verdict.lines.push(line(plan, one.span, &format!("changed: {one}")));

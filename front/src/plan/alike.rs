@@ -11,6 +11,14 @@ use crate::snapshot::Snapshot;
 const UNWINDING: &[u8] = b".eh_frame";
 
 impl LinkPlan {
+    /// Of the files that were written anew, those by which this may be another link: not a thin archive that lists the same
+    /// members as before, which are looked at by themselves.
+    pub fn take_lists(&mut self, snapshot: &Snapshot, changed: &[PathBuf]) -> Vec<PathBuf> {
+        let loaded = &mut self.inputs.loaded;
+        let mut is_list = |path: &PathBuf| snapshot.seen(path).map_or(false, |seen| loaded.take_list(path, &seen.data));
+        changed.iter().filter(|path| !is_list(path)).cloned().collect()
+    }
+
     /// Takes other bytes of files that are objects and say the same of names, sections and relocations as before: with
     /// these the plan is the same but for what the session holds. Nothing is taken where one is another.
     pub fn take_alike(&mut self, snapshot: &Snapshot, changed: &[PathBuf]) -> bool {
@@ -26,7 +34,11 @@ impl LinkPlan {
                     Some(old) => old,
                     None => return false,
                 };
-                let new = Object::new(old.name().to_owned(), old.origin().clone(), data.clone());
+                let new = self.inputs.loaded.object_of(old, data.clone());
+                let new = match self.inputs.loaded.in_its_place(place, new) {
+                    Some(new) => new,
+                    None => return false,
+                };
                 let is_alike = new.fault().is_none() && old.fault().is_none() && new.retained() == old.retained();
                 if !is_alike || !are_alike(old.elf(), new.elf()) {
                     return false;
@@ -38,7 +50,7 @@ impl LinkPlan {
             }
         }
         for (place, new) in taken {
-            self.inputs.loaded.put(place, new);
+            self.put(place, new);
         }
         self.hold_again();
         true

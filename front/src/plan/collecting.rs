@@ -3,14 +3,13 @@
 //! For `ldi` the entry symbol's section and those under KEEP are roots, and each relocation is a reference
 //! (docs/layout.md, 'Gathering'). GNU ld has more of both.
 
-use std::collections::HashMap;
-
 use bstr::{BStr, ByteSlice};
 
 use crate::layout::evaluation::{InputSection, Origin, StatementKind};
 use crate::layout::ids::SectionId;
 use crate::layout::{Evaluation, Flags};
 use crate::objects::{Binding, Home, Object, Rank, SectionIndex, Symbol};
+use crate::quick::QuickMap;
 use crate::script::tree::{InputStatement, Name, Script, SectionStatement, SectionsStatement, Span, Statement};
 
 /// Where a reference leads: a section of an object, or its common blocks.
@@ -81,16 +80,16 @@ fn kept_statements(script: &Script) -> impl Iterator<Item = (&InputStatement, Sp
 struct Reach<'a> {
     objects: &'a [Object],
     /// By name: where its definition is, where it is in a section.
-    definitions: HashMap<&'a BStr, Part>,
+    definitions: QuickMap<&'a BStr, Part>,
     /// The sections that may be reached: those that are linked, also where GNU ld leaves them out as unused.
-    linked: HashMap<Part, SectionId>,
-    reached: HashMap<Part, ()>,
+    linked: QuickMap<Part, SectionId>,
+    reached: QuickMap<Part, ()>,
     waiting: Vec<Part>,
 }
 
 impl<'a> Reach<'a> {
     fn new(objects: &'a [Object], evaluation: &Evaluation) -> Reach<'a> {
-        let mut linked = HashMap::new();
+        let mut linked = QuickMap::default();
         for (index, section) in evaluation.sections.iter().enumerate() {
             let may_stay = section.output().is_some() || section.flags.has(Flags::EXCLUDE);
             if may_stay && !section.flags.has(Flags::CREATED) {
@@ -98,7 +97,7 @@ impl<'a> Reach<'a> {
             }
         }
         let definitions = definitions(objects, evaluation);
-        Reach { objects, definitions, linked, reached: HashMap::new(), waiting: Vec::new() }
+        Reach { objects, definitions, linked, reached: QuickMap::default(), waiting: Vec::new() }
     }
 
     fn add(&mut self, part: Part) {
@@ -137,8 +136,8 @@ impl<'a> Reach<'a> {
 }
 
 /// Where the names of a link are defined, of those that the script does not assign (docs/manual.md, 'Names').
-pub(super) fn definitions<'a>(objects: &'a [Object], evaluation: &Evaluation) -> HashMap<&'a BStr, Part> {
-    let mut found: HashMap<&'a BStr, (Rank, Part)> = HashMap::new();
+pub(super) fn definitions<'a>(objects: &'a [Object], evaluation: &Evaluation) -> QuickMap<&'a BStr, Part> {
+    let mut found: QuickMap<&'a BStr, (Rank, Part)> = QuickMap::default();
     for (number, object) in objects.iter().enumerate() {
         for symbol in object.globals() {
             let (rank, section) = match (symbol.rank(), symbol.home) {

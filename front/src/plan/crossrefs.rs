@@ -1,7 +1,6 @@
 //! NOCROSSREFS and NOCROSSREFS_TO: references between output sections that a script prohibits (GNU ld manual,
 //! 'Miscellaneous Commands'; ldcref.c, `check_reloc_refs`).
 
-use std::collections::HashMap;
 use std::fmt;
 
 use bstr::{BStr, BString, ByteSlice};
@@ -10,6 +9,7 @@ use super::collecting::{definitions, Part};
 use crate::layout::evaluation::{Base, Definer, Origin, OutputSection};
 use crate::layout::Evaluation;
 use crate::objects::{Binding, Home, Object, SectionIndex, Symbol};
+use crate::quick::QuickMap;
 use crate::script::tree::{Name, Script, Statement};
 
 /// A relocation that a script prohibits.
@@ -91,13 +91,13 @@ pub fn prohibited(script: &Script, objects: &[Object], evaluation: &Evaluation) 
 /// In which output section everything is.
 struct Places<'a> {
     evaluation: &'a Evaluation,
-    definitions: HashMap<&'a BStr, Part>,
-    outputs: HashMap<Part, &'a OutputSection>,
+    definitions: QuickMap<&'a BStr, Part>,
+    outputs: QuickMap<Part, &'a OutputSection>,
 }
 
 impl<'a> Places<'a> {
     fn new(objects: &'a [Object], evaluation: &'a Evaluation) -> Places<'a> {
-        let mut outputs = HashMap::new();
+        let mut outputs = QuickMap::default();
         for section in &evaluation.sections {
             let number = match section.origin {
                 Origin::Header(number) => Some(number.0),

@@ -3,32 +3,52 @@
 //! [`Inputs::load`] reads scripts and objects; [`LinkPlan::new`] lays the script out over the objects and writes it in the
 //! profile. [`LinkPlan::replan`] is the same plan with other bytes of some objects.
 
+mod aliases;
 mod alike;
+mod begun;
+mod build_id;
 mod collecting;
 mod commons;
 mod crossrefs;
+mod frame_table;
 mod loaded;
+mod merged;
+mod notes;
 mod programs;
+mod references;
 mod scripts;
 mod settings;
+mod stack;
+mod symbols;
+mod table;
+mod wraps;
 
+use std::collections::HashSet;
 use std::path::PathBuf;
+use std::sync::Arc;
 
 use bstr::{BStr, BString, ByteSlice};
 
 use crate::command::{Command, Orphans, OutputFormat};
-use crate::finish::{Form, Rights, PAGE};
+use crate::finish::{Form, LaidOut, LinkedNames, Rights, Strip, Symbols, PAGE};
 use crate::inputs::{self, InputFault, Loaded, ScriptInputs};
+use crate::layout::evaluation::Placed;
 use crate::layout::{Evaluation, Layout, Settings, Stop};
 use crate::mirror::{self, Held};
 use crate::objects::{Object, ObjectIndex};
-use crate::residual::{residual, Request, Residual};
+use crate::residual::{has_names, residual, Request, Residual};
 use crate::snapshot::Snapshot;
+pub use begun::Begun;
+pub use build_id::Identity;
+use build_id::NoIdentity;
 pub use crossrefs::{prohibited, Prohibited};
 use loaded::MadeLoaded;
+use merged::Remade;
+use notes::Notes;
 pub use programs::{find_program, is_own, others, own_version, Environment, WITHIN};
 pub use scripts::{Scripts, ScriptsFault};
 pub use settings::settings_of;
+use table::Table;
 
 /// Why there is no plan.
 #[derive(Debug, thiserror::Error)]
@@ -53,6 +73,14 @@ pub struct Inputs {
     pub loaded: Loaded,
     /// The objects as the session holds them.
     pub held: Vec<Held>,
+    /// One note of properties, and the objects with it.
+    notes: Option<Notes>,
+    /// The global offset table, and the objects with it.
+    table: Option<Table>,
+    /// The note of the build ID, and the objects with it.
+    identity: Result<Identity, NoIdentity>,
+    /// The names of `--retain-symbols-file`.
+    retained: HashSet<BString>,
 }
 
 impl Inputs {
@@ -70,14 +98,67 @@ impl Inputs {
         if let Some(name) = loaded.missing_required(command) {
             return Err(PlanFault::Required(name.to_owned()));
         }
+        references::check(command, &loaded.objects)?;
+        wraps::check(command, &scripts)?;
         scripts.rename_files(&loaded.renamed);
-        let held = held_of(&loaded.objects);
-        Ok(Inputs { scripts, loaded, held })
+        let mut inputs = Inputs {
+            scripts,
+            loaded,
+            held: Vec::new(),
+            notes: None,
+            table: None,
+            identity: Err(NoIdentity::NotWanted),
+            retained: symbols::retained(command, snapshot)?,
+        };
+        inputs.loaded.files.extend(command.retained.clone());
+        inputs.compose(command);
+        Ok(inputs)
     }
 
     /// The objects.
     pub fn objects(&self) -> &[Object] {
-        &self.loaded.objects
+        self.identity.as_ref().map_or_else(|_| self.tabled(), Identity::objects)
+    }
+
+    /// The note of the build ID.
+    pub fn identity(&self) -> Option<&Identity> {
+        self.identity.as_ref().ok()
+    }
+
+    /// Why the image has no build ID, where one is asked for.
+    pub fn without_identity(&self) -> Option<String> {
+        self.identity.as_ref().err().filter(|why| **why != NoIdentity::NotWanted).map(ToString::to_string)
+    }
+
+    /// The objects without the note of the build ID.
+    fn tabled(&self) -> &[Object] {
+        self.table.as_ref().map_or_else(|| self.noted(), Table::objects)
+    }
+
+    /// The objects that the session gets as they were read, whatever the plan is.
+    pub fn settled(&self) -> Vec<Held> {
+        let objects = self.held.iter().zip(self.objects());
+        objects.filter(|(_, object)| !merged::may_change(object)).map(|(held, _)| held.clone()).collect()
+    }
+
+    /// The objects without a table.
+    fn noted(&self) -> &[Object] {
+        self.notes.as_ref().map_or(&self.loaded.objects, Notes::objects)
+    }
+
+    /// Makes what GNU ld makes of all objects: a note of properties, a global offset table, and the note of a build ID; says
+    /// whether the objects stand where they stood.
+    fn compose(&mut self, command: &Command) -> bool {
+        let before = self.table.as_ref().map(Table::at);
+        self.notes = Notes::of(command, &self.scripts.reading.script, &self.loaded.objects);
+        self.table = Table::of(command, &self.scripts, self.noted());
+        let id = self.identity.as_ref().ok().map(|identity| identity.id().to_owned());
+        self.identity = match is_flat(command, &self.scripts) {
+            true => Err(NoIdentity::NotWanted),
+            false => Identity::of(command, &self.scripts, self.tabled(), id),
+        };
+        self.held = held_of(self.objects());
+        self.table.as_ref().map(Table::at) == before
     }
 }
 
@@ -99,8 +180,12 @@ pub struct LinkPlan {
     /// The form of the file.
     pub form: Form,
     layout: Option<Layout>,
+    /// The names for the table of symbols, in their order.
+    names: Option<LinkedNames>,
     /// The sections that are loaded though their objects do not say so.
     made_loaded: MadeLoaded,
+    /// The objects that merging has made.
+    remade: Remade,
     /// The objects as the session is to hold them, where these are others than were read.
     changed: Option<Vec<Held>>,
 }
@@ -118,23 +203,30 @@ pub fn options_of(command: &Command, entry: Option<&BStr>) -> mirror::Options {
 impl LinkPlan {
     /// Lays the script out over the objects, and writes it in the profile.
     pub fn new(command: &Command, inputs: Inputs) -> LinkPlan {
-        let settings = settings_of(command, &inputs.scripts);
-        let (layout, evaluation) = laid_out(&inputs, &settings);
-        LinkPlan::with_layout(command, inputs, layout, evaluation)
+        LinkPlan::finish(command, LinkPlan::begin(command, inputs))
     }
 
-    fn with_layout(
-        command: &Command,
-        inputs: Inputs,
-        layout: Option<Layout>,
-        mut evaluation: Result<Evaluation, Stop>,
-    ) -> LinkPlan {
-        let made_loaded = evaluation.as_mut().map_or_else(|_| MadeLoaded::new(), loaded::load);
-        let residual = written(command, &inputs, evaluation.as_ref().ok());
+    /// Lays the script out over the objects.
+    pub fn begin(command: &Command, inputs: Inputs) -> Begun {
+        let settings = settings_of(command, &inputs.scripts);
+        let laid_out = laid_out(&inputs, &settings);
+        Begun::new(command, inputs, laid_out, None, Remade::default())
+    }
+
+    /// Writes the script in the profile.
+    pub fn finish(command: &Command, begun: Begun) -> LinkPlan {
+        let Begun { inputs, layout, evaluation, made_loaded, remade, names, held } = begun;
+        let mut residual = written(command, &inputs, evaluation.as_ref().ok());
+        let table =
+            evaluation.as_ref().ok().and_then(|evaluation| frame_table::note(command, &inputs.scripts, evaluation));
+        residual.notes.extend(table);
         let options = options_of(command, residual.entry.as_ref().map(|name| name.as_bstr()));
-        let form = form_of(command, &inputs.scripts, &residual, evaluation.as_ref().ok());
-        let changed = evaluation.as_ref().ok().and_then(|evaluation| changed_of(&inputs, evaluation, &made_loaded));
-        LinkPlan { inputs, evaluation, residual, options, form, layout, made_loaded, changed }
+        let form = form_of(command, &inputs, &residual, evaluation.as_ref().ok());
+        let changed = evaluation.as_ref().ok();
+        let changed = changed.and_then(|found| changed_of(held, &inputs, found, &made_loaded, &residual));
+        let wanted = evaluation.as_ref().ok().filter(|_| !form.is_flat && form.symbols.strip != Strip::All);
+        let names = wanted.map(|evaluation| LinkedNames::of(inputs.objects(), evaluation, names));
+        LinkPlan { inputs, evaluation, residual, options, form, layout, names, made_loaded, remade, changed }
     }
 
     /// The same plan where some files have other bytes now; `None` where all must be planned anew, as these files are no
@@ -143,33 +235,88 @@ impl LinkPlan {
         if !self.inputs.loaded.take_changed(command, snapshot, changed) {
             return None;
         }
-        let loaded = &self.inputs.loaded;
-        let others: Vec<usize> = (0..loaded.objects.len())
+        let before = std::mem::take(&mut self.inputs.held);
+        let is_in_place = self.inputs.compose(command);
+        let others: Vec<usize> = (0..self.inputs.held.len())
             .filter(|at| {
-                let (old, new) = (self.inputs.held.get(*at), loaded.objects.get(*at));
-                old.zip(new).map_or(true, |(old, new)| !old.data.is_identical(new.data()))
+                let (old, new) = (before.get(*at), self.inputs.held.get(*at));
+                old.zip(new).map_or(true, |(old, new)| !old.data.is_identical(&new.data))
             })
             .collect();
-        self.inputs.held = held_of(&loaded.objects);
         let settings = settings_of(command, &self.inputs.scripts);
         let objects = self.inputs.objects();
         let changed: Vec<ObjectIndex> = others.into_iter().map(|at| ObjectIndex(at as u32)).collect();
-        let kept = self.layout.take().and_then(|mut layout| layout.renew(objects, &changed).then_some(layout));
-        let (layout, evaluation) = match kept {
-            Some(layout) => {
+        let kept = self
+            .layout
+            .take()
+            .filter(|_| is_in_place)
+            .and_then(|mut layout| layout.renew(objects, &changed).then_some(layout));
+        let merged = self.evaluation.as_ref().ok().map(|evaluation| Arc::clone(&evaluation.merges));
+        let laid_out = match kept {
+            Some(mut layout) => {
+                merged.iter().for_each(|merged| layout.remember(merged));
                 let evaluation = layout.evaluate(objects);
                 (Some(layout), evaluation)
             }
             None => laid_out(&self.inputs, &settings),
         };
-        Some(LinkPlan::with_layout(command, self.inputs, layout, evaluation))
+        let begun = Begun::new(command, self.inputs, laid_out, self.names, self.remade);
+        Some(LinkPlan::finish(command, begun))
+    }
+
+    /// Takes an object in the place of another one that says the same of names, sections and relocations.
+    fn put(&mut self, place: usize, new: Object) {
+        let noted = self.inputs.notes.as_mut().map_or_else(|| new.clone(), |notes| notes.put(place, &new));
+        let (at, tabled) = match &mut self.inputs.table {
+            Some(table) => table.put(place, &noted),
+            None => (place, noted),
+        };
+        self.inputs.identity.iter_mut().for_each(|identity| identity.put(at, tabled.clone()));
+        self.inputs.loaded.put(place, new);
     }
 
     /// Holds the objects as they are now, where all of the plan but their bytes stays.
     fn hold_again(&mut self) {
-        self.inputs.held = held_of(&self.inputs.loaded.objects);
+        self.inputs.held = held_of(self.inputs.objects());
+        if let Some(names) = &mut self.names {
+            names.hold(self.inputs.objects());
+        }
         let evaluation = self.evaluation.as_ref().ok();
-        self.changed = evaluation.and_then(|evaluation| changed_of(&self.inputs, evaluation, &self.made_loaded));
+        self.changed = evaluation.and_then(|evaluation| {
+            let (inputs, made_loaded) = (&self.inputs, &self.made_loaded);
+            let mut held = inputs.held.clone();
+            let collects = self.options.collects_sections;
+            self.remade.put(&mut held, inputs.objects(), evaluation, made_loaded, collects);
+            changed_of(held, inputs, evaluation, made_loaded, &self.residual)
+        });
+    }
+
+    /// Gives the note of the build ID other bytes.
+    pub fn set_id(&mut self, id: Vec<u8>) {
+        self.inputs.identity.iter_mut().for_each(|identity| identity.set(id.clone()));
+        self.hold_again();
+    }
+
+    /// What the table of symbols of an image is made of; `None` where the layout is not known.
+    pub fn symbols<'a>(&'a self, laid_out: LaidOut<'a>) -> Option<Symbols<'a>> {
+        let (evaluation, names) = (self.evaluation.as_ref().ok()?, self.names.as_ref()?);
+        let map = match laid_out {
+            LaidOut::AsEvaluated => None,
+            LaidOut::ByMap(map) => Some(map),
+            LaidOut::Unknown => return None,
+        };
+        Some(Symbols { objects: self.inputs.objects(), evaluation, names, map })
+    }
+
+    /// Whether the image may be laid out otherwise than was evaluated.
+    pub fn may_differ(&self) -> bool {
+        self.evaluation.is_ok() && self.residual.changed().next().is_some()
+    }
+
+    /// The names of script and objects, in the order of GNU ld's table of symbols.
+    pub fn table_order(&self) -> Vec<BString> {
+        let layout = self.layout.as_ref();
+        layout.map_or_else(Vec::new, |layout| layout.table_order(self.inputs.objects(), &|_| true))
     }
 
     /// The objects as the session holds them.
@@ -178,17 +325,24 @@ impl LinkPlan {
     }
 }
 
-/// The objects as the session is to hold them; `None` where they are those that were read.
-fn changed_of(inputs: &Inputs, evaluation: &Evaluation, made_loaded: &MadeLoaded) -> Option<Vec<Held>> {
+/// The objects as the session is to hold them, of those that were merged; `None` where they are those that were read.
+fn changed_of(
+    mut held: Vec<Held>,
+    inputs: &Inputs,
+    evaluation: &Evaluation,
+    made_loaded: &MadeLoaded,
+    residual: &Residual,
+) -> Option<Vec<Held>> {
     let has_commons = inputs.objects().iter().any(|object| object.has_commons());
-    if made_loaded.is_empty() && !has_commons {
+    let is_as_read = made_loaded.is_empty() && !has_commons && residual.aliases.is_empty();
+    if is_as_read && evaluation.merges.is_empty() {
         return None;
     }
-    let mut held = inputs.held.clone();
     loaded::with_flags(&mut held, made_loaded);
     if has_commons {
         commons::with_places(&mut held, inputs.objects(), evaluation);
     }
+    aliases::with_names(&mut held, evaluation, &residual.aliases);
     Some(held)
 }
 
@@ -219,11 +373,16 @@ fn written(command: &Command, inputs: &Inputs, evaluation: Option<&Evaluation>) 
         script: &inputs.scripts.reading.script,
         source: &inputs.scripts.reading.source,
         evaluation,
+        others: None,
         objects: &objects,
         is_followed: true,
         entry: command.entry.as_ref().map(|name| name.as_bstr()),
         has_default_entry: true,
         defines: &defines,
+        has_names: &|section| has_names(inputs.objects(), section),
+        sort_section: command.sort_section,
+        leaves_unique: command.unique.as_ref().map_or(false, |patterns| !patterns.is_empty()),
+        places_orphans: command.orphans != Some(Orphans::Error),
         kept: &kept,
         keeps_more,
         collects_start_stop: command.collects_sections && command.collects_start_stop,
@@ -231,27 +390,40 @@ fn written(command: &Command, inputs: &Inputs, evaluation: Option<&Evaluation>) 
 }
 
 /// The form of the file that a command and a script ask for.
-fn form_of(command: &Command, scripts: &Scripts, residual: &Residual, evaluation: Option<&Evaluation>) -> Form {
-    let is_flat = match command.output_format {
-        Some(format) => format == OutputFormat::Binary,
-        None => scripts.is_own && scripts.parts.iter().any(is_binary),
-    };
+fn form_of(command: &Command, inputs: &Inputs, residual: &Residual, evaluation: Option<&Evaluation>) -> Form {
+    let scripts = &inputs.scripts;
     Form {
         page: command.page_size.unwrap_or(PAGE),
         segments: residual.segments.clone(),
         segments_problem: residual.segments_problem.clone(),
+        headers: evaluation.and_then(|evaluation| stack::headers_of(command, &inputs.loaded.objects, evaluation)),
         names: residual.names.clone(),
         rights: evaluation.map_or_else(Vec::new, rights_of),
-        is_flat,
+        symbols: symbols::options_of(command, &inputs.retained),
+        strips_debugging: symbols::strips_debugging(command),
+        is_flat: is_flat(command, scripts),
+    }
+}
+
+/// Whether the bytes are wanted as they lie in memory.
+fn is_flat(command: &Command, scripts: &Scripts) -> bool {
+    match command.output_format {
+        Some(format) => format == OutputFormat::Binary,
+        None => scripts.is_own && scripts.parts.iter().any(is_binary),
     }
 }
 
 /// The rights of GNU ld's sections.
 fn rights_of(evaluation: &Evaluation) -> Vec<Rights> {
     let loaded = evaluation.in_image().filter(|(_, place)| place.is_allocated() && place.size != 0);
-    loaded.map(|(_, place)| Rights { address: place.address, size: place.size, flags: place.bits }).collect()
+    let rights =
+        |place: &Placed| Rights { address: place.address, size: place.size, flags: place.bits, kind: place.kind };
+    loaded.map(|(_, place)| rights(place)).collect()
 }
 
 fn is_binary(part: &ScriptInputs) -> bool {
     part.image_format() == Some(OutputFormat::Binary)
 }
+
+#[cfg(test)]
+pub(crate) mod tests;

@@ -29,8 +29,10 @@ pub fn find_program(name: &str, environment: &Environment) -> OsString {
     }
     let own = given.map(PathBuf::from).or_else(|| std::env::current_exe().ok());
     let folder = own.and_then(|own| Some(own.canonicalize().ok()?.parent()?.to_owned())).unwrap_or_default();
-    let crates = folder.join("..").join("..").join(name).join("out").join(name);
-    let found = [folder.join(name), crates].into_iter().find(|path| is_program(path));
+    let built = Path::new(name).join("out").join(name);
+    // Beside `crates/ldi/out/ldi`, and from `front/bin` and `front/target/release`.
+    let crates = ["../..", "../../crates", "../../../crates"].map(|up| folder.join(up).join(&built));
+    let found = std::iter::once(folder.join(name)).chain(crates).find(|path| is_program(path));
     found.map_or_else(|| name.into(), PathBuf::into_os_string)
 }
 

@@ -18,6 +18,9 @@ use crate::snapshot::Snapshot;
 /// A script of the same sections as GNU ld's default one, where GNU ld is not there.
 const DEFAULT: &str = include_str!("default.ld");
 
+/// The names of default scripts, which are no files: that of GNU ld, and the one that comes with this program.
+const DEFAULT_NAMES: [&str; 2] = ["ld.bfd's default script", "default.ld"];
+
 /// How the version of `ld.ldi` itself begins.
 const OWN_VERSION: &[u8] = b"GNU ld (ldi ";
 
@@ -76,14 +79,21 @@ impl Scripts {
                 defsym.scripts_before == index + 1 || is_last && defsym.scripts_before > index + 1
             })?;
         }
+        // What stands before INSERT goes into the default script where no other is given (ldlang.c, `lang_add_insert`).
+        let is_own = command.default_script.is_some() || !ranges.iter().all(|range| reader.has_insert(range));
+        if !is_own {
+            let (path, text) = default_text(command, environment);
+            ranges.push(reader.text(Path::new(path), text).map_err(ScriptsFault::NoScript)?);
+        }
         let reading = reader.finish();
         let parts = ranges.into_iter().map(|range| part_of(&reading.script, range)).collect();
-        let files = files_of(&reading);
+        let mut files = files_of(&reading);
+        files.retain(|path| !DEFAULT_NAMES.iter().any(|name| path.as_os_str() == *name));
         let text = files.iter().zip(reading.source.files().iter().filter(|file| is_file(&file.path)));
         let text = text.flat_map(|(_, file)| file.text.iter().copied()).collect();
         let path =
             files.first().cloned().unwrap_or_else(|| names.first().map_or_else(PathBuf::new, |name| name.into()));
-        Ok(Scripts { path, text, is_own: true, reading, parts, files })
+        Ok(Scripts { path, text, is_own, reading, parts, files })
     }
 
     /// The symbol of ENTRY; the last one counts.
@@ -166,15 +176,7 @@ fn files_of(reading: &Reading) -> Vec<PathBuf> {
 
 /// GNU ld's default script where GNU ld is there, else one of the same sections.
 fn default_script(command: &Command, environment: &Environment) -> Result<Scripts, ScriptsFault> {
-    let programs = match environment.contains_key(std::ffi::OsStr::new(WITHIN)) {
-        true => Vec::new(),
-        false => others("ld.bfd".as_ref(), environment),
-    };
-    let found = programs.iter().find_map(|program| asked(program, command, environment));
-    let (path, text) = match found {
-        Some(text) => ("ld.bfd's default script", text),
-        None => ("default.ld", own_default(command)),
-    };
+    let (path, text) = default_text(command, environment);
     let mut files = crate::script::NoFiles;
     let mut reader = Reader::new(&mut files, Vec::new());
     put_defsyms(&mut reader, command, |_| true)?;
@@ -184,10 +186,24 @@ fn default_script(command: &Command, environment: &Environment) -> Result<Script
     Ok(Scripts { path: path.into(), text, is_own: false, reading, parts, files: Vec::new() })
 }
 
+/// The name and the text of the default script.
+fn default_text(command: &Command, environment: &Environment) -> (&'static str, Vec<u8>) {
+    let programs = match environment.contains_key(std::ffi::OsStr::new(WITHIN)) {
+        true => Vec::new(),
+        false => others("ld.bfd".as_ref(), environment),
+    };
+    let [of_gnu, own] = DEFAULT_NAMES;
+    match programs.iter().find_map(|program| asked(program, command, environment)) {
+        Some(text) => (of_gnu, text),
+        None => (own, own_default(command)),
+    }
+}
+
 /// The default script as a linker prints it.
 fn asked(program: &Path, command: &Command, environment: &Environment) -> Option<Vec<u8>> {
     let mut process = Process::new(program);
-    process.args(["-m", "elf_x86_64", "-static"]).args(command.is_omagic.then_some("-N")).arg("--verbose");
+    process.args(["-m", "elf_x86_64", "-static"]).args(command.is_nmagic.then_some("-n"));
+    process.args(command.is_omagic.then_some("-N")).args(keywords(command)).arg("--verbose");
     process.env_clear().envs(environment).env(WITHIN, "1").stdin(Stdio::null());
     let done = process.output().ok().filter(|done| done.status.success())?;
     let line = [&b"=".repeat(50)[..], b"\n"].concat();
@@ -196,6 +212,13 @@ fn asked(program: &Path, command: &Command, environment: &Environment) -> Option
         [version, text, _] if !version.starts_with(OWN_VERSION) => Some(text.to_vec()),
         _ => None,
     }
+}
+
+/// The words of `-z` by which GNU ld chooses one of its scripts (emultempl/elf.em, `gld_get_script`).
+fn keywords(command: &Command) -> impl Iterator<Item = String> + '_ {
+    const CHOOSE: [&[u8]; 6] = [b"separate-code", b"noseparate-code", b"relro", b"norelro", b"now", b"lazy"];
+    let chosen = command.keywords.iter().filter(|word| CHOOSE.contains(&word.as_slice()));
+    chosen.map(|word| format!("-z{word}"))
 }
 
 fn own_default(command: &Command) -> Vec<u8> {

@@ -11,13 +11,15 @@ use crate::layout::Settings;
 /// What a command and its scripts say of a layout.
 pub fn settings_of(command: &Command, scripts: &Scripts) -> Settings {
     let mut settings = Settings {
-        paged: !command.is_omagic,
+        paged: !command.is_omagic && !command.is_nmagic,
         text_read_only: !command.is_omagic,
         undefined: undefined_of(command, scripts),
         entry: command.entry.clone(),
         section_starts: addresses(&command.section_starts),
         segment_starts: addresses(&command.segment_starts),
+        keeps_empty: command.emits_relocations,
         script_first: scripts.is_own && script_is_first(command),
+        merges: true,
         ..Settings::default()
     };
     settings.set_pages(command.page_size, command.common_page_size);
@@ -30,6 +32,9 @@ pub fn settings_of(command: &Command, scripts: &Scripts) -> Settings {
             _ => {}
         }
     }
+    settings.sort_section = command.sort_section;
+    settings.sort_common = command.sort_common;
+    settings.unique = command.unique.clone();
     if command.orphans == Some(Orphans::Discard) {
         settings.orphans = OrphanHandling::Discard;
     }

@@ -3,8 +3,7 @@
 use std::path::Path;
 
 use super::plain::{plain, trimmed};
-use crate::script::tree::Span;
-use crate::script::{Place, ScriptError, Source, Warning};
+use crate::script::{Place, ScriptError, Warning};
 
 /// How bad it is.
 #[derive(Clone, Copy, PartialEq, Eq, Hash, Debug)]
@@ -120,14 +119,6 @@ impl Diagnostic {
     pub fn at(mut self, place: &Place) -> Diagnostic {
         self.line = Some(place.line);
         self.of_file(&place.path)
-    }
-
-    /// The same at a span of a script, with its line.
-    #[must_use]
-    pub fn at_span(self, source: &Source, span: Span) -> Diagnostic {
-        let place = source.place(span.start);
-        let length = span.end.saturating_sub(span.start) as usize;
-        self.at(&place).with_excerpt(source.line(span.start), &place, length)
     }
 
     /// The same with what to do.

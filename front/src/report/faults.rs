@@ -10,6 +10,7 @@ use super::fault_line::{count_lines, fault_lines, FaultLine, Value};
 use super::names::{symbol_name, Names, Site};
 use super::outline::{origin, Lines, Outline};
 use super::rules::{FaultRule, RELOCATIONS};
+use super::slim_lto::{is_slim, SLIM};
 use super::{plain, Diagnostic};
 use crate::objects::{Object, Relocation, SymbolIndex, SymbolKind};
 use crate::script::Place;
@@ -193,6 +194,9 @@ impl Sentences<'_> {
             Some(line) => Diagnostic::error(sentence).at(&self.place(line)),
             None => Diagnostic::error(sentence).of_file(PROGRAM),
         };
+        if let Some(hint) = self.names.slim_hint(name) {
+            return diagnostic.with_note(hint);
+        }
         if self.outline.provides.contains_key(name.as_bstr()) {
             return diagnostic.with_note("its PROVIDE counts only if an object uses the name");
         }
@@ -205,8 +209,11 @@ impl Sentences<'_> {
         let (script, size) = (self.script_name(), size.unwrap_or_default());
         let place = Some(format!("({})", plain(section)));
         let site = Site { file: self.names.shown(object), line: None, place, relocation: None };
-        site.error(format!("no statement of {script} takes this section{size}"))
-            .with_advice("add one that does, or /DISCARD/, or --orphan-handling=discard")
+        let diagnostic = site.error(format!("no statement of {script} takes this section{size}"));
+        match self.names.object(object).map_or(false, is_slim) {
+            true => diagnostic.with_note(format!("{} {SLIM}", self.names.shown(object))),
+            false => diagnostic.with_advice("add one that does, or /DISCARD/, or --orphan-handling=discard"),
+        }
     }
 
     // Layout
@@ -290,7 +297,11 @@ impl Sentences<'_> {
             object.symbol(relocation.symbol).map_or(false, |symbol| symbol_name(object, &symbol) == shown)
         };
         let site = self.names.site(object, section, offset, &is_meant);
-        site.error(format!("undefined reference to `{shown}'"))
+        let diagnostic = site.error(format!("undefined reference to `{shown}'"));
+        match self.names.slim_hint(name) {
+            Some(hint) => diagnostic.with_note(hint),
+            None => diagnostic,
+        }
     }
 
     /// F13.

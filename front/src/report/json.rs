@@ -83,12 +83,6 @@ impl JsonObject {
 }
 
 impl Diagnostic {
-    /// The message as a JSON object on one line.
-    #[must_use]
-    pub fn to_json(&self) -> String {
-        self.add_to(JsonObject::new()).finish()
-    }
-
     /// Adds the message to an object: `severity`, `message` (the line for people) and `line` (that of `ldi`), and as far
     /// as they are known `place` (`file`, and `line` and `column` from 1), `site`, `sentence`, `notes`, `advice`, `text`
     /// and `length` (the script's line, and the characters that are meant in it).

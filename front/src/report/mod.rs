@@ -13,6 +13,7 @@ mod refusals;
 mod relocation_names;
 mod render;
 pub mod rules;
+mod slim_lto;
 pub mod source_lines;
 
 pub use diagnostic::{Diagnostic, Excerpt, Severity};

@@ -5,6 +5,7 @@ use std::collections::HashMap;
 use bstr::{BStr, BString, ByteSlice};
 
 use super::plain;
+use super::slim_lto::{self, SLIM};
 use super::source_lines::{SourceLine, SourceLines};
 use super::Diagnostic;
 use crate::objects::{Binding, Home, Object, Rank, Relocation, SectionIndex, Symbol, SymbolIndex, SymbolKind};
@@ -104,13 +105,15 @@ pub(super) struct Names<'a> {
     variable_objects: Vec<usize>,
     /// The objects that define a name, for the names that were asked for.
     definers: HashMap<BString, Vec<usize>>,
+    /// What objects of slim LTO define, by the first one that does.
+    slim: Option<HashMap<BString, &'a BStr>>,
 }
 
 impl<'a> Names<'a> {
     pub fn new(objects: &'a [Object]) -> Names<'a> {
         let by_name = objects.iter().enumerate().map(|(index, object)| (object.name(), index)).collect();
         let (tables, definers) = (HashMap::new(), HashMap::new());
-        Names { objects, by_name, tables, variable_objects: Vec::new(), definers }
+        Names { objects, by_name, tables, variable_objects: Vec::new(), definers, slim: None }
     }
 
     pub fn is_empty(&self) -> bool {
@@ -224,6 +227,22 @@ impl<'a> Names<'a> {
             Some(source) => Site::of_source(source, &shown, &place),
             None => Site::of_file(shown, format!("({place})")),
         })
+    }
+
+    /// That a name is defined in an object of slim LTO.
+    pub fn slim_hint(&mut self, name: &[u8]) -> Option<String> {
+        let objects = self.objects;
+        let read = || {
+            let mut found = HashMap::new();
+            for object in objects.iter().filter(|object| slim_lto::is_slim(object)) {
+                for name in slim_lto::definitions(object) {
+                    found.entry(name).or_insert_with(|| object.name());
+                }
+            }
+            found
+        };
+        let object = *self.slim.get_or_insert_with(read).get(name.as_bstr())?;
+        Some(format!("{} defines it, but {SLIM}", plain(object)))
     }
 
     /// Whether an object defines a name.

@@ -242,3 +242,87 @@ impl<'a> Lines<'a> {
 pub(super) fn origin(path: &Path, origins: &dyn Fn(u32) -> Option<Place>, line: u32) -> Place {
     origins(line).unwrap_or_else(|| Place { path: path.to_owned(), line, column: 1 })
 }
+
+#[cfg(test)]
+mod tests {
+    use super::*;
+
+    const SCRIPT: &[u8] = b"ENTRY(_start)
+MEMORY {
+  rom : ORIGIN = 0x1000, LENGTH = 4K /* small */ -
+    1
+  ram (w) : ORIGIN = 0x8000, LENGTH = 1M / 2
+}
+first = 1;
+SECTIONS {
+  .text : AT(0x100) { *(.text) first = 2; PROVIDE(given = .); ASSERT(x + y + x, \"m\"); } >rom
+  .data : { BYTE(4) } >ram AT>rom
+  .twice : { *(.a) }
+  .twice : { *(.b) . = ALIGN(8); }
+  /DISCARD/ : { *(.c) }
+}
+";
+
+    fn outline() -> Outline {
+        Outline::read(SCRIPT)
+    }
+
+    #[test]
+    fn the_entry_and_the_first_assignment_of_a_name_have_their_lines() {
+        let outline = outline();
+        assert_eq!(outline.entry, Some(("_start".into(), 1)));
+        assert_eq!(outline.assignments.get(&Name::from("first")), Some(&7));
+        assert_eq!(outline.provides.get(&Name::from("given")), Some(&9));
+        assert_eq!(outline.assignments.get(&Name::from("given")), None);
+    }
+
+    #[test]
+    fn regions_have_their_numbers_as_they_are_written() {
+        let region =
+            |line, origin: &str, length: &str| RegionText { line, origin: origin.into(), length: length.into() };
+        let outline = outline();
+        assert_eq!(outline.regions.get(&Name::from("rom")), Some(&region(3, "0x1000", "4K - 1")));
+        assert_eq!(outline.regions.get(&Name::from("ram")), Some(&region(5, "0x8000", "1M / 2")));
+    }
+
+    #[test]
+    fn output_sections_have_their_regions_but_those_that_are_there_twice() {
+        let outline = outline();
+        let name = |text: &str| Some(Name::from(text));
+        let data = OutputText { line: 10, region: name("ram"), load_region: name("rom") };
+        assert_eq!(outline.outputs.get(&Name::from(".data")), Some(&data));
+        let mut names: Vec<String> = outline.outputs.keys().map(ToString::to_string).collect();
+        names.sort();
+        assert_eq!(names, [".data", ".text"]);
+    }
+
+    #[test]
+    fn what_can_have_no_value_and_what_an_assertion_names_is_found_by_the_line() {
+        let outline = outline();
+        assert!(outline.doubtful(5).has_division && !outline.doubtful(5).has_align);
+        assert!(outline.doubtful(12).has_align);
+        assert!(!outline.doubtful(7).has_division);
+        assert_eq!(outline.asserted_names(9, b"m"), ["x", "y"]);
+        assert!(outline.asserted_names(9, b"n").is_empty());
+    }
+
+    #[test]
+    fn a_text_that_is_no_script_has_lines_and_nothing_else() {
+        let outline = Outline::read(b"SECTIONS { .a : {");
+        assert!(outline.entry.is_none() && outline.outputs.is_empty());
+        let lines = Lines::new(b"  one  \n\n two\r\nthree");
+        let excerpt = |line| lines.excerpt(line).is_some();
+        assert_eq!([0, 1, 2, 3, 4, 5].map(excerpt), [false, true, false, true, true, false]);
+        assert!(Lines::new(b"").excerpt(1).is_none());
+    }
+
+    #[test]
+    fn no_text_makes_it_panic() {
+        for end in 0..SCRIPT.len() {
+            Outline::read(&SCRIPT[..end]);
+            let mut other = SCRIPT.to_vec();
+            other[end] ^= 0xff;
+            Outline::read(&other);
+        }
+    }
+}

@@ -4,7 +4,8 @@ use bstr::ByteSlice;
 
 use super::expression::{binary, difference, has_dot_or_align, made, number, uses_dot, written};
 use super::head::{aligned, has_bytes, is_linked};
-use super::note::NoteKind;
+use super::note::{NoteKind, Topic};
+use super::relative::Inside;
 use super::rules::{translate, Reasons};
 use super::top::whole_value;
 use super::view::View;
@@ -13,8 +14,8 @@ use crate::layout::evaluation::{Definer, Gap, InputSection, Placed, StatementKin
 use crate::layout::ids::SectionId;
 use crate::layout::Flags;
 use crate::script::tree::{
-    AssignOperator, Assignment, BinaryOperator, DataText, DataWidth, Expr, ExprKind, Function, InputStatement, Name,
-    OutputSection, SectionStatement, Span,
+    AssignOperator, Assignment, BinaryOperator, DataText, DataWidth, Expr, ExprKind, Fill, Function, InputStatement,
+    Name, OutputSection, SectionStatement, Span,
 };
 
 /// The bytes of gaps that are written as data, at most.
@@ -39,6 +40,8 @@ pub(super) struct Body<'a> {
     open: u32,
     /// The fill that the profile has for all gaps.
     fill: Vec<u8>,
+    /// Whether that is of FILL.
+    is_filled_by_statement: bool,
 }
 
 impl<'a> Body<'a> {
@@ -53,6 +56,7 @@ impl<'a> Body<'a> {
             is_off: false,
             open: section.body.span.start + 1,
             fill: Vec::new(),
+            is_filled_by_statement: false,
         }
     }
 
@@ -60,20 +64,30 @@ impl<'a> Body<'a> {
     fn dot(&self) -> u64 {
         self.start.wrapping_add(self.at)
     }
+
+    /// The lowest place of an alignment from a place on, both from the section's start.
+    fn aligned(&self, at: u64, align: u64) -> u64 {
+        aligned(self.start.wrapping_add(at), align).wrapping_sub(self.start)
+    }
 }
 
 impl<'a> Walk<'a> {
     /// All statements of a section.
-    pub(super) fn body(&mut self, section: &'a OutputSection, body: &mut Body<'a>) {
-        if let Some(fill) = &section.fill {
+    pub(super) fn body(&mut self, section: &'a OutputSection, span: Span, body: &mut Body<'a>) {
+        if let Some(fill) = self.tail_fill(section) {
+            body.is_filled_by_statement = section.fill.is_none();
             body.fill = self.fill_bytes(fill);
             if body.fill.len() > 8 {
                 body.fill.clear();
             }
         }
+        if let Some(StatementKind::Output(id)) = self.evaluated(span).map(|statement| &statement.kind) {
+            self.inside = Some(Inside { id: *id, start: self.start_symbol(body), is_absolute: false });
+        }
         for statement in &section.body.node {
             self.section_statement(&statement.node, statement.span, body);
         }
+        self.inside = None;
         let close = section.body.span.end.saturating_sub(1);
         self.rest(body, close);
         self.bounds(body, close);
@@ -84,35 +98,60 @@ impl<'a> Walk<'a> {
         }
     }
 
+    /// The fill after a section. Where the objects are not known, FILL in front of all that may leave a gap is one too.
+    pub(super) fn tail_fill(&self, section: &'a OutputSection) -> Option<&'a Fill> {
+        if section.fill.is_some() || !self.is_without_objects() {
+            return section.fill.as_ref();
+        }
+        let mut fills = section.body.node.iter().filter_map(|statement| match &statement.node {
+            SectionStatement::Fill(fill) => Some(fill),
+            _ => None,
+        });
+        let (first, more) = (fills.next()?, fills.next());
+        let is_still = |statement: &SectionStatement| match statement {
+            SectionStatement::Assign(assignment) => assignment.target.node != ".",
+            SectionStatement::Assert(_) => true,
+            _ => false,
+        };
+        let front = section.body.node.iter().take_while(|one| is_still(&one.node)).count();
+        let is_first = matches!(section.body.node.get(front)?.node, SectionStatement::Fill(_));
+        (is_first && more.is_none()).then_some(first)
+    }
+
     /// `__start_NAME` and `__stop_NAME`, which GNU ld defines by itself for a section of that name.
     fn bounds(&mut self, body: &Body<'a>, close: u32) {
-        let (evaluation, place) = match (self.request.evaluation, body.place) {
-            (Some(evaluation), Some(place)) => (evaluation, place),
-            _ => return,
-        };
-        let end = place.address.wrapping_add(place.size);
-        for (front, wanted, at, order) in
-            [("__start_", place.address, body.open, -5), ("__stop_", end, close, 1_000_000)]
-        {
-            let name = Name::from([front.as_bytes(), &body.name].concat());
-            let symbol = evaluation.symbol(&name).filter(|symbol| symbol.definer == Definer::Linker);
-            let value = symbol.and_then(|symbol| symbol.value).map(|value| value.address);
-            if value == Some(wanted) && super::profile::is_name(&name) {
-                self.edits.insert(at, order, format!(" PROVIDE({name} = .) "));
-                self.note(
-                    NoteKind::Rewritten,
-                    body.open,
-                    format!("{name}, which GNU ld defines by itself, is PROVIDEd"),
-                );
-                self.symbols.insert(name, wanted);
+        if let Some(place) = body.place {
+            let [start, stop] = self.bounds_of(&body.name, place, body.open);
+            for (text, at, order) in [(start, body.open, -5), (stop, close, 1_000_000)] {
+                if !text.is_empty() {
+                    self.edits.insert(at, order, format!(" {text} "));
+                }
             }
         }
+    }
+
+    /// The statements of these two; empty where there is none.
+    pub(super) fn bounds_of(&mut self, section: &Name, place: &Placed, at: u32) -> [String; 2] {
+        let end = place.address.wrapping_add(place.size);
+        [("__start_", place.address), ("__stop_", end)].map(|(front, wanted)| {
+            let name = Name::from([front.as_bytes(), section].concat());
+            let symbol = self.request.evaluation.and_then(|evaluation| evaluation.symbol(&name));
+            let symbol = symbol.filter(|symbol| symbol.definer == Definer::Linker);
+            let value = symbol.and_then(|symbol| symbol.value).map(|value| value.address);
+            if value != Some(wanted) || !super::profile::is_name(&name) {
+                return String::new();
+            }
+            let text = format!("PROVIDE({name} = .)");
+            self.note(NoteKind::Rewritten, at, format!("{name}, which GNU ld defines by itself, is PROVIDEd"));
+            self.symbols.insert(name, wanted);
+            text
+        })
     }
 
     /// Input sections that no statement of the section takes: GNU ld puts orphans of its name there.
     fn rest(&mut self, body: &mut Body<'a>, close: u32) {
         let (evaluation, place) = match (self.request.evaluation, body.place) {
-            (Some(evaluation), Some(place)) => (evaluation, place),
+            (Some(evaluation), Some(place)) if self.request.places_orphans => (evaluation, place),
             _ => return,
         };
         let mut taken = std::collections::HashSet::new();
@@ -153,7 +192,11 @@ impl<'a> Walk<'a> {
             SectionStatement::Fill(fill) => {
                 let what = self.quoted(fill.value.span);
                 self.edits.blank(self.text, span);
-                self.note(NoteKind::Rewritten, span.start, format!("FILL({what}): the bytes of the gaps are written"));
+                let why = match body.is_filled_by_statement {
+                    true => "as the fill after the section",
+                    false => "the bytes of the gaps are written",
+                };
+                self.note(NoteKind::Rewritten, span.start, format!("FILL({what}): {why}"));
             }
             SectionStatement::CreateObjectSymbols => {
                 self.edits.blank(self.text, span);
@@ -174,8 +217,9 @@ impl<'a> Walk<'a> {
 
     /// Lets `.` be what GNU ld has before a statement that uses it.
     fn sync_inside(&mut self, span: Span, body: &mut Body<'a>, is_needed: bool) {
+        let is_gone = self.is_without_objects() && body.place.map_or(false, |place| place.is_gone);
         let wanted = match self.evaluated(span) {
-            Some(statement) if is_needed && !body.is_off => statement.dot.wrapping_sub(body.start),
+            Some(statement) if is_needed && !body.is_off && !is_gone => statement.dot.wrapping_sub(body.start),
             _ => return,
         };
         if wanted > body.at && wanted < 1 << 48 {
@@ -190,7 +234,7 @@ impl<'a> Walk<'a> {
     }
 
     /// The text that moves on to a place.
-    fn gap_text(&mut self, body: &mut Body<'a>, to: u64, gap: Option<&Gap>) -> String {
+    pub(super) fn gap_text(&mut self, body: &mut Body<'a>, to: u64, gap: Option<&Gap>) -> String {
         let size = to.wrapping_sub(body.at);
         let fill = gap.and_then(|gap| gap.fill.as_deref()).unwrap_or_default();
         body.at = to;
@@ -209,14 +253,16 @@ impl<'a> Walk<'a> {
 
     fn input_inside(&mut self, node: &'a InputStatement, span: Span, body: &mut Body<'a>) {
         let (sections, gaps) = self.taken(span);
-        self.say_unloaded(span, body);
+        if !self.is_without_objects() {
+            self.say_unloaded(span, body);
+        }
         let is_fine = self.input(node, span, &sections);
         let evaluation = match self.request.evaluation {
             Some(evaluation) => evaluation,
             None => return,
         };
         let places: Vec<_> = sections.iter().filter_map(|id| evaluation.section(*id)).collect();
-        if places.iter().any(|one| one.offset % one.own_align.max(1) != 0) && !body.is_off {
+        if places.iter().any(|one| one.offset != body.aligned(one.offset, one.own_align)) && !body.is_off {
             body.is_off = true;
             let why = "SUBALIGN: input sections have their own alignments, which are more";
             self.note(NoteKind::Changed, span.start, format!("{}: {why}", body.name));
@@ -230,15 +276,18 @@ impl<'a> Walk<'a> {
         let mut end = body.at;
         let mut is_regular = true;
         for (index, one) in places.iter().enumerate() {
-            let next = aligned(end, one.own_align);
-            let is_first = index == 0 && one.offset > end && one.offset == aligned(one.offset, one.own_align);
+            let next = body.aligned(end, one.own_align);
+            let is_first = index == 0 && one.offset > end && one.offset == body.aligned(one.offset, one.own_align);
             is_regular &= one.offset == next || is_first;
             is_regular &= !gaps_from(gaps, end)
                 .take_while(|gap| gap.offset < one.offset)
                 .any(|gap| needs_bytes(gap.fill.as_deref().unwrap_or_default(), &body.fill, gap.size));
             end = one.offset.wrapping_add(one.size);
         }
-        if !is_fine || !is_regular {
+        if !is_regular && self.is_without_objects() {
+            let why = "there are gaps that depend on the objects: give them by --objects";
+            self.note(NoteKind::Left, span.start, format!("{}: {why}", self.quoted(span)));
+        } else if !is_fine || !is_regular {
             let text = self.explicit_with(&sections, gaps, node.is_kept, body);
             return self.edits.replace(self.text, span, text);
         }
@@ -251,7 +300,7 @@ impl<'a> Walk<'a> {
             return self.edits.replace(self.text, span, format!("{text} {rest}"));
         }
         if let Some(first) = places.first() {
-            if first.offset != aligned(body.at, first.own_align) && first.offset > body.at {
+            if first.offset != body.aligned(body.at, first.own_align) && first.offset > body.at {
                 self.gap_to(body, first.offset, None, span.start);
             }
         }
@@ -296,12 +345,13 @@ impl<'a> Walk<'a> {
         }
     }
 
-    fn explicit(&mut self, sections: &[SectionId], is_kept: bool, body: &mut Body<'a>) -> String {
+    /// Statements that take these input sections one by one.
+    pub(super) fn explicit(&mut self, sections: &[SectionId], is_kept: bool, body: &mut Body<'a>) -> String {
         self.explicit_with(sections, &[], is_kept, body)
     }
 
     /// Whether an input section stays by KEEP alone.
-    fn needs_keep(&self, id: SectionId) -> bool {
+    pub(super) fn needs_keep(&self, id: SectionId) -> bool {
         self.request.kept.get(id.index()).copied().unwrap_or(false)
     }
 
@@ -311,13 +361,14 @@ impl<'a> Walk<'a> {
             Some(evaluation) => evaluation,
             None => return String::new(),
         };
+        self.say_out_of_order(sections, body);
         let mut text = Vec::new();
         let mut before = None;
         for (id, one) in sections.iter().filter_map(|id| Some((id, evaluation.section(*id)?))) {
             let needs_keep = self.needs_keep(*id);
             let gap = gaps_from(gaps, body.at).next().filter(|gap| gap.offset == body.at);
-            if one.offset != aligned(body.at, one.own_align) || gap.is_some() {
-                let is_plain = one.offset == aligned(body.at, one.own_align)
+            if one.offset != body.aligned(body.at, one.own_align) || gap.is_some() {
+                let is_plain = one.offset == body.aligned(body.at, one.own_align)
                     && !needs_bytes(gap.and_then(|gap| gap.fill.as_deref()).unwrap_or_default(), &body.fill, 1);
                 if one.offset > body.at && !is_plain {
                     text.push(self.gap_text(body, one.offset, gap));
@@ -342,28 +393,37 @@ impl<'a> Walk<'a> {
         text.join(" ")
     }
 
+    /// Says where sections of one name and one file come in another order than in the file: a statement by their names
+    /// takes them together, as they come there.
+    fn say_out_of_order(&mut self, sections: &[SectionId], body: &Body<'a>) {
+        let evaluation = match self.request.evaluation {
+            Some(evaluation) => evaluation,
+            None => return,
+        };
+        let mut last = std::collections::HashMap::new();
+        let mut before = None;
+        for (id, one) in sections.iter().filter_map(|id| Some((*id, evaluation.section(*id)?))) {
+            let key = (one.object, one.name);
+            let is_apart = |earlier: SectionId| before != Some(key) || earlier.index() > id.index();
+            if last.insert(key, id).map_or(false, is_apart) {
+                let object = self.request.objects.get(one.object.0 as usize).copied().unwrap_or_default();
+                let name = evaluation.section_name(one);
+                let why = format!("several {name} of {object} are in the order of that file, and together");
+                // The map and the symbols are alike, so that a comparison with GNU ld's layout does not tell.
+                return self.note_of(NoteKind::Changed, Topic::Beside, body.open, why);
+            }
+            before = Some(key);
+        }
+    }
+
     // --- symbols ---
 
-    fn symbol_inside(&mut self, assignment: &Assignment, span: Span, body: &mut Body<'a>) {
+    fn symbol_inside(&mut self, assignment: &'a Assignment, span: Span, body: &mut Body<'a>) {
         let e = whole_value(assignment);
         self.sync_inside(span, body, uses_dot(&e));
         let at = At { at: span.start, is_assert: false, dot: Some(body.dot()) };
-        let start = self.start_symbol(body);
-        self.symbol(assignment, &e, span, at, &mut |walk, own| walk.counted_from(own, &start, &body.name));
+        self.symbol(assignment, &e, span, at);
         self.write_start(body);
-    }
-
-    /// Other forms of an expression in an output section: numbers count from its start there.
-    fn counted_from(&mut self, own: &Expr, start: &Expr, name: &Name) -> Vec<(Expr, String)> {
-        let why = format!("a number counts from the start of {name} in it");
-        let distance = format!("it works on the distance from the start of {name}");
-        let own_distance = difference(own.clone(), start.clone());
-        let mut forms =
-            vec![(binary(BinaryOperator::Add, own.clone(), start.clone()), why), (own_distance, distance.clone())];
-        let inner = on_distances(own, start);
-        forms.push((binary(BinaryOperator::Add, inner.clone(), start.clone()), distance.clone()));
-        forms.push((inner, distance));
-        forms
     }
 
     /// The symbol of a section's start; it is written where it is used.
@@ -413,7 +473,11 @@ impl<'a> Walk<'a> {
         }
         let at = At { at: span.start, is_assert: false, dot: Some(body.dot()) };
         let start = self.start_symbol(body);
-        match self.dot_form(&e, at, body, to, &start) {
+        let form = match self.is_without_objects() {
+            true => self.counted_dot(&e, at, body, to, &start),
+            false => None,
+        };
+        match form.or_else(|| self.dot_form(&e, at, body, to, &start)) {
             Some((text, mut settled)) => self.put_dot(assignment, span, &text, &mut settled),
             None => self.edits.blank(self.text, span),
         }
@@ -421,6 +485,56 @@ impl<'a> Walk<'a> {
         if let Some(to) = to {
             body.at = to.max(body.at);
         }
+    }
+
+    /// The form of an assignment to `.` by what GNU ld makes of its expression; `None` where that is not known.
+    fn counted_dot(
+        &mut self,
+        e: &Expr,
+        at: At,
+        body: &Body<'a>,
+        to: Option<u64>,
+        start: &Expr,
+    ) -> Option<(String, Settled)> {
+        let counted = self.assigned(e, at)?;
+        let settled = |e: Expr, why: Option<String>| Settled {
+            e,
+            reasons: Reasons { said: why.into_iter().collect(), ..Reasons::default() },
+        };
+        let is_gone = body.place.map_or(false, |place| place.is_gone);
+        let counts = format!("`. = e` counts from the start of {}", body.name);
+        let place = self.value_of(&counted, at).map(|value| value.wrapping_sub(body.start));
+        // What GNU ld takes out of the image is elsewhere, and has no bytes wherever it is.
+        let to = place.filter(|place| is_gone || Some(*place) == to)?;
+        if !super::expression::is_short(&self.written(&counted)) {
+            return None;
+        }
+        if !self.is_number(e, at) {
+            if counted.kind == ExprKind::Dot {
+                return Some((". += 0;".into(), settled(number(0), None)));
+            }
+            if let Some(step) = added(&counted) {
+                return Some((format!(". += {};", self.written(&step)), settled(step, None)));
+            }
+            if let ExprKind::Call(Function::Align, arguments) = &counted.kind {
+                if arguments.len() == 1 && arguments.iter().all(|align| !uses_dot(align)) {
+                    return Some((format!(". = {};", self.written(&counted)), settled(counted, None)));
+                }
+            }
+        }
+        let distance = difference(counted.clone(), start.clone());
+        if !has_dot_or_align(&distance) {
+            let why = Some(counts).filter(|_| !self.is_number(e, at));
+            let distance = if self.is_number(e, at) { self.in_hand(e, at)? } else { distance };
+            return Some((format!(". = {};", self.written(&distance)), settled(distance, why)));
+        }
+        let line = self.request.source.place(at.at).line;
+        let name = self.versions.fresh(&format!("ldi.next.{line}"));
+        self.edits.insert(at.at, 30, format!("{name} = {}; ", self.written(&counted)));
+        self.symbols.insert(name.clone(), body.start.wrapping_add(to));
+        let e = difference(made(ExprKind::Symbol(name)), start.clone());
+        let why = "through a symbol, as `. = e` has neither `.` nor ALIGN in a section";
+        Some((format!(". = {};", self.written(&e)), settled(e, Some(why.into()))))
     }
 
     /// The form of an assignment to `.` in an output section; `None` where it does not move.
@@ -456,12 +570,16 @@ impl<'a> Walk<'a> {
         if !has_dot_or_align(&own) {
             let distance = difference(own.clone(), start.clone());
             let why = format!("`. = e` counts from the start of {}", body.name);
-            for (form, why) in [(own, None), (distance, Some(why))] {
+            for (form, why) in [(own.clone(), None), (distance, Some(why))] {
                 if lands(self, self.value_of(&form, at)) {
                     reasons.said.extend(why);
                     return Some((format!(". = {};", self.written(&form)), Settled { e: form, reasons }));
                 }
             }
+        }
+        if self.is_without_objects() && !self.is_known(e) {
+            reasons.depends = true;
+            return Some((format!(". = {};", self.written(&own)), Settled { e: own, reasons }));
         }
         let to = to.filter(|to| *to != body.at)?;
         let mut reasons = Reasons { is_numeric: true, ..Reasons::default() };
@@ -513,8 +631,9 @@ impl<'a> Walk<'a> {
             _ => None,
         };
         let at = At { at: span.start, is_assert: false, dot: Some(body.dot()) };
-        let start = self.start_symbol(body);
-        let mut settled = self.settle(e, at, needed, &mut |walk, own| walk.counted_from(own, &start, &body.name));
+        self.set_absolute(true);
+        let mut settled = self.settle(e, at, needed);
+        self.set_absolute(false);
         if width == DataWidth::SignedQuad {
             let new = format!("{word}({})", self.written(&settled.e));
             self.edits.replace(self.text, span, new);
@@ -526,6 +645,13 @@ impl<'a> Walk<'a> {
         self.write_start(body);
         body.at += size;
         body.has_bytes = true;
+    }
+
+    /// Whether numbers do not count from the section's start.
+    fn set_absolute(&mut self, is_absolute: bool) {
+        if let Some(inside) = &mut self.inside {
+            inside.is_absolute = is_absolute;
+        }
     }
 
     fn text_data(&mut self, text: &DataText, span: Span, body: &mut Body<'a>) {
@@ -561,26 +687,6 @@ fn added(e: &Expr) -> Option<Expr> {
         }
         _ => None,
     }
-}
-
-/// An expression in which each symbol and `.` is its distance from a place.
-fn on_distances(e: &Expr, start: &Expr) -> Expr {
-    let again = |e: &Expr| Box::new(on_distances(e, start));
-    let kind = match &e.kind {
-        ExprKind::Dot | ExprKind::Symbol(_) | ExprKind::Query(..) => return difference(e.clone(), start.clone()),
-        ExprKind::Unary(operator, inner) => ExprKind::Unary(*operator, again(inner)),
-        ExprKind::Binary(operator, left, right) => ExprKind::Binary(*operator, again(left), again(right)),
-        ExprKind::Conditional(test, yes, no) => ExprKind::Conditional(again(test), again(yes), again(no)),
-        ExprKind::Call(Function::Align, arguments) => match arguments.as_slice() {
-            [align] => {
-                let dot = difference(made(ExprKind::Dot), start.clone());
-                ExprKind::Call(Function::Align, vec![dot, on_distances(align, start)])
-            }
-            arguments => ExprKind::Call(Function::Align, arguments.iter().map(|e| on_distances(e, start)).collect()),
-        },
-        _ => return e.clone(),
-    };
-    made(kind)
 }
 
 /// The gaps from an offset on; they ascend, as the location counter does.

@@ -1,7 +1,10 @@
 //! Changes of a text by spans: all else stays byte for byte, and each line of the result knows where it came from.
 
+use std::borrow::Cow;
+use std::cmp::Reverse;
 use std::collections::BTreeMap;
 
+use super::top::FRONT;
 use crate::script::tree::Span;
 
 /// A piece that is put before an offset.
@@ -10,6 +13,8 @@ struct Insert {
     /// Its place among those of one offset.
     order: i32,
     text: Vec<u8>,
+    /// A part of the old text that stands here, with its changes.
+    moved: Option<Span>,
     /// The offset of the old text that it came from.
     origin: u32,
 }
@@ -20,6 +25,8 @@ pub(super) struct Edits {
     /// Spans and their new texts.
     replaced: Vec<(Span, Vec<u8>)>,
     inserted: BTreeMap<u32, Vec<Insert>>,
+    /// The spans that stand elsewhere.
+    moved: Vec<Span>,
 }
 
 /// The text that was made, and for each of its lines an offset of the old text that it came from.
@@ -57,7 +64,14 @@ impl Edits {
 
     /// The same of a text that came from another offset.
     pub(super) fn insert_from(&mut self, at: u32, order: i32, text: impl Into<Vec<u8>>, origin: u32) {
-        self.inserted.entry(at).or_default().push(Insert { order, text: text.into(), origin });
+        self.inserted.entry(at).or_default().push(Insert { order, text: text.into(), moved: None, origin });
+    }
+
+    /// Moves a span, with all changes in it, before an offset.
+    pub(super) fn shift(&mut self, span: Span, at: u32, order: i32) {
+        let insert = Insert { order, text: Vec::new(), moved: Some(span), origin: span.start };
+        self.inserted.entry(at).or_default().push(insert);
+        self.moved.push(span);
     }
 
     /// Whether a text that was written last has a name in it.
@@ -68,15 +82,35 @@ impl Edits {
 
     /// The changed text.
     pub(super) fn render(mut self, text: &[u8]) -> Rendered {
-        self.replaced.sort_by_key(|(span, _)| (span.start, std::cmp::Reverse(span.end)));
+        self.replaced.sort_by_key(|(span, _)| place_of(*span));
         for inserts in self.inserted.values_mut() {
             inserts.sort_by_key(|insert| insert.order);
         }
-        let mut rendering =
-            Rendering { edits: &self, old: text, text: Vec::with_capacity(text.len()), origins: vec![0] };
+        let mut rendering = Rendering {
+            moved_from: None,
+            edits: &self,
+            old: text,
+            text: Vec::with_capacity(text.len()),
+            origins: vec![0],
+        };
         rendering.all();
         Rendered { text: rendering.text, origins: rendering.origins }
     }
+}
+
+fn contains(outer: Span, inner: Span) -> bool {
+    outer.start <= inner.start && inner.end <= outer.end
+}
+
+/// The order of changes: first those in place of nothing, then the longest.
+fn place_of(span: Span) -> (u32, bool, Reverse<u32>) {
+    (span.start, span.end != span.start, Reverse(span.end))
+}
+
+/// The line ends of a span.
+fn line_ends(text: &[u8], span: Span) -> Vec<u8> {
+    let inside = text.get(span.start as usize..span.end as usize).unwrap_or_default();
+    inside.iter().copied().filter(|byte| *byte == b'\n').collect()
 }
 
 /// What stays of a text that is taken out: its comments and its line ends.
@@ -100,8 +134,18 @@ fn kept(text: &[u8]) -> Vec<u8> {
     rest
 }
 
+/// Another text in place of a span.
+struct Change<'a> {
+    span: Span,
+    new: Cow<'a, [u8]>,
+    /// Whether the span stands elsewhere.
+    is_hole: bool,
+}
+
 /// A text while it is made.
 struct Rendering<'a> {
+    /// Where the part begins that is written elsewhere: what stands in front of all stays there.
+    moved_from: Option<u32>,
     edits: &'a Edits,
     old: &'a [u8],
     text: Vec<u8>,
@@ -109,22 +153,50 @@ struct Rendering<'a> {
 }
 
 impl Rendering<'_> {
-    /// The old text with its changes.
+    /// The old text with its changes; of what stands elsewhere the line ends alone.
     fn all(&mut self) {
+        let (edits, old) = (self.edits, self.old);
+        let end = u32::try_from(old.len()).unwrap_or(u32::MAX);
+        let is_here = |span: Span| !edits.moved.iter().any(|moved| contains(*moved, span));
+        let own = edits.replaced.iter().filter(|(span, _)| span.end <= end && is_here(*span));
+        let mut changes: Vec<Change<'_>> =
+            own.map(|(span, new)| Change { span: *span, new: new.into(), is_hole: false }).collect();
+        let hole = |span: &Span| Change { span: *span, new: line_ends(old, *span).into(), is_hole: true };
+        changes.extend(edits.moved.iter().map(hole));
+        changes.sort_by_key(|change| place_of(change.span));
+        self.stretch(0, end, changes);
+        self.inserts(end);
+    }
+
+    /// A span that stands elsewhere, with its changes.
+    fn moved(&mut self, moved: Span) {
         let edits = self.edits;
-        let end = u32::try_from(self.old.len()).unwrap_or(u32::MAX);
-        let mut done = 0;
-        for (span, new) in edits.replaced.iter().filter(|(span, _)| span.end <= end) {
+        let inside = edits.replaced.iter().filter(|(span, _)| contains(moved, *span));
+        let changes = inside.map(|(span, new)| Change { span: *span, new: new.into(), is_hole: false });
+        let before = self.moved_from.replace(moved.start);
+        self.stretch(moved.start, moved.end, changes.collect());
+        self.moved_from = before;
+    }
+
+    /// A stretch of the old text with changes of it in their order.
+    fn stretch(&mut self, from: u32, to: u32, changes: Vec<Change<'_>>) {
+        let mut done = from;
+        for change in changes {
+            let span = change.span;
             if span.start < done {
                 continue;
             }
             done = self.own(done, span.start);
-            self.inserts(span.start);
-            self.put(new, span.start, false);
+            // What is put in place of nothing stands before what is inserted there.
+            if change.is_hole {
+                self.inserts_of(span.start, true);
+            } else if span.end > span.start {
+                self.inserts(span.start);
+            }
+            self.put(&change.new, span.start, false);
             done = done.max(span.end);
         }
-        self.own(done, end);
-        self.inserts(end);
+        self.own(done, to);
     }
 
     /// The old text between two offsets, with what is inserted before the bytes of it; gives the second offset.
@@ -145,9 +217,26 @@ impl Rendering<'_> {
     }
 
     fn inserts(&mut self, at: u32) {
+        let is_moved = self.moved_from == Some(at);
+        if !is_moved {
+            self.inserts_of(at, true);
+        }
+        self.inserts_of(at, false);
+    }
+
+    /// What is inserted at an offset in front of all, or what is not.
+    fn inserts_of(&mut self, at: u32, is_front: bool) {
         let edits = self.edits;
-        for insert in edits.inserted.get(&at).map(Vec::as_slice).unwrap_or_default() {
-            self.put(&insert.text, insert.origin, false);
+        let all = edits.inserted.get(&at).map(Vec::as_slice).unwrap_or_default();
+        for insert in all.iter().filter(|insert| (insert.order <= FRONT) == is_front) {
+            match insert.moved {
+                Some(span) => {
+                    self.put(b" ", insert.origin, false);
+                    self.moved(span);
+                    self.put(b" ", insert.origin, false);
+                }
+                None => self.put(&insert.text, insert.origin, false),
+            }
         }
     }
 
@@ -220,6 +309,35 @@ mod tests {
             edits.insert(2, 0, "4");
         });
         assert_eq!(done.0, "a123b4");
+    }
+
+    #[test]
+    fn a_text_in_place_of_nothing_stands_first() {
+        let done = rendered("abcd", |edits| {
+            edits.replace(b"abcd", span(2, 3), "X");
+            edits.insert(2, 0, "2");
+            edits.replace(b"abcd", span(2, 2), "1");
+            edits.replace(b"abcd", span(4, 4), "4");
+            edits.insert(4, 0, "5");
+        });
+        assert_eq!(done.0, "ab12Xd45");
+    }
+
+    #[test]
+    fn a_part_stands_elsewhere_with_its_changes() {
+        let done = rendered("ab\ncdef", |edits| {
+            edits.replace(b"ab\ncdef", span(1, 2), "B");
+            edits.insert(1, 0, "<");
+            edits.insert(4, 0, ">");
+            edits.replace(b"ab\ncdef", span(4, 4), "|");
+            edits.shift(span(1, 4), 6, 0);
+        });
+        assert_eq!(done.0, "a\n>de <B\nc| f");
+        let done = rendered("abcd", |edits| {
+            edits.replace(b"abcd", span(1, 2), "B");
+            edits.shift(span(1, 2), 0, 0);
+        });
+        assert_eq!(done.0, " B acd");
     }
 
     #[test]

@@ -175,50 +175,8 @@ fn operate(operator: BinaryOperator, left: u64, right: u64) -> Option<u64> {
     })
 }
 
-/// How tightly an operator binds: 0 is the tightest.
-fn level(operator: BinaryOperator) -> u8 {
-    match operator {
-        BinaryOperator::Multiply | BinaryOperator::Divide | BinaryOperator::Remainder => 1,
-        BinaryOperator::Add | BinaryOperator::Subtract => 2,
-        BinaryOperator::ShiftLeft | BinaryOperator::ShiftRight => 3,
-        BinaryOperator::Less
-        | BinaryOperator::LessOrEqual
-        | BinaryOperator::Greater
-        | BinaryOperator::GreaterOrEqual => 4,
-        BinaryOperator::Equal | BinaryOperator::NotEqual => 5,
-        BinaryOperator::And => 6,
-        BinaryOperator::Or | BinaryOperator::Xor => 7,
-        BinaryOperator::LogicalAnd => 8,
-        BinaryOperator::LogicalOr => 9,
-    }
-}
-
-/// The spelling of an operator.
-pub(super) fn sign(operator: BinaryOperator) -> &'static str {
-    match operator {
-        BinaryOperator::Multiply => "*",
-        BinaryOperator::Divide => "/",
-        BinaryOperator::Remainder => "%",
-        BinaryOperator::Add => "+",
-        BinaryOperator::Subtract => "-",
-        BinaryOperator::ShiftLeft => "<<",
-        BinaryOperator::ShiftRight => ">>",
-        BinaryOperator::Less => "<",
-        BinaryOperator::LessOrEqual => "<=",
-        BinaryOperator::Greater => ">",
-        BinaryOperator::GreaterOrEqual => ">=",
-        BinaryOperator::Equal => "==",
-        BinaryOperator::NotEqual => "!=",
-        BinaryOperator::And => "&",
-        BinaryOperator::Xor => "^",
-        BinaryOperator::Or => "|",
-        BinaryOperator::LogicalAnd => "&&",
-        BinaryOperator::LogicalOr => "||",
-    }
-}
-
 /// The spelling of a query.
-fn word(query: Query) -> &'static str {
+pub(super) fn word(query: Query) -> &'static str {
     match query {
         Query::Addr => "ADDR",
         Query::Alignof => "ALIGNOF",
@@ -231,7 +189,13 @@ fn word(query: Query) -> &'static str {
     }
 }
 
-const CONDITIONAL: u8 = 10;
+/// Levels by how loosely an expression binds: a primary, then the operators, the tightest first.
+const CONDITIONAL: u8 = 11;
+
+/// How loosely an operator binds, from 1 for `*` to 10 for `||`.
+fn looseness(operator: BinaryOperator) -> u8 {
+    CONDITIONAL - operator.level()
+}
 
 /// The text of an expression of the profile, with parentheses where it needs them. Numbers keep their spelling where the
 /// profile has it.
@@ -243,7 +207,7 @@ pub(super) fn write(e: &Expr, text: &[u8]) -> String {
 
 fn put(e: &Expr, text: &[u8], most: u8, to: &mut String) {
     let own = match &e.kind {
-        ExprKind::Binary(operator, ..) => level(*operator),
+        ExprKind::Binary(operator, ..) => looseness(*operator),
         ExprKind::Conditional(..) => CONDITIONAL,
         _ => 0,
     };
@@ -266,7 +230,7 @@ fn put(e: &Expr, text: &[u8], most: u8, to: &mut String) {
         ExprKind::Binary(operator, left, right) => {
             put(left, text, own, to);
             to.push(' ');
-            to.push_str(sign(*operator));
+            to.push_str(operator.mark());
             to.push(' ');
             put(right, text, own - 1, to);
         }

@@ -4,36 +4,38 @@ use bstr::ByteSlice;
 use object::elf;
 
 use super::body::Body;
-use super::expression::{binary, children, difference, made, number, says, uses_dot};
+use super::expression::{binary, children, made, number, says, uses_dot};
 use super::note::{NoteKind, Topic};
 use super::profile::is_name;
 use super::rules::Reasons;
 use super::top::whole_value;
 use super::walk::{At, Done, Memory, Settled, Walk};
-use crate::layout::evaluation::{InputSection, Placed, StatementKind};
+use crate::layout::evaluation::{InputSection, OutputSection as Output, Placed, StatementKind};
 use crate::layout::Flags;
 use crate::script::tree::{
     Assignment, BinaryOperator, Expr, ExprKind, Fill, Function, Name, OutputSection, Query, SectionStatement,
     SectionType, Span,
 };
 
-/// The page of which no load address is asked more: up to here an alignment of the head says it.
+/// Sections are rarely aligned more than that: an alignment of the head from here on is that of the section.
+const MOST_ALIGNMENT: u64 = 16;
+/// GNU ld's region of what is in no other.
 const DEFAULT_REGION: &str = "*default*";
 
 /// The parts of a head and a tail as they are written.
 #[derive(Debug, Default)]
-struct Written {
+pub(super) struct Written {
     address: Option<String>,
     load: Option<String>,
     align: Option<String>,
     region: Option<Name>,
     load_region: Option<Name>,
     /// Where the section begins.
-    start: u64,
+    pub(super) start: u64,
     /// What it is aligned to, as the profile has it.
     alignment: u64,
     /// Its load address.
-    load_at: u64,
+    pub(super) load_at: u64,
 }
 
 impl<'a> Walk<'a> {
@@ -50,12 +52,12 @@ impl<'a> Walk<'a> {
         let emitted = self.name_section(section, span);
         self.emitted.insert(span.start, emitted.clone());
         self.said_of_head(section, place, span);
-        if section.address.as_ref().map_or(section.region.is_none(), uses_dot) {
+        if self.needs_dot(section, place, span) {
             self.sync_dot_at(span);
         }
         let mut head = self.written_head(section, place, span);
         let mut body = Body::new(section, place, head.start);
-        self.body(section, &mut body);
+        self.body(section, span, &mut body);
         let size = place.map_or(body.at, |place| place.size.max(body.at));
         self.put_head(section, &emitted, &head, span);
         self.put_tail(section, &head, span);
@@ -65,8 +67,18 @@ impl<'a> Walk<'a> {
         self.dot = head.start.wrapping_add(size);
     }
 
+    /// Whether `.` must be GNU ld's before a section: its address names it, or it begins there.
+    fn needs_dot(&self, section: &OutputSection, place: Option<&Placed>, span: Span) -> bool {
+        if let Some(e) = &section.address {
+            return uses_dot(e);
+        }
+        let begins = |dot: u64, place: &Placed| aligned(dot, place.align.max(1)) == place.address;
+        let dot = self.evaluated(span).map_or(self.dot, |statement| statement.dot);
+        section.region.is_none() && place.map_or(true, |place| !begins(self.dot, place) && begins(dot, place))
+    }
+
     /// What a section does to the regions and distances; gives its load address.
-    fn loaded(&mut self, head: &Written, size: u64, has_bytes: bool) -> u64 {
+    pub(super) fn loaded(&mut self, head: &Written, size: u64, has_bytes: bool) -> u64 {
         let distance = head.start.wrapping_sub(head.load_at);
         self.distances.insert(head.region.clone(), distance);
         if let Some(region) = head.region.as_ref().and_then(|name| self.regions.get_mut(name)) {
@@ -104,8 +116,15 @@ impl<'a> Walk<'a> {
         let first = Span { start: span.start, end: section.body.span.start + 1 };
         if is_discarded {
             self.edits.replace(self.text, first, "/DISCARD/ : {");
-            let why = "what it takes is not loaded, and not in the image";
-            self.note(NoteKind::Rewritten, span.start, format!("{name}: {why}"));
+            // Who links writes what is not loaded, but for common blocks.
+            let is_written = self.request.is_followed && !loaded.iter().any(|one| one.is_common());
+            let (kind, why) = match is_written {
+                true => (NoteKind::Rewritten, "what it takes is not loaded, and not in the image"),
+                false => {
+                    (NoteKind::Changed, "what it takes is not in the image; GNU ld's file has it, and loads it not")
+                }
+            };
+            self.note_of(kind, Topic::Beside, span.start, format!("{name}: {why}"));
         } else {
             self.edits.blank(self.text, first);
             self.note(NoteKind::Dropped, span.start, format!("{name}: GNU ld makes no such section of what is linked"));
@@ -124,13 +143,17 @@ impl<'a> Walk<'a> {
                         self.sync_dot_at(statement.span);
                     }
                     let at = At { at: statement.span.start, is_assert: false, dot: Some(self.dot) };
-                    self.symbol(assignment, &e, statement.span, at, &mut |_, _| Vec::new());
+                    self.symbol(assignment, &e, statement.span, at);
                 }
                 _ => self.edits.blank(self.text, statement.span),
             }
         }
         let last = Span { start: section.body.span.end.saturating_sub(1), end: span.end };
         self.edits.replace(self.text, last, if is_discarded { "}" } else { "" });
+        if place.map_or(false, |place| !place.inputs.is_empty()) {
+            let why = format!("`.` is not moved by {name} here; to GNU ld it is behind what that takes");
+            self.passed = Some(why);
+        }
     }
 
     /// The input sections of a place that are linked and not empty.
@@ -144,7 +167,7 @@ impl<'a> Walk<'a> {
     }
 
     /// Gives a section a name of the profile that no other has.
-    fn name_section(&mut self, section: &OutputSection, span: Span) -> Name {
+    pub(super) fn name_section(&mut self, section: &OutputSection, span: Span) -> Name {
         let name = section.name.node.clone();
         let is_fine = is_name(&name);
         if is_fine && self.section_names.insert(name.clone()) {
@@ -173,19 +196,40 @@ impl<'a> Walk<'a> {
         if let Some(kind) = &section.kind {
             let word = self.quoted(kind.span);
             let is_loaded = place.map_or(false, |place| self.loaded_inputs(place).iter().any(|one| has_bytes(one)));
+            let may_differ = self.is_without_objects() && section.body.node.iter().any(|one| may_have_bytes(&one.node));
             let is_noload = matches!(kind.node, SectionType::NoLoad | SectionType::NotAllocated(_));
-            if is_noload && is_loaded {
+            if is_noload && (is_loaded || may_differ) {
                 let why = "its bytes are in the image and are loaded; in GNU ld's they are not";
                 self.note_of(NoteKind::Changed, Topic::Beside, span.start, format!("{word} of {name}: {why}"));
             } else {
                 self.note(NoteKind::Dropped, span.start, format!("{word} of {name}: it makes no difference"));
             }
         }
-        let parts = [
-            (section.subalign.is_some(), "SUBALIGN", "places of its input sections are written where they differ"),
-            (section.is_aligned_with_input, "ALIGN_WITH_INPUT", "its load address is written where it differs"),
-            (section.constraint.is_some(), "its condition", "it holds for what is linked"),
-        ];
+        let parts =
+            [(section.is_aligned_with_input, "ALIGN_WITH_INPUT", "its load address is written where it differs")];
+        if section.constraint.is_some() {
+            let (kind, why) = match self.is_without_objects() {
+                true => (NoteKind::Changed, "it is decided by the names that it takes (--objects says what they are)"),
+                false => (NoteKind::Rewritten, "it holds for what is linked"),
+            };
+            self.note(kind, span.start, format!("its condition of {name}: {why}"));
+        }
+        if self.is_without_objects() && may_be_empty(section) {
+            let why = "where it takes nothing, GNU ld drops it with what its head says of addresses; here it stays";
+            self.note(
+                NoteKind::Changed,
+                span.start,
+                format!("{name}: {why} (--objects says whether it takes anything)"),
+            );
+        }
+        if let Some(e) = &section.subalign {
+            let what = format!("SUBALIGN({}) of {name}", self.quoted(e.span));
+            let (kind, why) = match self.is_without_objects() {
+                true => (NoteKind::Changed, "its input sections have their own alignments here"),
+                false => (NoteKind::Rewritten, "places of its input sections are written where they differ"),
+            };
+            self.note(kind, span.start, format!("{what}: {why}"));
+        }
         for (is_there, what, why) in parts {
             if is_there {
                 self.note(NoteKind::Rewritten, span.start, format!("{what} of {name}: {why}"));
@@ -208,6 +252,7 @@ impl<'a> Walk<'a> {
             head.align = Some(self.text_of(e, settled));
             self.report(e.span, settled);
         }
+        self.align_as_own(section, place, head_align, &mut head, span);
         let start = match &section.address {
             Some(e) => self.written_address(e, &mut head, place, at),
             None => self.unwritten_address(&mut head, place),
@@ -217,10 +262,49 @@ impl<'a> Walk<'a> {
         head
     }
 
+    /// Aligns a section that has one of those that GNU ld makes itself, which no object has (elf-bfd.h,
+    /// `bed->s->log_file_align`): where nothing is known of the objects, and it stays without it.
+    fn align_as_own(
+        &mut self,
+        section: &OutputSection,
+        place: Option<&Placed>,
+        head_align: u64,
+        head: &mut Written,
+        span: Span,
+    ) {
+        let place = match place.filter(|_| self.is_without_objects() && section.address.is_none()) {
+            Some(place) => place,
+            None => return,
+        };
+        let own_align = self.made_by_linker(place).map(|one| one.own_align).max().unwrap_or(1);
+        let stays = section.body.node.iter().any(|statement| match &statement.node {
+            SectionStatement::Assign(_) | SectionStatement::Data(..) => true,
+            SectionStatement::Input(node) => node.sections.iter().flatten().any(|one| !is_of_linker(&one.node.glob)),
+            _ => false,
+        });
+        if stays && own_align > head_align {
+            head.align = Some(own_align.to_string());
+            head.alignment = head.alignment.max(own_align);
+            let name = &section.name.node;
+            let why = "as sections are that GNU ld makes itself and places there, without contents in a static link";
+            self.note(NoteKind::Rewritten, span.start, format!("{name} is aligned by {own_align}, {why}"));
+        }
+    }
+
+    /// The sections of a place that GNU ld makes itself.
+    fn made_by_linker<'p>(&self, place: &'p Placed) -> impl Iterator<Item = &'a InputSection> + 'p
+    where
+        'a: 'p,
+    {
+        let evaluation = self.request.evaluation;
+        let all = place.inputs.iter().filter_map(move |id| evaluation?.section(*id));
+        all.filter(|one| one.flags.has(Flags::CREATED))
+    }
+
     /// An expression by the rules alone, with the value that GNU ld has for it.
     fn settle_by_itself(&mut self, e: &Expr, at: At) -> Settled {
         let needed = self.gnu_value(e);
-        self.settle(e, at, needed, &mut |_, _| Vec::new())
+        self.settle(e, at, needed)
     }
 
     fn text_of(&self, old: &Expr, settled: &Settled) -> String {
@@ -238,13 +322,23 @@ impl<'a> Walk<'a> {
     }
 
     /// The region that a section is in: the one that it names, or by attributes.
-    fn region_of(&self, section: &OutputSection, span: Span) -> Option<Name> {
+    fn region_of(&mut self, section: &OutputSection, span: Span) -> Option<Name> {
         if let Some(region) = &section.region {
             return Some(self.region_name(&region.node));
         }
-        let evaluation = self.request.evaluation?;
-        let output = evaluation.output_at(span)?;
+        let region = self.region_of_output(self.request.evaluation?.output_at(span)?)?;
+        if self.is_without_objects() && section.load_region.is_none() {
+            let why = "by the region's attributes and the names that it takes (--objects says what they are)";
+            let what = format!("{} goes to >{region}", section.name.node);
+            self.note(NoteKind::Changed, span.start, format!("{what}: {why}"));
+        }
+        Some(region)
+    }
+
+    /// The region that GNU ld has a section in, where MEMORY has it.
+    fn region_of_output(&self, output: &Output) -> Option<Name> {
         output.in_image()?;
+        let evaluation = self.request.evaluation?;
         let region = evaluation.regions.get(output.region.index())?;
         (region.name != DEFAULT_REGION && self.regions.contains_key(&region.name)).then(|| region.name.clone())
     }
@@ -253,19 +347,44 @@ impl<'a> Walk<'a> {
         if let Some(region) = &section.load_region {
             return Some(self.region_name(&region.node));
         }
-        let evaluation = self.request.evaluation?;
-        let region = evaluation.output_at(span)?.load_region?;
-        evaluation.regions.get(region.index()).map(|region| region.name.clone())
+        self.load_region_of_output(self.request.evaluation?.output_at(span)?)
+    }
+
+    fn load_region_of_output(&self, output: &Output) -> Option<Name> {
+        let region = self.request.evaluation?.regions.get(output.load_region?.index())?;
+        Some(region.name.clone())
+    }
+
+    /// The head of an output section that stands in no script.
+    pub(super) fn orphans_head(
+        &mut self,
+        section: &OutputSection,
+        output: &Output,
+        place: &Placed,
+        from: u32,
+    ) -> Written {
+        let at = At { at: from, is_assert: false, dot: Some(self.dot) };
+        let (region, load_region) = (self.region_of_output(output), self.load_region_of_output(output));
+        let alignment = self.row_alignment(place).max(1);
+        let mut head = Written { region, load_region, alignment, ..Written::default() };
+        head.start = self.unwritten_address(&mut head, Some(place));
+        head.load_at = self.written_load(section, &mut head, Some(place), at);
+        head
     }
 
     /// The address in front of the colon.
     fn written_address(&mut self, e: &Expr, head: &mut Written, place: Option<&Placed>, at: At) -> u64 {
         let needed = place.map(|place| place.address);
         let align = place.map_or(1, |place| place.align);
-        let mut settled = self.settle(e, at, needed, &mut |_, own| {
-            let aligned = made(ExprKind::Call(Function::Align, vec![own.clone(), number(align)]));
-            vec![(aligned, "aligned as GNU ld aligns it".into())]
-        });
+        let mut settled = self.settle(e, at, needed);
+        if settled.reasons.is_numeric || settled.reasons.depends {
+            let aligned = made(ExprKind::Call(Function::Align, vec![e.clone(), number(align)]));
+            let other = self.settle(&aligned, at, needed);
+            if !other.reasons.is_numeric && !other.reasons.is_left() {
+                settled = other;
+                settled.reasons.said = vec!["aligned as GNU ld aligns it".into()];
+            }
+        }
         self.report(e.span, &settled);
         settled.reasons = Reasons::default();
         head.address = Some(self.text_of(e, &settled));
@@ -279,7 +398,7 @@ impl<'a> Walk<'a> {
         let base = free.unwrap_or(self.dot);
         let start = aligned(base, head.alignment);
         let wanted = match place {
-            Some(place) if place.address != start => place,
+            Some(place) if place.address != start && !(place.is_gone && self.is_without_objects()) => place,
             _ => return start,
         };
         if aligned(base, wanted.align.max(head.alignment)) == wanted.address {
@@ -302,6 +421,11 @@ impl<'a> Walk<'a> {
         if let Some(e) = own_load {
             return self.own_load(section, e, head, needed, at);
         }
+        if let (true, Some(needed), Some(_)) = (self.is_without_objects(), needed, &head.load_region) {
+            if let Some(load) = self.load_by_region(section, head, needed, at) {
+                return load;
+            }
+        }
         let predicted = self.predicted_load(head);
         let needed = match needed {
             Some(needed) if needed != predicted && !is_free => needed,
@@ -317,12 +441,107 @@ impl<'a> Walk<'a> {
             );
             return needed;
         }
-        let distance = head.start.wrapping_sub(needed);
-        let e = difference(self.start_expression(section, head), number(distance));
+        let name = &section.name.node;
+        self.note(NoteKind::Rewritten, at.at, format!("{name}: its load address is written, as GNU ld aligns it"));
+        let start = self.start_expression(section, head);
+        let e = match needed.checked_sub(head.start) {
+            Some(more) => binary(BinaryOperator::Add, start, number(more)),
+            None => binary(BinaryOperator::Subtract, start, number(head.start - needed)),
+        };
         let e = if self.value_of(&e, at) == Some(needed) { e } else { number(needed) };
         head.load = Some(self.written(&e));
         self.result.has_moving_values = true;
         needed
+    }
+
+    /// AT>r, where nothing is known of the objects. Beside >r of the same region a section is loaded where it starts, but
+    /// with an address where r is free; here AT>r moves r to the load end, so without file bytes back. In another region
+    /// GNU ld aligns the load address by the head's ALIGN alone.
+    fn load_by_region(&mut self, section: &OutputSection, head: &mut Written, needed: u64, at: At) -> Option<u64> {
+        let name = section.name.node.clone();
+        let load_region = head.load_region.clone()?;
+        if head.region.as_ref() != Some(&load_region) {
+            let align = section.align.as_ref().and_then(|e| self.value_of(e, at)).unwrap_or(1);
+            if align < MOST_ALIGNMENT && section.load_region.is_some() && !section.is_aligned_with_input {
+                let why = "its load address is aligned as the section is; GNU ld aligns it by the head's ALIGN alone                            (--objects says whether that differs)";
+                self.note(NoteKind::Changed, at.at, format!("AT>{load_region} of {name}: {why}"));
+                return Some(needed);
+            }
+            return None;
+        }
+        if section.address.is_none() {
+            let has_distance = self.distances.get(&head.region).map_or(false, |distance| *distance != 0);
+            if has_distance || needed != head.start {
+                return None;
+            }
+            let why = format!("it is where it starts, as >{load_region} says");
+            self.note(NoteKind::Rewritten, at.at, format!("AT>{load_region} of {name}: {why}"));
+            head.load_region = None;
+            return Some(needed);
+        }
+        let free = self.regions.get(&load_region)?.next;
+        let align = match &section.align {
+            Some(e) => self.value_of(e, at)?,
+            None => 1,
+        };
+        if aligned(free, align) != needed {
+            return None;
+        }
+        let helper = self.load_name(&name);
+        self.edits.insert(at.at, 2, format!("{helper} : {{ }} >{load_region} "));
+        let place = format!("ADDR({helper})");
+        head.load = Some(match &section.align {
+            Some(e) => format!("ALIGN({place}, {})", self.written(e)),
+            None => place,
+        });
+        head.load_region = None;
+        let why = format!("it is where {load_region} is free, by an empty section {helper}");
+        self.note(NoteKind::Rewritten, at.at, format!("AT>{load_region} of {name}: {why}"));
+        Some(needed)
+    }
+
+    /// A name for an empty section that is for a load address.
+    fn load_name(&mut self, section: &Name) -> Name {
+        let plain = section.to_str_lossy().trim_start_matches('.').to_owned();
+        let wish = format!("ldi.load.{plain}");
+        let name = self.versions.fresh(if is_name(wish.as_bytes()) { &wish } else { "ldi.load" });
+        self.section_names.insert(name.clone());
+        name
+    }
+
+    /// AT by ADDR of the section itself, less a distance: that of an empty section before it, which it keeps.
+    fn load_by_distance(&mut self, e: &Expr, head: &Written, name: &Name, needed: u64, at: At) -> Option<u64> {
+        let own = made(ExprKind::Query(Query::Addr, name.clone()));
+        let distance = match &e.kind {
+            ExprKind::Binary(BinaryOperator::Subtract, left, distance) if **left == own => (**distance).clone(),
+            ExprKind::Binary(BinaryOperator::Add, left, step) if **left == own => {
+                binary(BinaryOperator::Subtract, number(0), (**step).clone())
+            }
+            _ => return None,
+        };
+        let mut settled = self.settle(&distance, at, None);
+        let value = self.value_of(&settled.e, at)?;
+        if names_section(&distance, name) || settled.reasons.is_left() || head.start.wrapping_sub(value) != needed {
+            return None;
+        }
+        let helper = self.load_name(name);
+        let (front, start) = match &head.region {
+            None => (String::new(), made(ExprKind::Dot)),
+            Some(region) => {
+                let place = self.versions.fresh(&format!("{helper}.at"));
+                (format!("{place} : {{ }} >{region} "), made(ExprKind::Query(Query::Addr, place)))
+            }
+        };
+        let region = head.region.as_ref().map_or_else(String::new, |region| format!(" >{region}"));
+        let load = self.written(&binary(BinaryOperator::Subtract, start, settled.e.clone()));
+        self.edits.insert(at.at, 2, format!("{front}{helper} : AT({load}) {{ }}{region} "));
+        settled.reasons.said.clear();
+        settled
+            .reasons
+            .say(format!("AT of {name}: an empty section {helper} before it has the distance, and it keeps that"));
+        self.take(&settled.reasons);
+        self.note(NoteKind::Rewritten, e.span.start, settled.reasons.said.join("; "));
+        Some(needed)
     }
 
     /// The load address by what the profile says of a head without AT(e).
@@ -348,17 +567,22 @@ impl<'a> Walk<'a> {
             self.note(NoteKind::Rewritten, e.span.start, format!("AT({what}) of {name}: {why}"));
             return self.predicted_load(head);
         }
+        if let (true, None, Some(needed)) = (names_itself && self.is_without_objects(), &section.address, needed) {
+            if let Some(load) = self.load_by_distance(e, head, &name, needed, at) {
+                return load;
+            }
+        }
         if uses_dot(e) {
             let what = "`.` is the place before the section; to GNU ld 2.40 it is 0 there";
             self.note(NoteKind::Changed, e.span.start, format!("AT of {name}: {what}"));
-            let settled = self.settle(e, at, None, &mut |_, _| Vec::new());
+            let settled = self.settle(e, at, None);
             head.load = Some(self.text_of(e, &settled));
             self.report(e.span, &settled);
             return self.value_of(&settled.e, at).or(needed).unwrap_or(head.start);
         }
         let start = self.start_expression(section, head);
         let own = with_section(e, &name, &start);
-        let mut settled = self.settle(&own, at, needed, &mut |_, _| Vec::new());
+        let mut settled = self.settle(&own, at, needed);
         if settled.reasons.is_numeric && needed.is_some() {
             let distance = head.start.wrapping_sub(needed.unwrap_or(0));
             let near = binary(BinaryOperator::Subtract, start, number(distance));
@@ -392,35 +616,35 @@ impl<'a> Walk<'a> {
 
     /// Writes a head, where it is another.
     fn put_head(&mut self, section: &OutputSection, emitted: &Name, head: &Written, span: Span) {
-        let mut new = emitted.to_str_lossy().into_owned();
-        if let Some(address) = &head.address {
-            new.push(' ');
-            new.push_str(address);
-        }
-        new.push_str(" :");
-        if let Some(load) = &head.load {
-            new.push_str(&format!(" AT({load})"));
-        }
-        if let Some(align) = &head.align {
-            new.push_str(&format!(" ALIGN({align})"));
-        }
-        new.push_str(" {");
+        let new = self.head_text(emitted, head);
         let end = section.body.span.start + 1;
         if self.squeezed(span.start, end) != super::walk::squeezed(new.as_bytes()) {
             self.edits.replace(self.text, Span { start: span.start, end }, new);
         }
     }
 
+    /// A head, up to the opening brace.
+    pub(super) fn head_text(&self, emitted: &Name, head: &Written) -> String {
+        let mut text = emitted.to_str_lossy().into_owned();
+        if let Some(address) = &head.address {
+            text.push(' ');
+            text.push_str(address);
+        }
+        text.push_str(" :");
+        if let Some(load) = &head.load {
+            text.push_str(&format!(" AT({load})"));
+        }
+        if let Some(align) = &head.align {
+            text.push_str(&format!(" ALIGN({align})"));
+        }
+        text.push_str(" {");
+        text
+    }
+
     /// Writes a tail, where it is another.
-    fn put_tail(&mut self, section: &OutputSection, head: &Written, span: Span) {
-        let mut new = String::new();
-        if let Some(region) = &head.region {
-            new.push_str(&format!(" >{region}"));
-        }
-        if let Some(region) = head.load_region.as_ref().filter(|_| head.load.is_none()) {
-            new.push_str(&format!(" AT>{region}"));
-        }
-        if let Some(fill) = section.fill.as_ref().and_then(|fill| self.fill(fill, span)) {
+    fn put_tail(&mut self, section: &'a OutputSection, head: &Written, span: Span) {
+        let mut new = tail_text(head);
+        if let Some(fill) = self.tail_fill(section).and_then(|fill| self.fill(fill, span)) {
             new.push_str(&format!(" ={fill}"));
         }
         let tail = Span { start: section.body.span.end, end: span.end };
@@ -483,7 +707,7 @@ impl<'a> Walk<'a> {
             _ => None,
         };
         let at = At { at: span.start, is_assert: false, dot: Some(self.dot) };
-        let settled = self.settle(&whole_value(assignment), at, needed, &mut |_, _| Vec::new());
+        let settled = self.settle(&whole_value(assignment), at, needed);
         let text = format!("{} = {}; ", version.emitted, self.written(&settled.e));
         self.edits.insert(before, 10, text);
         self.take(&settled.reasons);
@@ -522,6 +746,18 @@ impl<'a> Walk<'a> {
             self.edits.blank(self.text, tail);
         }
     }
+}
+
+/// A tail without the fill.
+pub(super) fn tail_text(head: &Written) -> String {
+    let mut text = String::new();
+    if let Some(region) = &head.region {
+        text.push_str(&format!(" >{region}"));
+    }
+    if let Some(region) = head.load_region.as_ref().filter(|_| head.load.is_none()) {
+        text.push_str(&format!(" AT>{region}"));
+    }
+    text
 }
 
 /// The lowest multiple of a power of two at or above a place.
@@ -563,6 +799,46 @@ fn with_section(e: &Expr, name: &Name, start: &Expr) -> Expr {
     made(kind)
 }
 
+/// Whether a statement of a section may give it bytes of the file, by the names that it takes.
+fn may_have_bytes(statement: &SectionStatement) -> bool {
+    let is_of_zeros = |glob: &[u8]| {
+        glob == b"COMMON"
+            || [".bss", ".sbss", ".noinit", ".dynbss"].iter().any(|front| glob.starts_with(front.as_bytes()))
+    };
+    match statement {
+        SectionStatement::Input(node) => {
+            node.sections.as_ref().map_or(true, |all| !all.iter().all(|one| is_of_zeros(&one.node.glob)))
+        }
+        SectionStatement::Data(..) | SectionStatement::Text(_) => true,
+        _ => false,
+    }
+}
+
+/// The names of sections that most links have.
+const USUAL: [&[u8]; 6] = [b".text", b".data", b".bss", b".rodata", b"COMMON", b"*"];
+
+/// Whether a section says where it goes, and may take nothing: it has nothing but input statements of unusual names.
+fn may_be_empty(section: &OutputSection) -> bool {
+    let says = section.address.is_some()
+        || section.align.is_some()
+        || section.load_address.is_some()
+        || section.load_region.is_some();
+    let is_unusual = |glob: &[u8]| !USUAL.iter().any(|usual| glob.starts_with(usual));
+    let takes_little = |statement: &SectionStatement| match statement {
+        SectionStatement::Input(node) => {
+            node.sections.as_ref().map_or(false, |all| all.iter().all(|one| is_unusual(&one.node.glob)))
+        }
+        SectionStatement::Constructors(_) | SectionStatement::Fill(_) => true,
+        _ => false,
+    };
+    says && section.body.node.iter().all(|one| takes_little(&one.node))
+}
+
+/// Whether a pattern takes nothing but what GNU ld makes itself.
+pub(crate) fn is_of_linker(glob: &[u8]) -> bool {
+    [".got", ".igot", ".rela", ".rel.", ".iplt"].iter().any(|front| glob.starts_with(front.as_bytes()))
+}
+
 /// Whether all patterns of a section are of what is never loaded, as debug information.
 fn takes_unloaded(section: &OutputSection) -> bool {
     let mut patterns = section.body.node.iter().filter_map(|statement| match &statement.node {
@@ -575,8 +851,25 @@ fn takes_unloaded(section: &OutputSection) -> bool {
         && patterns.all(|mut patterns| patterns.all(|pattern| is_unloaded(&pattern.node.glob)))
 }
 
-fn is_unloaded(glob: &[u8]) -> bool {
-    [".debug", ".zdebug", ".stab", ".comment", ".gnu.linkonce.wi", ".gnu.attributes", ".note.GNU-stack", ".line"]
-        .iter()
-        .any(|front| glob.starts_with(front.as_bytes()))
+/// How the names of sections begin that are never loaded.
+const UNLOADED: [&[u8]; 14] = [
+    b".debug",
+    b".zdebug",
+    b".stab",
+    b".comment",
+    b".gnu.linkonce.wi",
+    b".gnu.attributes",
+    b".gnu.build.attributes",
+    b".gnu.debuglto_",
+    b".gnu.lto_",
+    b".note.GNU-stack",
+    b".line",
+    b".GCC.command.line",
+    b".mdebug",
+    b".gdb_index",
+];
+
+/// Whether a name is one of sections that are never loaded, as those of debug information.
+pub(crate) fn is_unloaded(name: &[u8]) -> bool {
+    UNLOADED.iter().any(|front| name.starts_with(front))
 }

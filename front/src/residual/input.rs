@@ -1,13 +1,20 @@
 //! Input statements: patterns in the profile's spelling, one sort to a statement.
 
+use std::borrow::Cow;
+use std::collections::HashMap;
+
 use bstr::ByteSlice;
+use object::elf;
 
 use super::head::is_linked;
+use super::inserted::ranks;
 use super::note::NoteKind;
 use super::profile::{is_word, matches, word_of, word_of_name};
 use super::walk::Walk;
 use crate::layout::evaluation::StatementKind;
-use crate::layout::ids::SectionId;
+use crate::layout::has_wildcard;
+use crate::layout::ids::{SectionId, StatementId};
+use crate::layout::settings::SectionSort;
 use crate::script::tree::{InputStatement, Name, Pattern, Sort, Span, Spanned};
 
 /// The sorts of the profile.
@@ -36,6 +43,8 @@ struct Form {
     is_in_doubt: bool,
     /// Whether that is so for some names alone, which are looked at where they are known.
     is_of_names: bool,
+    /// What is other for some objects, where nothing is known of them.
+    changed: Vec<String>,
 }
 
 impl Form {
@@ -49,6 +58,13 @@ impl Form {
     fn doubt(&mut self, text: impl Into<String>) {
         self.is_in_doubt = true;
         self.say(text);
+    }
+
+    /// A doubt that only the objects can settle.
+    fn doubt_of_objects(&mut self, text: impl Into<String>) {
+        let text = text.into();
+        self.changed.push(text.clone());
+        self.doubt(text);
     }
 
     /// The text of the statements.
@@ -123,32 +139,96 @@ impl<'a> Walk<'a> {
     /// Writes an input statement of an output section; gives whether what is written takes what GNU ld's takes, in its
     /// order, as far as that is known.
     pub(super) fn input(&mut self, node: &'a InputStatement, span: Span, sections: &[SectionId]) -> bool {
-        let is_plain = is_plain(node) && !self.has_renamed_file(node);
-        if is_plain && !self.has_doubtful_file(node) {
+        if self.is_without_objects() {
+            self.say_without_objects(node, span);
+            if !node.section_flags.is_empty() {
+                return true;
+            }
+        }
+        let is_plain = is_plain(node) && !self.has_renamed_file(node) && self.request.sort_section.is_none();
+        let is_in_doubt = self.has_doubtful_file(node)
+            || self.has_link_order(sections)
+            || self.request.leaves_unique
+            || self.is_inserted;
+        if is_plain && !is_in_doubt {
             return true;
         }
-        let form = form_of(node, false, self.has_members());
-        let is_in_doubt = form.is_in_doubt || self.has_doubtful_file(node);
-        if (is_in_doubt || form.is_of_names) && self.request.evaluation.is_some() {
+        let form = self.form_of(&self.with_option(node), false);
+        let is_in_doubt = form.is_in_doubt || is_in_doubt;
+        let is_looked_at = is_in_doubt || form.is_of_names;
+        let what = self.quoted(span);
+        if self.is_without_objects() {
+            if !self.holds_of_any(&form, is_looked_at, span, sections) {
+                return true;
+            }
+        } else if is_looked_at && self.request.evaluation.is_some() {
             if !self.takes_the_same(&form, span, sections) {
-                let what = self.quoted(span);
                 self.note(NoteKind::Rewritten, span.start, format!("{what}: what it takes, one by one"));
                 return false;
             }
         } else if is_in_doubt {
-            let what = self.quoted(span);
             let why = form.said.join("; ");
             self.note(NoteKind::Changed, span.start, format!("{what}: {why}"));
         }
         let text = form.text(node.is_kept);
-        if self.squeezed(span.start, span.end) == super::walk::squeezed(text.as_bytes()) {
+        if self.squeezed(span.start, span.end) != super::walk::squeezed(text.as_bytes()) {
+            let why = if form.said.is_empty() { format!("as {text}") } else { form.said.join("; ") };
+            self.edits.replace(self.text, span, text);
+            self.note(NoteKind::Rewritten, span.start, format!("{what}: {why}"));
+        }
+        true
+    }
+
+    /// Whether a form may be written where nothing is known of the objects, and what is said of it.
+    fn holds_of_any(&mut self, form: &Form, is_looked_at: bool, span: Span, sections: &[SectionId]) -> bool {
+        let what = self.quoted(span);
+        for why in &form.changed {
+            let sentence = format!("{what}: {why} (--objects says whether that differs)");
+            self.note(NoteKind::Changed, span.start, sentence);
+        }
+        if !form.changed.is_empty() || !is_looked_at || self.takes_the_same(form, span, sections) {
             return true;
         }
+        let why = "no statement is sure to take the same: write patterns of names, or give --objects";
+        self.note(NoteKind::Left, span.start, format!("{what}: {why}"));
+        false
+    }
+
+    /// Says what may be another where nothing is known of the objects.
+    fn say_without_objects(&mut self, node: &InputStatement, span: Span) {
         let what = self.quoted(span);
-        self.edits.replace(self.text, span, text.clone());
-        let why = if form.said.is_empty() { format!("as {text}") } else { form.said.join("; ") };
-        self.note(NoteKind::Rewritten, span.start, format!("{what}: {why}"));
-        true
+        if !node.section_flags.is_empty() {
+            let why = "INPUT_SECTION_FLAGS has nothing in its place: write patterns of names, or give --objects";
+            return self.note(NoteKind::Left, span.start, format!("{what}: {why}"));
+        }
+        let takes_unloaded = |pattern: &Pattern| super::head::is_unloaded(&pattern.glob) || pattern.glob == "*";
+        let all = node.sections.as_ref().map_or(true, |all| all.iter().any(|one| takes_unloaded(&one.node)));
+        if all {
+            let why = "GNU ld takes sections without the flag ALLOC too; here only what is loaded is linked";
+            self.note(NoteKind::Changed, span.start, format!("{what}: {why}"));
+        }
+    }
+
+    /// A statement with the sorts of `--sort-section` (ldlang.c, `update_wild_statements`).
+    fn with_option<'n>(&self, node: &'n InputStatement) -> Cow<'n, InputStatement> {
+        let own = match self.request.sort_section {
+            None => return Cow::Borrowed(node),
+            Some(SectionSort::Name) => Sort::ByName,
+            Some(SectionSort::Alignment) => Sort::ByAlignment,
+        };
+        let mut node = node.clone();
+        for pattern in node.sections.iter_mut().flatten().map(|pattern| &mut pattern.node) {
+            let is_fixed = matches!(pattern.glob.as_slice(), b".init" | b".fini");
+            let may_have = match pattern.sorts.as_slice() {
+                [] => true,
+                [one @ (Sort::ByName | Sort::ByAlignment)] => *one != own,
+                _ => false,
+            };
+            if may_have && !is_fixed {
+                pattern.sorts.push(own);
+            }
+        }
+        Cow::Owned(node)
     }
 
     /// Writes an input statement of `/DISCARD/`.
@@ -164,11 +244,29 @@ impl<'a> Walk<'a> {
                 return self.note(NoteKind::Rewritten, span.start, format!("{what}: what it takes, one by one"));
             }
         }
-        let form = form_of(node, true, self.has_members());
+        let form = self.form_of(node, true);
         let text = form.text(false);
         self.edits.replace(self.text, span, text.clone());
         let why = if form.said.is_empty() { format!("as {text}") } else { form.said.join("; ") };
         self.note(NoteKind::Rewritten, span.start, format!("{what}: {why}"));
+    }
+
+    /// The statements of the profile for one of GNU ld's. Objects that are not known are named by files alone.
+    fn form_of(&mut self, node: &InputStatement, is_discarded: bool) -> Form {
+        let mut form = form_of(node, is_discarded, self.has_members());
+        let glob = node.file.as_ref().map_or(&b""[..], |file| file.node.glob.as_slice());
+        let of_archive = glob.iter().rposition(|byte| *byte == b':').filter(|at| *at > 0);
+        if let (true, Some(at)) = (self.is_without_objects(), of_archive) {
+            let member = glob.get(at + 1..).unwrap_or_default();
+            let member = [if member.starts_with(b"*") { &b""[..] } else { b"*" }, member].concat();
+            let (word, file) = (word_of(&member).0.into_owned(), glob.to_str_lossy());
+            let why = format!("`{file}` is `{}`: objects are named by files, not by archives", word.to_str_lossy());
+            form.files = vec![word];
+            if let Some(file) = &node.file {
+                self.note(NoteKind::Changed, file.span.start, why);
+            }
+        }
+        form
     }
 
     /// Statements that take these input sections, each by its names.
@@ -181,6 +279,15 @@ impl<'a> Walk<'a> {
             Some(format!("{}({})", object.to_str_lossy(), name.to_str_lossy()))
         };
         sections.iter().filter_map(one).collect::<Vec<_>>().join(" ")
+    }
+
+    /// Whether some of these sections are in the order of others.
+    fn has_link_order(&self, sections: &[SectionId]) -> bool {
+        let is_ordered = |id: &SectionId| {
+            let section = self.request.evaluation.and_then(|evaluation| evaluation.section(*id));
+            section.map_or(false, |section| section.bits & u64::from(elf::SHF_LINK_ORDER) != 0)
+        };
+        sections.len() > 1 && sections.iter().any(is_ordered)
     }
 
     /// Whether the file has another name than in the text, as it was found in another folder.
@@ -208,11 +315,13 @@ impl<'a> Walk<'a> {
             Some(evaluation) => evaluation,
             None => return true,
         };
+        let ranks = if self.is_inserted { ranks(evaluation) } else { HashMap::new() };
+        let rank = |id: StatementId| ranks.get(&id).copied().unwrap_or(id.index() as u32);
         let own = match evaluation.by_span.get(&span) {
-            Some(id) => id.index() as u32,
+            Some(id) => rank(*id),
             None => return sections.is_empty(),
         };
-        let takers = self.takers.get_or_insert_with(|| takers(evaluation));
+        let takers = self.takers.get_or_insert_with(|| takers(evaluation, &rank));
         let mut ids = Vec::new();
         let mut known = Vec::new();
         for (index, one) in evaluation.sections.iter().enumerate() {
@@ -227,14 +336,14 @@ impl<'a> Walk<'a> {
     }
 }
 
-/// For each input section the index of the statement that takes it; those that none takes have the highest.
-fn takers(evaluation: &crate::layout::Evaluation) -> Vec<u32> {
+/// For each input section the rank of the statement that takes it; those that none takes have the highest.
+fn takers(evaluation: &crate::layout::Evaluation, rank: &dyn Fn(StatementId) -> u32) -> Vec<u32> {
     let mut takers = vec![u32::MAX; evaluation.sections.len()];
     for (index, statement) in evaluation.statements.iter().enumerate() {
         if let StatementKind::Input { sections, .. } = &statement.kind {
             for id in sections {
                 if let Some(taker) = takers.get_mut(id.index()) {
-                    *taker = index as u32;
+                    *taker = rank(StatementId::new(index));
                 }
             }
         }
@@ -298,7 +407,7 @@ fn form_of(node: &InputStatement, is_discarded: bool, has_members: bool) -> Form
         group(&pattern.node, left_out, is_discarded, has_members, &mut form);
     }
     if form.groups.len() > 1 {
-        form.doubt("a statement for each sort");
+        form.doubt_of_objects("a statement for each sort");
     }
     form
 }
@@ -310,7 +419,7 @@ fn everything() -> Pattern {
 /// The patterns of files of a statement.
 fn file_patterns(file: &Pattern, form: &mut Form) {
     if file.sorts.iter().any(|sort| *sort != Sort::None) {
-        form.doubt("files are in the order of the link, not sorted by name");
+        form.doubt_of_objects("files are in the order of the link, not sorted by name");
     }
     let glob = &file.glob;
     let own = match glob.iter().rposition(|byte| *byte == b':') {
@@ -338,7 +447,11 @@ fn word(glob: &[u8], form: &mut Form) -> Vec<u8> {
         form.say(format!("`{}`: to GNU ld the comma is a byte of the name; spaces part names", glob.to_str_lossy()));
     }
     if !is_exact {
-        form.doubt(format!("`{}` is `{}` here, which may match other names", glob.to_str_lossy(), word.to_str_lossy()));
+        form.doubt_of_objects(format!(
+            "`{}` is `{}` here, which may match other names",
+            glob.to_str_lossy(),
+            word.to_str_lossy()
+        ));
     }
     word.into_owned()
 }
@@ -353,7 +466,11 @@ fn group(pattern: &Pattern, left_out: &[Name], is_discarded: bool, has_members: 
     let files = left_out.iter().chain(&pattern.excluded_files);
     let excluded: Vec<Vec<u8>> = files.flat_map(|file| excluded_files(file, has_members, form)).collect();
     if sort.is_some() && !excluded.is_empty() {
-        form.doubt("EXCLUDE_FILE does not stand in a sort");
+        let why = "EXCLUDE_FILE does not stand in a sort";
+        match has_wildcard(&pattern.glob) || sort != Some(ProfileSort::ByName) {
+            true => form.doubt_of_objects(why),
+            false => form.doubt(why),
+        }
         sort = None;
     }
     let entry = (word(&pattern.glob, form), excluded);
@@ -399,16 +516,21 @@ fn sort_of(pattern: &Pattern, form: &mut Form) -> Option<ProfileSort> {
             Sort::ByInitPriority => {
                 let is_fine = pattern.glob.starts_with(b".init_array.") || pattern.glob.starts_with(b".fini_array.");
                 form.say("by name, as priorities have five digits");
-                form.is_in_doubt |= !is_fine;
+                if !is_fine {
+                    form.doubt_of_objects("it is sorted by name, not by the number at its end");
+                }
                 form.is_of_names = true;
                 found.push(ProfileSort::ByName);
             }
             Sort::None => form.say("SORT_NONE is no sort"),
-            Sort::Reverse => form.doubt("REVERSE: not in reverse"),
+            Sort::Reverse => form.doubt_of_objects("REVERSE: not in reverse"),
         }
     }
-    if found.len() > 1 {
-        form.doubt("the first sort alone: equals stay in the order of the link");
+    let why = "the first sort alone: equals stay in the order of the link";
+    match found.as_slice() {
+        [first, second, ..] if first != second => form.doubt_of_objects(why),
+        [_, _, ..] => form.doubt(why),
+        _ => {}
     }
     found.first().copied()
 }

@@ -5,7 +5,7 @@ use crate::script::tree::{
 };
 
 /// Calls a function for each assignment, with the span of its statement.
-pub(super) fn for_each_assignment<'a>(script: &'a Script, act: &mut dyn FnMut(&'a Assignment, Span)) {
+pub(crate) fn for_each_assignment<'a>(script: &'a Script, act: &mut dyn FnMut(&'a Assignment, Span)) {
     for statement in &script.statements {
         match &statement.node {
             Statement::Assign(assignment) => act(assignment, statement.span),
@@ -47,7 +47,7 @@ pub(super) fn sections(script: &Script) -> impl Iterator<Item = (&OutputSection,
 }
 
 /// Calls a function for each expression as a whole, with the place where its statement begins.
-pub(super) fn for_each_expression(script: &Script, act: &mut dyn FnMut(&Expr, u32)) {
+pub(crate) fn for_each_expression(script: &Script, act: &mut dyn FnMut(&Expr, u32)) {
     for statement in &script.statements {
         let at = statement.span.start;
         match &statement.node {

@@ -1,4 +1,4 @@
-//! The limits of the profile on a run of signs (docs/scripts.md, 'Limits'), and comments of `#`.
+//! The limits of the profile on a run of signs (docs/limits.md, 'Scripts'), and comments of `#`.
 
 use super::edits::Rendered;
 

@@ -5,15 +5,19 @@
 //! compared with GNU ld's own (`layout`) at each place: where the two differ, the value that GNU ld finds is written, with
 //! an ASSERT of it where it is an object's. So a rule need not know where it holds.
 
+mod aliases;
 mod body;
 mod edits;
 mod expression;
 mod head;
 mod input;
+mod inserted;
 mod items;
 mod limits;
 mod note;
+mod orphans;
 mod profile;
+mod relative;
 mod rules;
 mod segments;
 mod top;
@@ -24,12 +28,18 @@ mod walk;
 use bstr::{BStr, BString};
 
 use crate::finish::WantedSegment;
+use crate::layout::evaluation::InputSection;
+use crate::layout::settings::SectionSort;
 use crate::layout::Evaluation;
+use crate::objects::{Home, Object};
 use crate::script::source::{Place, Source};
 use crate::script::tree::{Name, Script};
 
+pub use aliases::Alias;
+pub(crate) use head::{is_of_linker, is_unloaded as is_unloaded_name};
+pub(crate) use items::{for_each_assignment, for_each_expression};
 pub use note::{Note, NoteKind, Topic};
-pub(crate) use profile::is_name as is_profile_name;
+pub(crate) use profile::{is_name as is_profile_name, matches as matches_word};
 
 /// The entry symbol of an image whose entry no name has.
 pub const NUMBER_ENTRY: &str = "ld.ldi.entry";
@@ -43,6 +53,9 @@ pub struct Request<'a> {
     pub source: &'a Source,
     /// What GNU ld makes of it; without it, only the rules are gone by.
     pub evaluation: Option<&'a Evaluation>,
+    /// Where the objects are not known, and the evaluation is one over invented objects: those over others. What is not
+    /// the same in all of them depends on the objects, and is not written as a number.
+    pub others: Option<&'a [&'a Evaluation]>,
     /// The names of the objects in the session, in the order of the link.
     pub objects: &'a [&'a BStr],
     /// Whether the caller links the files that the script names, and keeps what EXTERN names.
@@ -53,6 +66,14 @@ pub struct Request<'a> {
     pub has_default_entry: bool,
     /// Names of symbols and the objects that define them, for what is said.
     pub defines: &'a dyn Fn(&BStr) -> bool,
+    /// Whether an input section has symbols with names.
+    pub has_names: &'a dyn Fn(&InputSection) -> bool,
+    /// `--sort-section`
+    pub sort_section: Option<SectionSort>,
+    /// Whether statements leave sections of some names to orphans (`--unique=PATTERN`).
+    pub leaves_unique: bool,
+    /// Whether input sections that no statement takes are placed: not with `--orphan-handling=error`.
+    pub places_orphans: bool,
     /// The input sections, by their index, that stay by KEEP alone: GNU ld's --gc-sections keeps them, and `ldi` would
     /// not by itself. Empty where there are none.
     pub kept: &'a [bool],
@@ -73,6 +94,8 @@ pub struct Residual {
     pub notes: Vec<Note>,
     /// The symbols of objects whose values are written in it.
     pub foreign: Vec<(Name, u64)>,
+    /// The names that objects are to have for their symbols: what the text does not assign any more.
+    pub aliases: Vec<Alias>,
     /// Whether values that move with an edit are written as numbers.
     pub has_moving_values: bool,
     /// The entry symbol, where the script cannot name it: it is an option of the session.
@@ -97,6 +120,13 @@ impl Residual {
     pub fn changed(&self) -> impl Iterator<Item = &Note> {
         self.notes.iter().filter(|note| note.kind == NoteKind::Changed)
     }
+}
+
+/// Whether symbols of objects that have names are in an input section.
+pub fn has_names(objects: &[Object], section: &InputSection) -> bool {
+    let home = section.number().map(Home::Section);
+    let symbols = objects.get(section.object.0 as usize).into_iter().flat_map(|object| object.symbols());
+    symbols.into_iter().any(|symbol| !symbol.name.is_empty() && Some(symbol.home) == home)
 }
 
 /// Writes a script in the profile.

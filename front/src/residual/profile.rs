@@ -226,7 +226,7 @@ fn write_ranges(members: &BTreeSet<u8>, word: &mut Vec<u8>) {
 }
 
 /// Whether a pattern of the profile matches a whole name.
-pub(super) fn matches(pattern: &[u8], name: &[u8]) -> bool {
+pub(crate) fn matches(pattern: &[u8], name: &[u8]) -> bool {
     // Where a `*` was, and how much of the name it has taken: the last one alone is tried again.
     let (mut p, mut n) = (0, 0);
     let mut star: Option<(usize, usize)> = None;

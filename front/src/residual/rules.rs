@@ -2,10 +2,15 @@
 //!
 //! A rule says nothing of whether the form has the same value in its place; who uses it compares values.
 
-use bstr::{BString, ByteSlice};
+use bstr::BString;
 
-use super::expression::{binary, made, number, written};
+use super::expression::{binary, made, number, word, written};
 use crate::script::tree::{BinaryOperator, Expr, ExprKind, Function, Name, Query, UnaryOperator};
+
+/// The file header and three program headers.
+const USUAL_HEADERS: u64 = 64 + 3 * 56;
+/// MAXPAGESIZE and COMMONPAGESIZE, where the command line says nothing.
+const DEFAULT_PAGE: u64 = 0x1000;
 
 /// What the rules ask of the place where an expression stands.
 pub(super) trait Around {
@@ -17,6 +22,17 @@ pub(super) trait Around {
     fn region(&self, name: &Name) -> Name;
     /// The value that GNU ld has for an expression; `None` where that is not known.
     fn value(&self, e: &Expr) -> Option<u64>;
+    /// Whether nothing is known of the objects.
+    fn is_without_objects(&self) -> bool;
+    /// Whether nothing is known of the objects, and the script only PROVIDEs a symbol.
+    fn is_provided(&self, name: &Name) -> bool;
+    /// The value of CONSTANT.
+    fn constant(&self, e: &Expr, name: &Name) -> Option<u64> {
+        let page = || matches!(name.as_slice(), b"MAXPAGESIZE" | b"COMMONPAGESIZE").then_some(DEFAULT_PAGE);
+        self.value(e).or_else(|| page().filter(|_| self.is_without_objects()))
+    }
+    /// Whether the script says how many program headers there are.
+    fn has_program_headers(&self) -> bool;
 }
 
 /// An expression of the profile, with why it was changed.
@@ -30,6 +46,10 @@ pub(super) struct Reasons {
     pub(super) is_numeric: bool,
     /// Why there is no form at all: names that have no value here.
     pub(super) missing: Vec<Name>,
+    /// What has another meaning now, as far as it is known.
+    pub(super) changed: Vec<String>,
+    /// Whether the value depends on objects that are not known.
+    pub(super) depends: bool,
     /// The ASSERTs in it: their conditions and messages.
     pub(super) assertions: Vec<(Expr, Name)>,
 }
@@ -40,6 +60,11 @@ impl Reasons {
         if !self.said.contains(&text) {
             self.said.push(text);
         }
+    }
+
+    /// Whether no form was found, so that the statement is left.
+    pub(super) fn is_left(&self) -> bool {
+        self.depends || !self.missing.is_empty()
     }
 }
 
@@ -61,7 +86,7 @@ pub(super) fn translate(e: &Expr, around: &dyn Around, reasons: &mut Reasons) ->
             let (left, right) = (translate(left, around, reasons), translate(right, around, reasons));
             return operation(*operator, left, right, reasons);
         }
-        ExprKind::Conditional(test, yes, no) => match decided(test, around) {
+        ExprKind::Conditional(test, yes, no) => match decided(test, around, reasons) {
             Some(is_true) => {
                 reasons.say(format!("{} is decided", described(test)));
                 return translate(if is_true { yes } else { no }, around, reasons);
@@ -78,7 +103,7 @@ pub(super) fn translate(e: &Expr, around: &dyn Around, reasons: &mut Reasons) ->
             reasons.say(format!("SEGMENT_START of {name} is its value"));
             return translate(inner, around, reasons);
         }
-        ExprKind::SizeofHeaders => return numeric(e, "SIZEOF_HEADERS", around, reasons),
+        ExprKind::SizeofHeaders => return headers(e, around, reasons),
         ExprKind::Assert(condition, message) => {
             reasons.say("ASSERT is a statement and has no value");
             reasons.assertions.push(((**condition).clone(), message.clone()));
@@ -93,12 +118,43 @@ fn translated(e: &Expr, around: &dyn Around, reasons: &mut Reasons) -> Box<Expr>
 }
 
 /// A condition of DEFINED alone, whose value is known.
-fn decided(test: &Expr, around: &dyn Around) -> Option<bool> {
+fn decided(test: &Expr, around: &dyn Around, reasons: &mut Reasons) -> Option<bool> {
     match &test.kind {
-        ExprKind::Query(Query::Defined, _) => around.value(test).map(|value| value != 0),
-        ExprKind::Unary(UnaryOperator::Not, inner) => decided(inner, around).map(|is_true| !is_true),
+        ExprKind::Query(Query::Defined, name) => {
+            let is_defined = around.value(test).map(|value| value != 0)?;
+            say_defined(name, is_defined, around, reasons);
+            Some(is_defined)
+        }
+        ExprKind::Unary(UnaryOperator::Not, inner) => decided(inner, around, reasons).map(|is_true| !is_true),
         _ => None,
     }
+}
+
+/// Says that it depends on the objects whether a name is defined.
+fn say_defined(name: &Name, is_defined: bool, around: &dyn Around, reasons: &mut Reasons) {
+    if !is_defined && around.is_without_objects() {
+        reasons.changed.push(format!(
+            "DEFINED({name}) is taken as 0: --objects says whether an object defines it, and `--defsym {name}=VALUE` does"
+        ));
+    }
+    if is_defined && around.is_provided(name) {
+        reasons.changed.push(format!(
+            "DEFINED({name}) is taken as 1: --objects says whether an object uses it, so that its PROVIDE counts"
+        ));
+    }
+}
+
+/// The size of the headers of GNU ld's image, which counts its own segments.
+fn headers(e: &Expr, around: &dyn Around, reasons: &mut Reasons) -> Expr {
+    if !around.is_without_objects() || around.has_program_headers() {
+        return numeric(e, "SIZEOF_HEADERS", around, reasons);
+    }
+    let value = around.value(e).unwrap_or(USUAL_HEADERS);
+    reasons.changed.push(format!(
+        "SIZEOF_HEADERS is taken as {}: GNU ld counts its own program headers; no segment has the headers here",
+        written(value)
+    ));
+    number(value)
 }
 
 fn described(test: &Expr) -> String {
@@ -180,6 +236,17 @@ fn call(e: &Expr, function: Function, arguments: &[Expr], around: &dyn Around, r
                 _ => e.clone(),
             }
         }
+        Function::DataSegmentAlign if around.is_without_objects() => {
+            let page = own().into_iter().next();
+            reasons
+                .changed
+                .push("DATA_SEGMENT_ALIGN(a, b) is ALIGN(a): no page is saved, and no end is aligned for RELRO".into());
+            made(ExprKind::Call(Function::Align, page.into_iter().collect()))
+        }
+        Function::DataSegmentRelroEnd if around.is_without_objects() => {
+            reasons.changed.push("DATA_SEGMENT_RELRO_END(n, e) is e".into());
+            arguments.last().map_or_else(|| number(0), |end| translate(end, around, reasons))
+        }
         Function::DataSegmentAlign => numeric(e, "DATA_SEGMENT_ALIGN", around, reasons),
         Function::DataSegmentRelroEnd => numeric(e, "DATA_SEGMENT_RELRO_END", around, reasons),
         Function::Log2Ceil => numeric(e, "LOG2CEIL", around, reasons),
@@ -193,22 +260,25 @@ fn asked(e: &Expr, query: Query, name: &Name, around: &dyn Around, reasons: &mut
             None => numeric(e, &text_of(query, name), around, reasons),
         },
         Query::Origin | Query::Length => Expr::new(ExprKind::Query(query, around.region(name)), e.span),
-        Query::Alignof | Query::Constant | Query::Defined => numeric(e, &text_of(query, name), around, reasons),
+        Query::Defined => {
+            if let Some(value) = around.value(e) {
+                say_defined(name, value != 0, around, reasons);
+            }
+            numeric(e, &text_of(query, name), around, reasons)
+        }
+        Query::Constant => match around.constant(e, name) {
+            Some(value) => {
+                reasons.say(format!("{} is {}", text_of(query, name), written(value)));
+                number(value)
+            }
+            None => numeric(e, &text_of(query, name), around, reasons),
+        },
+        Query::Alignof => numeric(e, &text_of(query, name), around, reasons),
     }
 }
 
 fn text_of(query: Query, name: &Name) -> String {
-    let word = match query {
-        Query::Addr => "ADDR",
-        Query::Alignof => "ALIGNOF",
-        Query::Constant => "CONSTANT",
-        Query::Defined => "DEFINED",
-        Query::Length => "LENGTH",
-        Query::Loadaddr => "LOADADDR",
-        Query::Origin => "ORIGIN",
-        Query::Sizeof => "SIZEOF",
-    };
-    format!("{word}({})", name.to_str_lossy())
+    format!("{}({name})", word(query))
 }
 
 /// The operator of an update, as `+=`, with the old value: the whole right side.

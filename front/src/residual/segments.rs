@@ -51,17 +51,20 @@ fn wanted(walk: &Walk<'_>, headers: &[&Spanned<ProgramHeader>]) -> Result<Vec<Wa
         .collect()
 }
 
-fn members<'a>(walk: &Walk<'a>) -> Vec<Member<'a>> {
-    let mut found = Vec::new();
+fn members<'a>(walk: &'a Walk<'_>) -> Vec<Member<'a>> {
+    let mut found: Vec<(u32, Member<'a>)> = Vec::new();
     for (section, span) in sections(walk.script) {
         let place = walk.request.evaluation.and_then(|evaluation| evaluation.output_at(span)?.place.as_ref());
         if place.is_none() && section.constraint.is_some() {
             continue;
         }
         let name = walk.emitted.get(&span.start).cloned();
-        found.push((name, section.segments.iter().map(|segment| &segment.node).collect()));
+        found.push((span.start, (name, section.segments.iter().map(|segment| &segment.node).collect())));
     }
-    found
+    let orphans = walk.orphans.written();
+    found.extend(orphans.map(|(at, name, segments)| (at, (Some(name.clone()), segments.iter().collect()))));
+    found.sort_by_key(|(at, _)| *at);
+    found.into_iter().map(|(_, member)| member).collect()
 }
 
 /// What GNU ld refuses of names.
@@ -123,6 +126,7 @@ fn header_of(walk: &Walk<'_>, header: &Spanned<ProgramHeader>) -> Result<WantedS
         load: node.load_address.as_ref().map(|e| value(e, "AT")).transpose()?,
         has_file_header: node.has_file_header,
         has_program_headers: node.has_program_headers,
+        address: None,
         sections: Vec::new(),
     })
 }

@@ -17,11 +17,16 @@ fn adapted(script: &str) -> Residual {
         script: &reading.script,
         source: &reading.source,
         evaluation: evaluation.as_ref().ok(),
+        others: None,
         objects: &names,
         is_followed: false,
         entry: None,
         has_default_entry: false,
         defines: &|_| false,
+        has_names: &|_| false,
+        places_orphans: true,
+        sort_section: None,
+        leaves_unique: false,
         kept: &[],
         keeps_more: false,
         collects_start_stop: false,
@@ -194,11 +199,16 @@ fn an_entry_that_nothing_defines_is_written_as_an_address() {
         script: &reading.script,
         source: &reading.source,
         evaluation: Some(&evaluation),
+        others: None,
         objects: &names,
         is_followed: true,
         entry: None,
         has_default_entry: true,
         defines: &|_| false,
+        has_names: &|_| false,
+        places_orphans: true,
+        sort_section: None,
+        leaves_unique: false,
         kept: &[],
         keeps_more: false,
         collects_start_stop: false,
@@ -237,4 +247,67 @@ fn no_text_makes_it_panic() {
             }
         }
     }
+}
+
+/// What stands in `.t` and behind it for statements where nothing is known of the objects.
+fn of_any(statements: &str, after: &str) -> String {
+    let script = format!("SECTIONS {{ . = 0x1000; .t : {{ *(.text) {statements} }} {after} }}");
+    let reading = crate::script::parse(Path::new("t.ld"), script.as_bytes()).unwrap();
+    let kinds = invented::all(&reading.script).unwrap();
+    let others: Vec<&Evaluation> = kinds.iter().skip(1).map(|kind| &kind.evaluation).collect();
+    let done = residual(Request {
+        script: &reading.script,
+        source: &reading.source,
+        evaluation: Some(&kinds[0].evaluation),
+        others: Some(&others),
+        objects: &[],
+        is_followed: false,
+        entry: None,
+        has_default_entry: false,
+        defines: &|_| true,
+        has_names: &|_| false,
+        places_orphans: false,
+        sort_section: None,
+        leaves_unique: false,
+        kept: &[],
+        keeps_more: false,
+        collects_start_stop: false,
+    });
+    let text = done.text.to_str_lossy();
+    text.split("*(.text)").nth(1).unwrap().trim_end_matches('}').split_whitespace().collect::<Vec<_>>().join(" ")
+}
+
+/// ldexp.c, `fold_binary`: with a number an operator works on the distance from the section's start, and the result
+/// counts from there.
+#[test]
+fn operators_work_on_distances_of_any_objects() {
+    assert_eq!(of_any("m = .;", "a = m & 7;"), "m = .; } a = m & 7;");
+    let sized = "m = .; } a = (m - ADDR(.t) & SIZEOF(.t)) + ADDR(.t);";
+    assert_eq!(of_any("m = .;", "a = m & SIZEOF(.t);"), sized);
+    assert_eq!(of_any("m = .;", "a = m < SIZEOF(.t);"), "m = .; } a = m - ADDR(.t) < SIZEOF(.t);");
+    assert_eq!(of_any("m = .;", "a = -m;"), "m = .; } a = -(m - ADDR(.t)) + ADDR(.t);");
+    assert_eq!(of_any("m = .;", "a = (m + m) / 2;"), "m = .; } a = (m - ADDR(.t) + (m - ADDR(.t))) / 2;");
+    assert_eq!(of_any("m = .;", "a = m - 1 + 2;"), "m = .; } a = m - 1 + 2;");
+}
+
+/// ldlang.c, `lang_size_sections_1`: an assignment to `.` in a section takes a number from its start, an address as it is.
+#[test]
+fn the_location_counter_moves_through_a_symbol() {
+    let next = "ldi.next.1 = ALIGN(8) + 4; . = ldi.next.1 - ldi.start.t; }";
+    assert_eq!(of_any(". = ALIGN(8) + 4;", ""), next);
+    assert_eq!(of_any(". = . + 4 + 4;", ""), ". += 4 + 4; }");
+    assert_eq!(of_any("m = .; . = m + 8;", ""), "m = .; . = m + 8 - ldi.start.t; }");
+}
+
+#[test]
+fn what_needs_more_stands_behind_it() {
+    assert_eq!(of_any("n = SIZEOF(.t);", ""), "} n = SIZEOF(.t) + ADDR(.t);");
+    assert_eq!(of_any("a = b;", ".d : { *(.data) b = .; }"), "} .d : { *(.data) b = .; } a = b;");
+    assert_eq!(of_any("", "a = SIZEOF(.d); .d : { *(.data) }"), "} .d : { *(.data) } a = SIZEOF(.d);");
+}
+
+#[test]
+fn what_needs_the_objects_is_left_as_it_is() {
+    assert_eq!(of_any("", ". = . + SIZEOF(.d); .d : { *(.data) }"), "} . = . + SIZEOF(.d); .d : { *(.data) }");
+    assert_eq!(of_any("ASSERT(. < 64, \"m\");", ""), "ldi.here.1 = .; ASSERT(ldi.here.1 - ADDR(.t) < 64, \"m\"); }");
 }

@@ -4,9 +4,11 @@ use bstr::{BStr, ByteSlice};
 
 use super::expression::{any, made, says, uses_dot, with_dot, written};
 use super::note::{NoteKind, Topic};
+use super::orphans::{Extent, Orphans};
 use super::profile::is_name;
+use super::relative::Inside;
 use super::rules::updated;
-use super::walk::{At, Memory, Others, Settled, Walk};
+use super::walk::{At, Memory, Settled, Waiting, Walk};
 use super::NUMBER_ENTRY;
 use crate::layout::evaluation::{Definer, StatementKind};
 use crate::script::tree::{
@@ -90,6 +92,10 @@ impl<'a> Walk<'a> {
                            the section";
                 Some((NoteKind::Changed, Topic::Beside, why.into()))
             }
+            Statement::Insert(..) if self.is_inserted => {
+                let why = "what stands before it is written there";
+                Some((NoteKind::Rewritten, Topic::Statement, why.into()))
+            }
             Statement::Insert(..) => {
                 Some((NoteKind::Left, Topic::Statement, "put the section at its place in the one script".into()))
             }
@@ -106,7 +112,7 @@ impl<'a> Walk<'a> {
         if self.request.is_followed {
             return (NoteKind::Dropped, Topic::Beside, "its files are linked".into());
         }
-        let objects = self.request.objects;
+        let objects = if self.is_without_objects() { &[] } else { self.request.objects };
         let missing: Vec<&BStr> = names.iter().copied().filter(|name| !objects.contains(name)).collect();
         if missing.is_empty() && (!is_first || objects.first() == names.first()) {
             return (NoteKind::Dropped, Topic::Beside, "the objects are given".into());
@@ -154,6 +160,12 @@ impl<'a> Walk<'a> {
                 self.note(NoteKind::Rewritten, statement.span.start, "a second SECTIONS goes on with the first");
             }
         }
+        let end = all.get(high).map_or(0, |statement| statement.span.end);
+        let opening = match all.get(first) {
+            Some(statement) if low == first => self.braces(statement.span).0 + 1,
+            _ => start(low),
+        };
+        self.extent = Some(Extent { span: Span { start: start(low), end }, opening });
         start(low)
     }
 
@@ -240,7 +252,7 @@ impl<'a> Walk<'a> {
     /// ORIGIN or LENGTH: its text and its value.
     fn of_region(&mut self, e: &Expr, span: Span, needed: Option<u64>) -> (String, Option<u64>) {
         let at = At { at: span.start, is_assert: false, dot: None };
-        let settled = self.settle(e, at, needed, &mut |_, _| Vec::new());
+        let settled = self.settle(e, at, needed);
         self.report(span, &settled);
         let text = match says(self.slice(e.span), &settled.e, self.text) {
             true => self.slice(e.span).to_str_lossy().trim().to_owned(),
@@ -257,22 +269,94 @@ impl<'a> Walk<'a> {
     // --- the statements in their order ---
 
     pub(super) fn statements(&mut self) {
+        if let Some(evaluation) = self.request.evaluation.filter(|_| self.request.places_orphans) {
+            self.orphans = Orphans::of(&self.request, evaluation, self.extent);
+        }
+        if let (Some(evaluation), true) = (self.request.evaluation, self.is_inserted) {
+            return self.statements_inserted(evaluation);
+        }
         let script = self.script;
         for statement in &script.statements {
+            self.first_orphans(statement.span.start);
             match &statement.node {
                 Statement::Assign(assignment) => self.assignment(assignment, statement.span),
                 Statement::Assert(assertion) => self.assertion(assertion, statement.span),
                 Statement::Sections(items) => {
                     for item in items {
                         self.item(&item.node, item.span);
+                        self.orphans_after(item.span);
+                        self.waited(item.span.end);
                     }
                 }
                 _ => {}
             }
+            self.orphans_after(statement.span);
+            self.waited(statement.span.end);
+        }
+        self.orphans_alone();
+        for waiting in std::mem::take(&mut self.waiting) {
+            let what = self.quoted(waiting.span);
+            let why = "it needs what is not known without the objects: give them by --objects, or write a number";
+            self.note(NoteKind::Left, waiting.span.start, format!("{what}; {why}"));
         }
     }
 
-    fn item(&mut self, item: &'a SectionsStatement, span: Span) {
+    /// Writes the assignments that waited for what is known by now.
+    fn waited(&mut self, at: u32) {
+        let mut is_new = true;
+        while std::mem::take(&mut is_new) {
+            for waiting in std::mem::take(&mut self.waiting) {
+                match self.written_late(&waiting) {
+                    Some(text) => {
+                        self.edits.blank(self.text, waiting.span);
+                        self.edits.insert_from(at, 200, format!(" {text}"), waiting.span.start);
+                        let what = self.quoted(waiting.span);
+                        let why = "stands where what it needs is known";
+                        self.note(NoteKind::Rewritten, waiting.span.start, format!("{what} {why}"));
+                        is_new = true;
+                    }
+                    None => self.waiting.push(waiting),
+                }
+            }
+        }
+    }
+
+    /// An assignment that waited, after its section; `None` where it still waits.
+    fn written_late(&mut self, waiting: &Waiting<'a>) -> Option<String> {
+        let name = &waiting.assignment.target.node;
+        let version = self.versions.of_statement(name, waiting.span.start)?.0.clone();
+        let needed = self.assigned_value(waiting.span)?;
+        let start = match waiting.output {
+            None => None,
+            Some(id) => {
+                let section = &self.request.evaluation?.output(id)?.name;
+                let done = self.done.get(section)?;
+                Some((id, made(ExprKind::Query(Query::Addr, done.name.clone()))))
+            }
+        };
+        let at = At { at: waiting.span.start, is_assert: false, dot: None };
+        let inside = start.map(|(id, start)| Inside { id, start, is_absolute: false });
+        let before = std::mem::replace(&mut self.inside, inside);
+        let e = self.assigned(&waiting.e, at);
+        self.inside = before;
+        let e = e.filter(|e| self.value_of(e, at) == Some(needed))?;
+        self.symbols.insert(version.emitted.clone(), needed);
+        let is_provided = matches!(waiting.assignment.provision, Provision::Provide | Provision::ProvideHidden);
+        Some(match is_provided && self.is_wanted_of_objects(name) {
+            true => format!("PROVIDE({} = {})", version.emitted, self.written(&e)),
+            false => format!("{} = {};", version.emitted, self.written(&e)),
+        })
+    }
+
+    /// The value that GNU ld gives a symbol by the assignment at a place.
+    fn assigned_value(&self, span: Span) -> Option<u64> {
+        match &self.evaluated(span)?.kind {
+            StatementKind::Assign { value, .. } => value.map(|value| value.address),
+            _ => None,
+        }
+    }
+
+    pub(super) fn item(&mut self, item: &'a SectionsStatement, span: Span) {
         match item {
             SectionsStatement::Assign(assignment) => self.assignment(assignment, span),
             SectionsStatement::Assert(assertion) => self.assertion(assertion, span),
@@ -288,18 +372,18 @@ impl<'a> Walk<'a> {
     }
 
     /// An assignment outside of output sections.
-    fn assignment(&mut self, assignment: &Assignment, span: Span) {
+    pub(super) fn assignment(&mut self, assignment: &'a Assignment, span: Span) {
         let e = whole_value(assignment);
         if assignment.target.node == "." {
             return self.dot_outside(assignment, &e, span);
         }
         self.sync_dot(&e, span);
         let at = At { at: span.start, is_assert: false, dot: Some(self.dot) };
-        self.symbol(assignment, &e, span, at, &mut |_, _| Vec::new());
+        self.symbol(assignment, &e, span, at);
     }
 
-    /// Writes an assignment to a symbol. `others` gives other forms of its expression.
-    pub(super) fn symbol(&mut self, assignment: &Assignment, e: &Expr, span: Span, at: At, others: Others<'_, 'a>) {
+    /// Writes an assignment to a symbol.
+    pub(super) fn symbol(&mut self, assignment: &'a Assignment, e: &Expr, span: Span, at: At) {
         let name = &assignment.target.node;
         let (version, is_last) = match self.versions.of_statement(name, span.start) {
             Some((version, is_last)) => (version.clone(), is_last),
@@ -314,16 +398,20 @@ impl<'a> Walk<'a> {
             self.note(NoteKind::Dropped, span.start, format!("{what}: a later assignment of {name} counts"));
             return self.edits.blank(self.text, span);
         }
+        if self.alias(assignment, &version, span) {
+            return;
+        }
         if !is_name(&version.emitted) {
             let what = self.quoted(span);
             let why = "is no name of the profile: letters, digits, `_`, `.`, `$` and `-`";
             return self.note(NoteKind::Left, span.start, format!("{what}: {name} {why}"));
         }
-        let needed = match self.evaluated(span).map(|statement| &statement.kind) {
-            Some(StatementKind::Assign { value, .. }) => value.map(|value| value.address),
-            _ => None,
-        };
-        let mut settled = self.settle(e, at, needed, others);
+        let needed = self.assigned_value(span);
+        let mut settled = self.settle(e, at, needed);
+        if self.waits(&settled, e, needed) {
+            let output = self.inside.as_ref().map(|inside| inside.id);
+            return self.waiting.push(Waiting { assignment, e: e.clone(), span, output });
+        }
         self.hoist(&mut settled, span, at);
         let stays_provided = is_provided && self.is_wanted_of_objects(name);
         self.put_symbol(assignment, &version.emitted, &mut settled, span, is_provided, stays_provided);
@@ -332,6 +420,18 @@ impl<'a> Walk<'a> {
         if let Some(value) = value {
             self.symbols.insert(version.emitted, value);
         }
+    }
+
+    /// Whether an assignment may stand after what it needs: nothing is known of the objects, and it does not use `.`.
+    fn waits(&self, settled: &Settled, e: &Expr, needed: Option<u64>) -> bool {
+        let names_script = |name: &Name| name.contains(&b'(') || self.versions.assigns(name);
+        let needs_later = settled.reasons.missing.iter().all(names_script);
+        self.is_without_objects()
+            && settled.reasons.is_left()
+            && needs_later
+            && needed.is_some()
+            && !uses_dot(e)
+            && settled.reasons.changed.is_empty()
     }
 
     /// Whether an object has a name undefined, so that a PROVIDE of it is in force.
@@ -346,7 +446,7 @@ impl<'a> Walk<'a> {
     fn idle(&mut self, assignment: &Assignment, e: &Expr, span: Span, at: At, is_provided: bool) {
         let name = &assignment.target.node;
         let is_taken = self.versions.assigns(name);
-        let mut settled = self.settle(e, at, None, &mut |_, _| Vec::new());
+        let mut settled = self.settle(e, at, None);
         let of_linker = self.request.evaluation.and_then(|evaluation| evaluation.symbol(name));
         let cannot_stay = !is_provided
             || of_linker.map_or(false, |symbol| symbol.definer == Definer::Linker)
@@ -433,11 +533,17 @@ impl<'a> Walk<'a> {
             Some(statement) => statement.dot,
             None => return,
         };
-        if wanted != self.dot {
-            self.edits.insert(span.start, BEFORE, format!(". = {}; ", written(wanted)));
-            self.dot = wanted;
-            self.result.has_moving_values = true;
+        if wanted == self.dot {
+            return;
         }
+        if let Some(why) = self.passed.clone().filter(|_| self.is_without_objects()) {
+            self.note(NoteKind::Changed, span.start, format!("{}: {why}", self.quoted(span)));
+            self.dot = wanted;
+            return;
+        }
+        self.edits.insert(span.start, BEFORE, format!(". = {}; ", written(wanted)));
+        self.dot = wanted;
+        self.result.has_moving_values = true;
     }
 
     fn dot_outside(&mut self, assignment: &Assignment, e: &Expr, span: Span) {
@@ -447,7 +553,7 @@ impl<'a> Walk<'a> {
         };
         self.sync_dot(e, span);
         let at = At { at: span.start, is_assert: false, dot: Some(self.dot) };
-        let mut settled = self.settle(e, at, needed, &mut |_, _| Vec::new());
+        let mut settled = self.settle(e, at, needed);
         self.hoist(&mut settled, span, at);
         if matches!(assignment.value.kind, ExprKind::Assert(..)) && needed == Some(self.dot) {
             self.report(span, &settled);
@@ -503,7 +609,12 @@ impl<'a> Walk<'a> {
     /// The condition of an ASSERT: the first form that is true where GNU ld finds it true; `.` by a symbol before it.
     fn condition(&mut self, e: &Expr, span: Span, may_use_dot: bool) -> String {
         let at = At { at: span.start, is_assert: true, dot: None };
+        let span_of_text = e.span;
         let mut e = e.clone();
+        if self.is_without_objects() {
+            e = with_defined(&e);
+            e = self.in_hand(&e, at).unwrap_or(e);
+        }
         if uses_dot(&e) && may_use_dot {
             let line = self.request.source.place(span.start).line;
             let name = self.versions.fresh(&format!("ldi.here.{line}"));
@@ -517,15 +628,21 @@ impl<'a> Walk<'a> {
         }
         let mut reasons = super::rules::Reasons::default();
         let own = super::rules::translate(&e, &super::view::View { walk: self, at }, &mut reasons);
-        if says(self.slice(e.span), &own, self.text) && self.holds(&own, at) {
-            return self.slice(e.span).to_str_lossy().into_owned();
+        for why in &reasons.changed {
+            let what = self.quoted(span);
+            self.note(NoteKind::Changed, span.start, format!("{what}; {why}"));
+        }
+        if says(self.slice(span_of_text), &own, self.text) && self.holds(&own, at) {
+            return self.slice(span_of_text).to_str_lossy().into_owned();
         }
         self.true_form(&e, &own, at)
     }
 
     /// Whether a condition is true, as far as that is known.
     fn holds(&self, e: &Expr, at: At) -> bool {
-        self.request.evaluation.is_none() || self.value_of(e, at).map_or(false, |value| value != 0)
+        self.request.evaluation.is_none()
+            || self.is_without_objects()
+            || self.value_of(e, at).map_or(false, |value| value != 0)
     }
 
     fn true_form(&mut self, _old: &Expr, own: &Expr, at: At) -> String {
@@ -681,6 +798,22 @@ pub(super) fn whole_value(assignment: &Assignment) -> Expr {
             };
             updated(made(old), operator, &assignment.value)
         }
+    }
+}
+
+/// A condition that holds where a name is defined: the name, which is a fault where nothing defines it, in place of
+/// DEFINED.
+fn with_defined(e: &Expr) -> Expr {
+    match &e.kind {
+        ExprKind::Query(Query::Defined, name) => {
+            let symbol = || Box::new(made(ExprKind::Symbol(name.clone())));
+            made(ExprKind::Binary(BinaryOperator::Equal, symbol(), symbol()))
+        }
+        ExprKind::Binary(operator @ (BinaryOperator::LogicalAnd | BinaryOperator::LogicalOr), left, right) => {
+            let (left, right) = (Box::new(with_defined(left)), Box::new(with_defined(right)));
+            Expr::new(ExprKind::Binary(*operator, left, right), e.span)
+        }
+        _ => e.clone(),
     }
 }
 

@@ -115,6 +115,16 @@ impl Versions {
         self.by_name.get(name.as_bstr()).map_or(false, |all| all.iter().any(|one| one.counts))
     }
 
+    /// Whether one assignment of a name alone has effect.
+    pub(super) fn is_alone(&self, name: &Name) -> bool {
+        self.by_name.get(name).map_or(false, |all| all.iter().filter(|one| one.counts).count() == 1)
+    }
+
+    /// Whether that is so for all names.
+    pub(super) fn are_alone(&self) -> bool {
+        self.by_name.values().all(|all| all.iter().filter(|one| one.counts).count() <= 1)
+    }
+
     /// A name that the text does not have.
     pub(super) fn fresh(&mut self, wish: &str) -> Name {
         let mut name = BString::from(wish);

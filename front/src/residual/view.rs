@@ -1,10 +1,11 @@
 //! What an expression may name at a place: for the rules, and for the value of what they give.
 
 use super::expression::Known;
+use super::items::for_each_assignment;
 use super::profile::is_name;
 use super::rules::Around;
 use super::walk::{At, Walk};
-use crate::script::tree::{Expr, ExprKind, Name, Query};
+use crate::script::tree::{Expr, ExprKind, Name, Provision, Query, Statement};
 use bstr::ByteSlice;
 
 /// The place of an expression, for the rules.
@@ -44,9 +45,26 @@ impl Around for View<'_, '_> {
 
     fn value(&self, e: &Expr) -> Option<u64> {
         match &e.kind {
-            ExprKind::Symbol(name) if self.walk.is_left_out(name) => None,
-            _ => self.walk.gnu_value(e),
+            ExprKind::Symbol(name) if self.walk.is_left_out(name) || self.walk.has_no_address(name) => None,
+            _ => self.walk.gnu_value(e).filter(|_| self.walk.is_known(e)),
         }
+    }
+
+    fn is_without_objects(&self) -> bool {
+        self.walk.request.others.is_some()
+    }
+
+    fn is_provided(&self, name: &Name) -> bool {
+        let mut is_provided = self.is_without_objects();
+        for_each_assignment(self.walk.script, &mut |assignment, _| {
+            let is_plain = matches!(assignment.provision, Provision::Plain | Provision::Hidden);
+            is_provided &= !is_plain || assignment.target.node != *name;
+        });
+        is_provided
+    }
+
+    fn has_program_headers(&self) -> bool {
+        self.walk.script.statements.iter().any(|statement| matches!(statement.node, Statement::Phdrs(_)))
     }
 }
 

@@ -5,16 +5,19 @@ use std::collections::{BTreeMap, HashMap, HashSet};
 use bstr::{BStr, BString, ByteSlice};
 
 use super::edits::Edits;
-use super::expression::{is_short, number, says, value, write};
+use super::expression::{any, is_short, number, says, value, write};
 use super::limits::{hash_comments, parted};
 use super::note::{Note, NoteKind, Topic};
+use super::orphans::{Extent, Orphans};
+use super::relative::Inside;
 use super::rules::{translate, Reasons};
 use super::versions::Versions;
 use super::view::{Facts, View};
 use super::{segments, Request, Residual};
 use crate::layout::evaluation::{Definer, InputSection, Statement, StatementKind};
-use crate::layout::ids::SectionId;
-use crate::script::tree::{Expr, Name, Provision, Script, Span};
+use crate::layout::ids::{OutputId, SectionId};
+use crate::layout::Evaluation;
+use crate::script::tree::{Assignment, Expr, ExprKind, Name, Provision, Query, Script, Span};
 
 /// An output section that is complete, as the profile has it.
 #[derive(Clone, Debug)]
@@ -53,8 +56,15 @@ pub(super) struct Settled {
     pub(super) reasons: Reasons,
 }
 
-/// Gives other forms of an expression of the profile, each with what is said of it.
-pub(super) type Others<'o, 'a> = &'o mut dyn FnMut(&mut Walk<'a>, &Expr) -> Vec<(Expr, String)>;
+/// An assignment that waits for what it needs.
+#[derive(Clone, Debug)]
+pub(super) struct Waiting<'a> {
+    pub(super) assignment: &'a Assignment,
+    pub(super) e: Expr,
+    pub(super) span: Span,
+    /// The output section that it stands in.
+    pub(super) output: Option<OutputId>,
+}
 
 /// Writes a script in the profile.
 pub(super) struct Walk<'a> {
@@ -78,6 +88,12 @@ pub(super) struct Walk<'a> {
     pub(super) distances: HashMap<Option<Name>, u64>,
     /// The location counter.
     pub(super) dot: u64,
+    /// The output section whose body is gone over.
+    pub(super) inside: Option<Inside>,
+    /// The assignments that wait for what they need.
+    pub(super) waiting: Vec<Waiting<'a>>,
+    /// Why `.` is another than GNU ld's, where the objects are not known.
+    pub(super) passed: Option<String>,
     /// The names of output sections that are taken.
     pub(super) section_names: HashSet<Name>,
     pub(super) foreign: BTreeMap<Name, u64>,
@@ -87,6 +103,12 @@ pub(super) struct Walk<'a> {
     pub(super) idle_names: HashSet<Name>,
     /// The input sections that got KEEP.
     pub(super) kept_by_name: Vec<SectionId>,
+    /// Whether statements move by INSERT.
+    pub(super) is_inserted: bool,
+    /// Where SECTIONS are.
+    pub(super) extent: Option<Extent>,
+    /// The output sections that stand in no script.
+    pub(super) orphans: Orphans,
     pub(super) result: Residual,
 }
 
@@ -118,17 +140,24 @@ impl<'a> Walk<'a> {
             regions: HashMap::new(),
             distances: HashMap::new(),
             dot: 0,
+            inside: None,
+            waiting: Vec::new(),
+            passed: None,
             section_names: HashSet::new(),
             foreign: BTreeMap::new(),
             takers: None,
             idle_names: HashSet::new(),
             kept_by_name: Vec::new(),
+            is_inserted: false,
+            extent: None,
+            orphans: Orphans::default(),
             result: Residual::default(),
         }
     }
 
     /// All of it.
     pub(super) fn run(mut self) -> Residual {
+        self.is_inserted = super::inserted::has_insert(self.script) && self.can_insert();
         self.hash_comments();
         self.includes();
         self.commands();
@@ -179,13 +208,6 @@ impl<'a> Walk<'a> {
             Some(evaluation) => evaluation,
             None => return,
         };
-        let orphans: Vec<SectionId> = evaluation
-            .orphans
-            .iter()
-            .copied()
-            .filter(|id| self.request.kept.get(id.index()).copied().unwrap_or(false))
-            .filter(|id| evaluation.section(*id).map_or(false, super::head::is_linked))
-            .collect();
         let is_unwinding =
             |one: &InputSection| one.output().is_some() && one.size > 0 && evaluation.section_name(one) == ".eh_frame";
         let all = evaluation.sections.iter().enumerate();
@@ -193,10 +215,6 @@ impl<'a> Walk<'a> {
         let unwinding: Vec<SectionId> = unwinding.map(|(index, _)| SectionId::new(index)).collect();
         if let Some(list) = self.listed(&unwinding) {
             let why = "under KEEP: all functions that it names stay; GNU ld takes out its entries for those that go";
-            self.note_of(NoteKind::Changed, Topic::Beside, end, format!("--gc-sections: {list}: {why}"));
-        }
-        if let Some(list) = self.listed(&orphans) {
-            let why = "GNU ld keeps and places this, which no statement takes; here it is not in the image";
             self.note_of(NoteKind::Changed, Topic::Beside, end, format!("--gc-sections: {list}: {why}"));
         }
     }
@@ -319,11 +337,28 @@ impl<'a> Walk<'a> {
         Some(self.request.evaluation?.value_at(e.span)?.address)
     }
 
+    /// Whether the value that GNU ld has for an expression does not depend on objects that are not known.
+    pub(super) fn is_known(&self, e: &Expr) -> bool {
+        match self.request.others {
+            None => true,
+            Some(others) => {
+                let value = |one: &&Evaluation| one.value_at(e.span).map(|value| value.address);
+                let own = self.gnu_value(e);
+                own.is_some() && !others.is_empty() && others.iter().all(|one| value(one) == own)
+            }
+        }
+    }
+
+    /// Whether nothing is known of the objects.
+    pub(super) fn is_without_objects(&self) -> bool {
+        self.request.others.is_some()
+    }
+
     // --- expressions ---
 
-    /// The form of the profile that has the value that GNU ld has: the first of those that a rule gives and others made
-    /// of it; else the number. Without a value of GNU ld's the first.
-    pub(super) fn settle(&mut self, e: &Expr, at: At, needed: Option<u64>, others: Others<'_, 'a>) -> Settled {
+    /// The form of the profile that has the value that GNU ld has: that which the rules give, or what GNU ld makes of its
+    /// parts; else the number. Without a value of GNU ld's the first.
+    pub(super) fn settle(&mut self, e: &Expr, at: At, needed: Option<u64>) -> Settled {
         let mut reasons = Reasons::default();
         let own = translate(e, &View { walk: self, at }, &mut reasons);
         let needed = match needed {
@@ -331,22 +366,53 @@ impl<'a> Walk<'a> {
             Some(needed) => needed,
         };
         let is_right = |walk: &Walk<'a>, e: &Expr| walk.value_of(e, at) == Some(needed) && is_short(&walk.written(e));
+        if !reasons.changed.is_empty() {
+            return Settled { e: own, reasons };
+        }
+        if let Some(counted) = self.assigned(e, at).filter(|_| self.is_without_objects()) {
+            if is_right(self, &counted) {
+                if counted != own {
+                    reasons.say(self.counted_why(&counted));
+                }
+                reasons.missing.clear();
+                return Settled { e: counted, reasons };
+            }
+        }
         if reasons.missing.is_empty() && is_right(self, &own) {
             return Settled { e: own, reasons };
         }
-        for (other, why) in others(self, &own) {
-            if is_right(self, &other) {
-                reasons.say(why);
-                return Settled { e: other, reasons };
-            }
+        if let Some(counted) = self.assigned(e, at).filter(|counted| is_right(self, counted)) {
+            reasons.say(self.counted_why(&counted));
+            reasons.missing.clear();
+            return Settled { e: counted, reasons };
         }
-        if reasons.missing.iter().any(|name| self.is_left_out(name)) {
+        if reasons.missing.iter().any(|name| self.is_left_out(name) || self.has_no_address(name)) {
+            return Settled { e: own, reasons };
+        }
+        if !self.is_known(e) {
+            reasons.depends = true;
             return Settled { e: own, reasons };
         }
         let mut reasons = Reasons { assertions: reasons.assertions, ..Reasons::default() };
         reasons.say("as the value that GNU ld finds");
         reasons.is_numeric = true;
         Settled { e: number(needed), reasons }
+    }
+
+    /// Why an expression is written as GNU ld counts it.
+    fn counted_why(&self, counted: &Expr) -> String {
+        let evaluation = self.request.evaluation;
+        let name = self.inside.as_ref().and_then(|inside| Some(&evaluation?.output(inside.id)?.name));
+        let is_start = |e: &Expr| match (&e.kind, &self.inside) {
+            (ExprKind::Query(Query::Addr, _), _) => true,
+            (_, Some(inside)) => *e == inside.start,
+            (_, None) => false,
+        };
+        match name {
+            _ if !any(counted, &mut |e| is_start(e)) => "as GNU ld evaluates it".into(),
+            Some(name) => format!("a number counts from the start of {name} in it"),
+            None => "it works on the distance from the section's start".into(),
+        }
     }
 
     /// The value that the profile gives an expression at a place.
@@ -387,7 +453,14 @@ impl<'a> Walk<'a> {
             let why = self.why_missing(name);
             self.note(NoteKind::Left, span.start, format!("{what}; {why}"));
         }
-        if !settled.reasons.said.is_empty() {
+        if settled.reasons.depends && settled.reasons.missing.is_empty() {
+            let why = "its value depends on the objects: give them by --objects, or write a number";
+            self.note(NoteKind::Left, span.start, format!("{what}; {why}"));
+        }
+        for why in &settled.reasons.changed {
+            self.note(NoteKind::Changed, span.start, format!("{what}; {why}"));
+        }
+        if !settled.reasons.said.is_empty() && !settled.reasons.is_left() {
             let why = settled.reasons.said.join("; ");
             self.note(NoteKind::Rewritten, span.start, format!("{what} {why}"));
         }
@@ -407,12 +480,49 @@ impl<'a> Walk<'a> {
         }
     }
 
+    /// Whether a symbol is in a section of an object, whose address a script that is kept should not have as a number.
+    pub(super) fn has_no_address(&self, name: &Name) -> bool {
+        let symbol = self.request.evaluation.and_then(|evaluation| evaluation.symbol(name));
+        !self.request.is_followed && matches!(symbol.map(|symbol| symbol.definer), Some(Definer::Object(Some(_))))
+    }
+
+    /// What to write for an object's symbol, before the statement that takes its section.
+    fn advice(&self, name: &Name) -> Option<String> {
+        let evaluation = self.request.evaluation.filter(|_| !self.is_without_objects())?;
+        let symbol = evaluation.symbol(name)?;
+        let id = match symbol.definer {
+            Definer::Object(Some(id)) => id,
+            _ => return None,
+        };
+        let section = evaluation.section(id)?;
+        let takes = |statement: &&Statement| matches!(&statement.kind, StatementKind::Input { sections, .. } if sections.contains(&id));
+        let span = evaluation.statements.iter().find(takes)?.span?;
+        let more = match symbol.value?.address.wrapping_sub(evaluation.section_address(section)?) {
+            0 => String::new(),
+            more => format!(" + {more:#x}"),
+        };
+        let object = self.request.objects.get(section.object.0 as usize)?;
+        Some(format!(
+            "{name} is an object's symbol and has no address while the layout goes on: before line {} write \
+             `. = ALIGN({}); here = .{more}; {object}({})`, use `here` for {name}, and add `ASSERT(here == {name}, \"..\")`",
+            self.request.source.place(span.start).line,
+            section.own_align,
+            evaluation.section_name(section),
+        ))
+    }
+
     fn why_missing(&self, name: &BString) -> String {
         if self.is_left_out(name) {
             return format!(
                 "the section of {name} is not in the image, so that its value cannot be written: take it in, under KEEP \
                  where --gc-sections leaves it out"
             );
+        }
+        if let Some(advice) = self.advice(name) {
+            return advice;
+        }
+        if self.is_without_objects() && (name.contains(&b'(') || self.versions.assigns(name)) {
+            return format!("{name} is not known here without the objects: give them by --objects, or write a number");
         }
         match (self.request.defines)(name.as_bstr()) {
             true => format!(

@@ -329,11 +329,6 @@ pub(super) fn scan(state: State, rest: &[u8]) -> Option<(Kind, usize)> {
     best
 }
 
-/// Whether a name can be written without quotes in a state.
-pub(super) fn is_bare(state: State, name: &[u8]) -> bool {
-    !name.starts_with(b"/*") && scan(state, name) == Some((Kind::Name, name.len()))
-}
-
 fn run(text: &[u8], is_in: impl Fn(u8) -> bool) -> usize {
     text.iter().position(|byte| !is_in(*byte)).unwrap_or(text.len())
 }

@@ -6,7 +6,6 @@
 mod error;
 mod lexer;
 mod parser;
-pub mod print;
 pub mod source;
 pub mod tree;
 mod words;
@@ -101,6 +100,13 @@ impl<'a> Reader<'a> {
             script.statements.push(parser.defsym()?);
             Ok(())
         })
+    }
+
+    /// Whether a part of the statements has INSERT.
+    #[must_use]
+    pub fn has_insert(&self, part: &Range<usize>) -> bool {
+        let statements = self.script.statements.get(part.clone()).unwrap_or_default();
+        statements.iter().any(|statement| matches!(statement.node, tree::Statement::Insert(..)))
     }
 
     /// All that was read.

@@ -1,8 +1,7 @@
-//! The links of a server: what is still as it was read is not read again, and the session gets what is not.
+//! The links of a server: inputs that have not changed are not read again, and the session gets those that have.
 //!
-//! A call looks at all inputs. Where nothing but objects is other, the plan of the link before is made once more with
-//! them; else the link is made from the words on. What is written for it is given to the call only where, after that,
-//! all inputs are still what was read.
+//! A call tests all inputs. If only objects changed, the plan of the last link is repeated with them; else the link is
+//! planned from the command line. Output is released to the call only if no input changed meanwhile.
 
 use std::ffi::{OsStr, OsString};
 use std::fs;
@@ -171,9 +170,9 @@ impl Links {
         let environment = self.environment.clone();
         let asked = Asked { words: &wish.words, environment: &environment, is_verbose: false };
         match planned {
-            Some(planned) => {
+            Some(mut planned) => {
                 let asked = Asked { is_verbose: planned.command.is_verbose, ..asked };
-                let status = make(&planned, &mut self.mirror, asked, host);
+                let status = make(&mut planned, &mut self.mirror, asked, host);
                 Ok(Done(status?, Some(planned)))
             }
             None => {
@@ -202,12 +201,26 @@ impl Links {
         if changes.has_other_inputs {
             return None;
         }
-        if changes.files.is_empty() {
-            return Some(planned);
+        let changed = self.read_again(changes.files)?;
+        let Planned { command, mut plan, verdict } = planned;
+        let changed = plan.take_lists(&self.snapshot, &changed);
+        if changed.is_empty() || plan.take_alike(&self.snapshot, &changed) {
+            return Some(Planned { command, plan, verdict });
         }
-        let Planned { command, plan } = planned;
-        let plan = plan.replan(&command, &mut self.snapshot, &changes.files)?;
-        Some(Planned { command, plan })
+        let plan = plan.replan(&command, &mut self.snapshot, &changed)?;
+        Some(Planned { command, plan, verdict: None })
+    }
+
+    /// Reads files again; gives those that have other bytes, or `None` where one cannot be read.
+    fn read_again(&mut self, files: Vec<PathBuf>) -> Option<Vec<PathBuf>> {
+        let mut changed = Vec::new();
+        for path in files {
+            let old = self.snapshot.seen(&path)?.data.clone();
+            if !self.snapshot.read(&path).ok()?.is_identical(&old) {
+                changed.push(path);
+            }
+        }
+        Some(changed)
     }
 
     /// What the default script is made of, where it is that of the link.
@@ -251,5 +264,166 @@ fn is_lasting(word: &[u8], depth: usize) -> bool {
         }
         Ok(found) => found.is_dir(),
         Err(_) => true,
+    }
+}
+
+#[cfg(test)]
+mod tests {
+    use super::*;
+    use crate::objects::tests::{code, object, WrittenSection};
+    use crate::place::PROGRAM;
+    use crate::plan::tests::thin;
+    use crate::server::wire::Reader;
+    use std::os::unix::fs::PermissionsExt;
+
+    /// A session that notes the words of its edits and links, and has a fault.
+    const SESSION: &str = r#"#!/bin/sh
+while read word name first second; do
+    case $word in
+        add) head -c "$second" > /dev/null ;;
+        replace) head -c "$first" > /dev/null ;;
+        script) head -c "$name" > /dev/null ;;
+        faults) text='F12 a.o .text 0000000000000001 nowhere'; printf 'bytes %d\n%s' ${#text} "$text"; continue ;;
+    esac
+    echo "$word" >> LOG
+    case $word in
+        link) echo 'linked 1 0' ;;
+        *) echo accepted ;;
+    esac
+done
+"#;
+    const SCRIPT: &str = "ENTRY(a) SECTIONS { . = 0x1000; .text : { *(.text) } }\n";
+
+    /// A folder with a link of two objects, and its server's links; removed after the test.
+    struct Project {
+        folder: PathBuf,
+        links: Links,
+        wish: Wish,
+    }
+
+    impl Project {
+        fn new(name: &str, files: &[&str]) -> Project {
+            let folder = std::env::temp_dir().join(format!("ldi-front-links-{}-{name}", std::process::id()));
+            fs::create_dir_all(&folder).unwrap();
+            let path = |name: &str| folder.join(name);
+            fs::write(path("ldi"), SESSION.replace("LOG", &path("log").display().to_string())).unwrap();
+            fs::set_permissions(path("ldi"), fs::Permissions::from_mode(PROGRAM.bits())).unwrap();
+            fs::write(path("t.ld"), SCRIPT).unwrap();
+            fs::write(path("a.o"), code(&[("a", 1, 1, 0, 0)])).unwrap();
+            fs::write(path("b.o"), code(&[("b", 1, 1, 0, 0)])).unwrap();
+            let environment: Environment = std::env::vars_os()
+                .filter(|(name, _)| name == "PATH")
+                .chain([("LDI".into(), path("ldi").into()), ("LDI_FALLBACK".into(), "none".into())])
+                .collect();
+            let files = files.iter().map(|name| path(name).into());
+            let words = ["-T".into(), path("t.ld").into(), "-o".into(), path("image").into()];
+            let words: Vec<OsString> = words.into_iter().chain(files).collect();
+            Project { links: Links::new(environment), wish: Wish { words, mask: 0o22, style: Style::Line }, folder }
+        }
+
+        fn write(&self, name: &str, data: impl AsRef<[u8]>) {
+            fs::write(self.folder.join(name), data).unwrap();
+        }
+
+        /// Makes the link; gives the edits that the session got for it, and `link` where it was to link.
+        fn edits(&mut self) -> Vec<String> {
+            let log = self.folder.join("log");
+            fs::write(&log, "").unwrap();
+            let outcome = self.links.make(&self.wish);
+            assert!(outcome.is_made, "{:?}", outcome.message);
+            assert_eq!((outcome.message.kind, outcome.places.len()), (Kind::Done, 0));
+            assert_eq!(Reader::of(outcome.message).number(), Some(Status::Faults as u8));
+            fs::read_to_string(log).unwrap().lines().map(str::to_owned).collect()
+        }
+    }
+
+    impl Drop for Project {
+        fn drop(&mut self) {
+            fs::remove_dir_all(&self.folder).unwrap();
+        }
+    }
+
+    fn with_code(bytes: &[u8]) -> Vec<u8> {
+        object(&[WrittenSection { name: ".text", kind: 1, flags: 6, data: bytes }], &[("b", 1, 1, 0, 0)], &[])
+    }
+
+    #[test]
+    fn a_call_sends_what_has_changed() {
+        let mut project = Project::new("changed", &["a.o", "b.o"]);
+        assert_eq!(project.edits(), ["add", "add", "script", "link"]);
+        assert!(project.edits().is_empty(), "nothing has changed");
+        project.write("b.o", with_code(b"\xcc\xc3"));
+        assert_eq!(project.edits(), ["replace", "link"], "other bytes");
+        project.write("b.o", with_code(b"\xcc\xc3"));
+        assert!(project.edits().is_empty(), "the same bytes, written anew");
+        project.write("b.o", with_code(b"\xcc\x90\xc3"));
+        assert_eq!(project.edits(), ["replace", "link"], "another size");
+        project.write("t.ld", SCRIPT.replace("0x1000", "0x2000"));
+        assert_eq!(project.edits(), ["script", "link"], "another script");
+        project.write("t.ld", SCRIPT);
+        project.write("a.o", code(&[("a", 1, 1, 1, 0)]));
+        assert_eq!(project.edits(), ["replace", "script", "link"], "both");
+    }
+
+    #[test]
+    fn other_words_are_another_link_of_the_session() {
+        let mut project = Project::new("words", &["a.o", "b.o"]);
+        project.edits();
+        project.wish.words.pop();
+        assert_eq!(project.edits(), ["remove", "link"]);
+        let first = project.wish.words.len() - 1;
+        project.wish.words.insert(first, project.folder.join("b.o").into());
+        assert_eq!(project.edits(), ["add", "link"]);
+    }
+
+    #[test]
+    fn a_thin_archive_that_lists_the_same_members_is_the_same_input() {
+        let mut project = Project::new("lists", &["a.o"]);
+        let words = ["--whole-archive".into(), project.folder.join("x.a").into()];
+        project.wish.words.extend(words);
+        project.write("x.a", thin(&[("b.o", 100)]));
+        assert_eq!(project.edits(), ["add", "add", "script", "link"]);
+        project.write("b.o", with_code(b"\xcc\x90\xc3"));
+        project.write("x.a", thin(&[("b.o", 101)]));
+        assert_eq!(project.edits(), ["replace", "link"]);
+        project.write("c.o", code(&[("c", 1, 1, 0, 0)]));
+        project.write("x.a", thin(&[("b.o", 101), ("c.o", 102)]));
+        assert_eq!(project.edits(), ["add", "link"]);
+        project.write("x.a", thin(&[("c.o", 102)]));
+        assert_eq!(project.edits(), ["remove", "link"]);
+    }
+
+    #[test]
+    fn an_input_that_is_gone_is_declined_and_taken_when_it_is_back() {
+        let mut project = Project::new("gone", &["a.o", "b.o"]);
+        project.edits();
+        let data = fs::read(project.folder.join("b.o")).unwrap();
+        fs::remove_file(project.folder.join("b.o")).unwrap();
+        let outcome = project.links.make(&project.wish);
+        assert_eq!((outcome.message.kind, outcome.is_made), (Kind::Refused, false));
+        project.write("b.o", data);
+        assert!(project.edits().is_empty());
+    }
+
+    #[test]
+    fn a_session_that_was_killed_is_started_again() {
+        let mut project = Project::new("killed", &["a.o", "b.o"]);
+        project.edits();
+        project.links.mirror.dismiss();
+        project.write("b.o", with_code(b"\xcc\xc3"));
+        assert_eq!(project.edits(), ["add", "add", "script", "link"]);
+    }
+
+    #[test]
+    fn response_files_are_regular_ones() {
+        let project = Project::new("words-of-files", &[]);
+        project.write("list", format!("a.o @{}", project.folder.join("more").display()));
+        project.write("more", "b.o @/dev/stdin");
+        let file = |name: &str| [OsString::from(format!("@{}", project.folder.join(name).display()))];
+        assert!(!are_lasting_words(&file("list")));
+        project.write("more", "b.o @nothing");
+        assert!(are_lasting_words(&file("list")));
+        assert!(!are_lasting_words(&["@/dev/null".into()]));
+        assert!(are_lasting_words(&["a.o".into(), "@nothing".into()]));
     }
 }

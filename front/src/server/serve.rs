@@ -427,3 +427,130 @@ fn end_oldest(own: &Path, mut left: u64) {
         }
     }
 }
+
+#[cfg(test)]
+mod tests {
+    use super::*;
+
+    /// A server at a socket, which is asked by the test; both are removed after it.
+    struct Asked {
+        server: Server,
+        path: PathBuf,
+    }
+
+    impl Asked {
+        fn new(name: &str) -> Asked {
+            let path = std::env::temp_dir().join(format!("ldi-front-serve-{}-{name}", std::process::id()));
+            let listener = UnixListener::bind(&path).unwrap();
+            listener.set_nonblocking(true).unwrap();
+            let environment = Environment::from([("LDI".into(), "/nowhere/ldi".into())]);
+            Asked { server: Server::new(path.clone(), listener, environment).unwrap(), path }
+        }
+
+        /// Sends a message, and has the server take it.
+        fn send(&mut self, message: Message) -> UnixStream {
+            let stream = UnixStream::connect(&self.path).unwrap();
+            message.send(&stream).unwrap();
+            self.server.turn().unwrap();
+            stream.set_read_timeout(Some(Duration::from_secs(20))).unwrap();
+            stream
+        }
+
+        /// A wish for a link of no inputs.
+        fn wish(&mut self, key: &str) -> UnixStream {
+            self.send(Message::of(Kind::Link).with(key).with("18").with("0").with("-o").with("/nowhere/image"))
+        }
+
+        /// Has the server work until it ends; gives whether it did in time.
+        fn ends(&mut self) -> bool {
+            let until = Instant::now() + Duration::from_secs(60);
+            while !self.server.is_ending && Instant::now() < until {
+                self.server.turn().unwrap();
+            }
+            self.server.is_ending
+        }
+    }
+
+    impl Drop for Asked {
+        fn drop(&mut self) {
+            let _ = fs::remove_file(&self.path);
+        }
+    }
+
+    #[test]
+    fn it_says_how_it_is() {
+        let mut asked = Asked::new("status");
+        let stream = asked.send(Message::of(Kind::Status));
+        let texts = Message::receive(&stream).unwrap().texts;
+        let process = std::process::id().to_string();
+        assert!(texts.iter().any(|text| *text == process.as_bytes()), "{texts:?}");
+        assert!(!asked.server.is_ending && asked.server.job.is_none());
+    }
+
+    #[test]
+    fn it_ends_when_it_is_asked_to_or_its_socket_is_gone() {
+        let mut asked = Asked::new("stop");
+        let stream = asked.send(Message::of(Kind::Stop));
+        assert!(Message::receive(&stream).is_ok());
+        assert!(asked.server.is_ending);
+        let mut asked = Asked::new("gone");
+        asked.server.look();
+        assert!(!asked.server.is_ending);
+        fs::remove_file(&asked.path).unwrap();
+        asked.server.look();
+        assert!(asked.server.is_ending);
+    }
+
+    #[test]
+    fn a_second_call_is_told_that_it_is_busy() {
+        let mut asked = Asked::new("busy");
+        let (here, _there) = UnixStream::pair().unwrap();
+        let worked = Instant::now();
+        asked.server.job = Some(Job { connection: here, placing: None, work: Vec::new(), worked });
+        let stream = asked.wish("key");
+        assert_eq!(Message::receive(&stream).unwrap().kind, Kind::Refused);
+        assert!(asked.server.job.is_some());
+    }
+
+    #[test]
+    fn a_call_of_another_key_is_not_its_own() {
+        let mut asked = Asked::new("key");
+        asked.server.key = Some((b"key".to_vec(), "/nowhere/image".into(), None));
+        let stream = asked.wish("other");
+        assert_eq!(Message::receive(&stream).unwrap().kind, Kind::Refused);
+        assert!(asked.server.job.is_none() && !asked.server.is_ending);
+    }
+
+    #[test]
+    fn without_a_link_that_it_could_keep_it_ends() {
+        let mut asked = Asked::new("nothing");
+        let stream = asked.wish("key");
+        assert_eq!(Message::receive(&stream).unwrap().kind, Kind::Working);
+        assert!(asked.ends());
+        let last = std::iter::repeat_with(|| Message::receive(&stream).unwrap()).find(|one| one.kind != Kind::Working);
+        assert_eq!(last.map(|message| message.kind), Some(Kind::Refused));
+        assert!(!asked.path.exists(), "its socket is gone before the call is");
+    }
+
+    #[test]
+    fn what_is_no_message_is_passed_over() {
+        let mut asked = Asked::new("bytes");
+        let stream = UnixStream::connect(&asked.path).unwrap();
+        (&stream).write_all(b"GET / HTTP/1.0\r\n\r\n").unwrap();
+        asked.server.turn().unwrap();
+        let stream = asked.send(Message::of(Kind::Link).with("key"));
+        assert!(Message::receive(&stream).is_err(), "it has too few parts");
+        assert!(!asked.server.is_ending);
+    }
+
+    #[test]
+    fn a_link_goes_on_as_long_as_something_works_on_it() {
+        let (here, _there) = UnixStream::pair().unwrap();
+        let now = Instant::now();
+        let mut job = Job { connection: here, placing: None, work: vec!["of before".into()], worked: now };
+        let later = now + LONGEST_REST + Duration::from_millis(1);
+        assert!(!rests(&mut job, 0, later));
+        assert_eq!(job.worked, later);
+        assert_ne!(job.work, ["of before"]);
+    }
+}

@@ -5,7 +5,8 @@ use std::io;
 use std::os::unix::ffi::OsStrExt;
 use std::os::unix::net::UnixStream;
 use std::path::{Path, PathBuf};
-use std::time::Duration;
+use std::thread;
+use std::time::{Duration, Instant};
 
 use super::call::{is_own, Declined};
 use super::key::{output_of, real_path, sockets, sockets_folder};
@@ -15,6 +16,9 @@ use crate::plan::Environment;
 
 /// The time in which a server has to say how it is.
 const LIMIT: Duration = Duration::from_secs(5);
+
+/// The time after which a server that ended while it was asked is asked again.
+const PAUSE: Duration = Duration::from_millis(50);
 
 /// How a server is.
 #[derive(Clone, PartialEq, Eq, Debug)]
@@ -95,11 +99,23 @@ pub(super) fn run(words: &[OsString], environment: &Environment, stops: bool) ->
     0
 }
 
-/// What a server says of itself; `None` where there is none: its socket is removed.
+/// What a server says of itself; `None` where there is none: its socket is removed. One that ends while it is asked is
+/// asked again, as its socket may take a call until it is gone.
 ///
 /// # Errors
 /// It gives no answer.
 pub(super) fn ask(path: &Path, kind: Kind) -> Result<Option<State>, Declined> {
+    let asked = Instant::now();
+    match ask_once(path, kind) {
+        Err(declined) if declined.is_gone && asked.elapsed() < LIMIT => {
+            thread::sleep(PAUSE);
+            ask_once(path, kind)
+        }
+        said => said,
+    }
+}
+
+fn ask_once(path: &Path, kind: Kind) -> Result<Option<State>, Declined> {
     let stream = match UnixStream::connect(path) {
         Ok(stream) => stream,
         Err(fault) if fault.kind() == io::ErrorKind::ConnectionRefused => {

@@ -15,6 +15,11 @@ pub fn are_lasting<'a>(paths: impl IntoIterator<Item = &'a Path>) -> bool {
     paths.into_iter().all(|path| is_lasting(path, &mut folders) == Some(true))
 }
 
+/// Whether a path is that of a symbolic link.
+pub(super) fn is_link(path: &Path) -> bool {
+    fs::symlink_metadata(path).map_or(false, |found| found.file_type().is_symlink())
+}
+
 /// The same of one path; `folders` has for folders what they are without links.
 fn is_lasting(path: &Path, folders: &mut HashMap<PathBuf, Option<PathBuf>>) -> Option<bool> {
     let mut path = path.to_owned();

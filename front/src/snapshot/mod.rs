@@ -13,13 +13,14 @@ mod tests;
 pub use bytes::Bytes;
 pub use file::{look, open_regular, read_any, read_open, read_regular, FileId, ReadFault, Seen, Stamp};
 
+use lasting::is_link;
 pub use lasting::{are_lasting, is_by_process};
 
 use crate::script::ScriptFiles;
 use indexmap::IndexMap;
 use looks::Looks;
 use rustix::fs::{FileType, Stat};
-use std::collections::HashMap;
+use std::collections::{HashMap, HashSet};
 use std::io;
 use std::path::{Path, PathBuf};
 
@@ -76,6 +77,8 @@ pub struct Snapshot {
     files: IndexMap<PathBuf, Option<Seen>>,
     questions: IndexMap<(Question, PathBuf), bool>,
     before: HashMap<PathBuf, Seen>,
+    /// The files of which it is not known yet that each process finds them; symbolic links, which may lead elsewhere, stay.
+    unproved: HashSet<PathBuf>,
     looks: Option<Looks>,
     is_of_regular_files: bool,
     shared: Option<Shared>,
@@ -171,6 +174,7 @@ impl Snapshot {
             None => read(path),
         };
         self.files.insert(path.to_owned(), found.as_ref().ok().cloned());
+        self.unproved.insert(path.to_owned());
         found.map(|seen| seen.data)
     }
 
@@ -207,9 +211,15 @@ impl Snapshot {
 
     /// Whether a later look, also of another process, can tell of each file whether it is the same: all are regular, none
     /// changed while it was read, and none is in `/dev` or `/proc`.
-    pub fn is_provable(&self) -> bool {
-        let seen = || self.files.iter().filter_map(|(path, seen)| Some((path.as_path(), seen.as_ref()?)));
-        seen().all(|(_, seen)| seen.stamp.is_some()) && are_lasting(seen().map(|(path, _)| path))
+    pub fn is_provable(&mut self) -> bool {
+        let is_stamped = self.files.values().flatten().all(|seen| seen.stamp.is_some());
+        let files = &self.files;
+        self.unproved.retain(|path| matches!(files.get(path), Some(Some(_))));
+        if !is_stamped || !are_lasting(self.unproved.iter().map(PathBuf::as_path)) {
+            return false;
+        }
+        self.unproved.retain(|path| is_link(path));
+        true
     }
 
     /// What has changed since. It is quicker the second time. A file with the bytes that it had is none that changed.

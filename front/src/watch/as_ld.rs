@@ -7,13 +7,15 @@ use bstr::BString;
 use super::inputs::Inputs;
 use super::linking::{stuck, Found};
 use super::listing::names_in;
+use super::usage::Sizes;
 use super::words::Words;
 use crate::command::{path_of, read_command, Command, Input};
-use crate::finish::{finish, FileImage};
+use crate::finish::{FileImage, LaidOut};
 use crate::inputs::InputFault;
 use crate::mirror::{Brought, Mirror, SessionError, Wanted};
-use crate::once::{messages, notes_of, section_outside, verdict, LinkFault};
-use crate::plan::{self, options_of, Environment, LinkPlan, PlanFault, Scripts, ScriptsFault};
+use crate::once::{file_of, messages, notes_of, plan_while_sending, section_outside, verdict, FileFault, LinkFault};
+use crate::plan::{self, Environment, LinkPlan, PlanFault, Scripts, ScriptsFault};
+use crate::report::link_map::LinkMap;
 use crate::report::Diagnostic;
 use crate::residual::{Note, NoteKind};
 use crate::snapshot::Snapshot;
@@ -25,8 +27,9 @@ pub(super) struct AsLd {
     plan: Option<LinkPlan>,
     /// Whether the script is none of GNU ld.
     pub(super) is_no_script: bool,
-    /// Whether the image of this plan was compared with what GNU ld makes.
+    /// Whether the image of this plan was compared with what GNU ld makes, and whether it is laid out so.
     is_compared: bool,
+    agrees: bool,
     /// Whether memory was refused.
     pub(super) is_out_of_memory: bool,
 }
@@ -56,6 +59,7 @@ impl AsLd {
             Some(plan) => plan,
             None => return false,
         };
+        let changed = &plan.take_lists(&inputs.snapshot, changed);
         if changed.is_empty() || plan.take_alike(&inputs.snapshot, changed) {
             self.plan = Some(plan);
             return true;
@@ -87,15 +91,7 @@ impl AsLd {
             self.plan = Some(LinkPlan::new(&self.command, found));
             return Ok(Found::Ready);
         }
-        let held = found.held.clone();
-        let options = options_of(&self.command, None);
-        let command = &self.command;
-        let plan = std::thread::scope(|scope| {
-            let sending = scope.spawn(|| mirror.prepare(&options, &held));
-            let plan = LinkPlan::new(command, found);
-            sending.join().unwrap_or(Err(SessionError::Ended)).map(|()| plan)
-        })?;
-        self.plan = Some(plan);
+        self.plan = Some(plan_while_sending(&self.command, found, mirror)?);
         Ok(Found::Ready)
     }
 
@@ -177,7 +173,15 @@ impl AsLd {
     /// Whether the map is wanted to compare the next image.
     pub(super) fn wants_map(&self) -> bool {
         let collects = self.command.collects_sections;
-        !self.is_compared && self.plan.as_ref().map_or(false, |plan| verdict::wants_map(plan, collects))
+        let wants = |plan: &LinkPlan| verdict::wants_map(plan, collects) || plan.may_differ();
+        self.is_compared && !self.agrees || !self.is_compared && self.plan.as_ref().map_or(false, wants)
+    }
+
+    /// The sizes of the image, where they are asked for and known.
+    pub(super) fn sizes(&self) -> Option<Sizes> {
+        let is_asked = self.command.prints_memory_usage && self.agrees;
+        let evaluation = self.plan.as_ref().filter(|_| is_asked)?.evaluation.as_ref().ok()?;
+        Some(Sizes::of(evaluation))
     }
 
     /// The script as people know it.
@@ -186,29 +190,40 @@ impl AsLd {
     }
 
     /// Makes the file of an image that the session gave.
-    pub(super) fn make(&mut self, words: &Words, image: Vec<u8>, map: &[u8]) -> Made {
-        let plan = match &self.plan {
+    ///
+    /// # Errors
+    /// The session gave no answer.
+    pub(super) fn make(
+        &mut self,
+        words: &Words,
+        image: Vec<u8>,
+        map: &[u8],
+        mirror: &mut Mirror,
+    ) -> Result<Made, SessionError> {
+        let plan = match &mut self.plan {
             Some(plan) => plan,
-            None => return Made::Refused(Vec::new()),
+            None => return Ok(Made::Refused(Vec::new())),
         };
-        let path = plan.inputs.scripts.path.display();
+        let path = plan.inputs.scripts.path.display().to_string();
         let mut lines = Vec::new();
         let is_first = !self.is_compared;
         if is_first {
             lines.extend(messages::warnings(plan).iter().map(ToString::to_string));
             let verdict = match verdict::verdict(plan, &image, map, false) {
                 Ok(verdict) => verdict,
-                Err(fault) => return Made::Refused(vec![fault.to_string()]),
+                Err(fault) => return Ok(Made::Refused(vec![fault.to_string()])),
             };
+            self.agrees = verdict.agrees;
             lines.extend(verdict.lines);
             lines.extend(notes_of(&self.command, plan).into_iter().map(|note| format!("ld.ldi: {note}")));
             if verdict.differs {
                 let why = "the image would be another than GNU ld's, as is said above: none is written";
                 lines.push(format!("ld.ldi: {path}: {why}"));
-                return Made::Refused(lines);
+                return Ok(Made::Refused(lines));
             }
         }
-        match finish(image, &plan.form) {
+        let pieces = if self.agrees { None } else { LinkMap::read(map).ok() };
+        Ok(match file_of(plan, image, LaidOut::of(self.agrees, pieces.as_ref()), mirror) {
             Ok(finished) => {
                 lines.extend(finished.notes.iter().map(|note| format!("ld.ldi: {path}: {note}")));
                 let why = "without effect here: a watch writes the image and the map";
@@ -216,8 +231,10 @@ impl AsLd {
                 self.is_compared = true;
                 Made::File(finished.file, if is_first { lines } else { Vec::new() })
             }
-            Err(fault) => Made::Refused(vec![format!("{}: {fault}", words.image.display())]),
-        }
+            Err(FileFault::Session(fault)) => return Err(fault),
+            Err(FileFault::NotMade(fault)) => Made::Refused(vec![format!("ld.ldi: {fault}")]),
+            Err(FileFault::Form(fault)) => Made::Refused(vec![format!("{}: {fault}", words.image.display())]),
+        })
     }
 }
 

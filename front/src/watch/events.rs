@@ -288,3 +288,66 @@ fn is_written(path: &Path) -> bool {
         Err(_) => false,
     }
 }
+
+#[cfg(test)]
+mod tests {
+    use super::*;
+
+    #[test]
+    fn where_the_system_watches_no_more_folders_the_error_says_so() {
+        let shown = |number| explained(io::Error::from_raw_os_error(number)).to_string();
+        assert!(shown(libc::ENOSPC).starts_with("no more folders can be watched"));
+        assert!(shown(libc::EACCES).starts_with("Permission denied"));
+    }
+    struct Folder(PathBuf);
+
+    impl Folder {
+        fn new(name: &str) -> Folder {
+            let path = std::env::temp_dir().join(format!("ldi-front-{}-{name}", std::process::id()));
+            std::fs::create_dir(&path).unwrap();
+            Folder(path)
+        }
+    }
+
+    impl Drop for Folder {
+        fn drop(&mut self) {
+            let _ = std::fs::remove_dir_all(&self.0);
+        }
+    }
+
+    fn kinds(watcher: &mut Watcher) -> Vec<Kind> {
+        watcher.read(&|_| false).unwrap().into_iter().map(|event| event.kind).collect()
+    }
+
+    #[test]
+    fn where_it_cannot_be_asked_a_new_file_is_written_until_it_is_closed() {
+        let folder = Folder::new("written");
+        let mut watcher = Watcher::default();
+        assert!(watcher.watch(&folder.0).unwrap());
+        let path = folder.0.join("new");
+        let mut file = std::fs::File::create(&path).unwrap();
+        assert_eq!(kinds(&mut watcher), [Kind::Writing]);
+        io::Write::write_all(&mut file, b"half").unwrap();
+        assert_eq!(kinds(&mut watcher), [Kind::Writing]);
+        drop(file);
+        assert_eq!(kinds(&mut watcher), [Kind::Whole]);
+        std::fs::hard_link(&path, folder.0.join("link")).unwrap();
+        assert!(!kinds(&mut watcher).contains(&Kind::Writing));
+        std::fs::rename(&path, folder.0.join("other")).unwrap();
+        assert_eq!(kinds(&mut watcher), [Kind::Gone, Kind::Whole]);
+    }
+
+    #[test]
+    fn a_folder_that_comes_later_is_watched_from_then_on() {
+        let folder = Folder::new("later");
+        let later = folder.0.join("later");
+        let mut watcher = Watcher::default();
+        assert!(!watcher.watch(&later).unwrap());
+        assert!(!watcher.look().unwrap());
+        std::fs::create_dir(&later).unwrap();
+        assert!(watcher.look().unwrap());
+        assert!(!watcher.look().unwrap());
+        std::fs::write(later.join("file"), "text").unwrap();
+        assert!(watcher.read(&|_| false).unwrap().iter().any(|event| event.path == later.join("file")));
+    }
+}

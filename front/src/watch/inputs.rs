@@ -168,7 +168,7 @@ impl Inputs {
         }
     }
 
-    /// The inputs that are missing, cannot be read or are being written, and what there is to say of each.
+    /// The inputs that are missing, cannot be read or are being written, each with its message.
     pub(super) fn waiting(&mut self) -> Vec<(String, String)> {
         let name = |path: &Path| path.display().to_string();
         let mut reasons: Vec<(String, String)> =

@@ -12,6 +12,7 @@ use super::image::{Image, ImageFault};
 use super::inputs::{Changed, Inputs};
 use super::plain::Plain;
 use super::stops::Stops;
+use super::usage::{Sizes, Usage};
 use super::words::Words;
 use crate::mirror::{Mirror, Refusal, SessionError, Wanted};
 use crate::plan::{find_program, Environment};
@@ -25,7 +26,7 @@ const MOST_ENDS: usize = 3;
 /// The refusal of a script that is none of the profile (docs/manual.md, 'Refusals').
 const NOT_A_SCRIPT: u32 = 5;
 
-/// Inputs that are refused: the name of each, and what there is to say.
+/// Inputs that are refused: the name of each, and its message.
 pub(super) type Refusals = Vec<(String, Diagnostic)>;
 
 /// What a search came to.
@@ -77,6 +78,8 @@ pub(super) struct Linking {
     /// Whether it is none of GNU ld either.
     is_none: bool,
     ends: usize,
+    /// The sizes of the image that was put in place last.
+    sizes: Option<Sizes>,
 }
 
 impl Linking {
@@ -94,6 +97,7 @@ impl Linking {
             outside: None,
             is_none: false,
             ends: 0,
+            sizes: None,
         }
     }
 
@@ -223,7 +227,7 @@ impl Linking {
         Ok(Outcome::Faults(self.plain.faults(words, &faults)))
     }
 
-    /// Writes the image beside its place, and the map likewise; gives what there is to say of the link.
+    /// Writes the image beside its place, and the map likewise; gives the message of the link.
     ///
     /// # Errors
     /// The session gave no answer, a file cannot be written, or there is no such image.
@@ -235,11 +239,12 @@ impl Linking {
         }
         let data = self.mirror.image()?;
         let map = if self.as_ld.wants_map() || image.wants_map() { Some(self.mirror.map()?) } else { None };
-        match self.as_ld.make(words, data, map.as_deref().unwrap_or_default()) {
+        match self.as_ld.make(words, data, map.as_deref().unwrap_or_default(), &mut self.mirror)? {
             Made::Refused(lines) => Err(ImageFault::Refused(listed(&words.script, lines))),
             Made::File(file, lines) => {
                 image.prepare(&file)?;
                 image.take_map(&mut self.mirror, map)?;
+                self.mirror.reuse(file.into_image());
                 Ok(Some(Report { script: self.as_ld.script(), lines }))
             }
         }
@@ -248,6 +253,19 @@ impl Linking {
     /// The link came to an image.
     pub(super) fn is_placed(&mut self) {
         self.ends = 0;
+        self.sizes = self.own_sizes();
+    }
+
+    /// What the next image does to sizes.
+    pub(super) fn usage(&self) -> Usage {
+        self.own_sizes().map_or_else(Usage::default, |sizes| sizes.since(self.sizes.as_ref()))
+    }
+
+    fn own_sizes(&self) -> Option<Sizes> {
+        match self.mode {
+            Mode::Plain => None,
+            Mode::AsLd => self.as_ld.sizes(),
+        }
     }
 
     /// The session has ended by itself; gives how.

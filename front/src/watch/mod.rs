@@ -20,6 +20,7 @@ mod sources;
 mod standing;
 mod stops;
 mod turns;
+mod usage;
 mod words;
 
 use std::ffi::OsString;

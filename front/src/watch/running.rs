@@ -134,10 +134,10 @@ impl Commands {
         self.time().map_or(false, |when| when <= now)
     }
 
-    /// Starts `--make`'s command where it is wanted; gives what there is to say of one that has failed, or is long.
+    /// Starts `--make`'s command where it is wanted; gives the message of one that has failed, or takes long.
     ///
     /// # Errors
-    /// It cannot be started, or what there is to say cannot be printed.
+    /// It cannot be started, or the message cannot be printed.
     pub(super) fn start(&mut self, teller: &Teller) -> Result<Option<(String, String)>, StartFault> {
         let making = match &mut self.making {
             Some(making) => making,

@@ -9,6 +9,7 @@ use std::time::{SystemTime, UNIX_EPOCH};
 use super::commands::how_ended;
 use super::events::plain;
 use super::linking::{Refusals, Report};
+use super::usage::Usage;
 use crate::report::{has_colours, json_string, Diagnostic, JsonObject};
 
 /// The messages of one state that are printed for people; JSON has all.
@@ -30,6 +31,7 @@ pub(super) struct Good {
     pub(super) milliseconds: f64,
     pub(super) length: u64,
     pub(super) is_written: bool,
+    pub(super) usage: Usage,
 }
 
 /// What a watch is in.
@@ -167,7 +169,9 @@ impl Teller {
                 if what.is_empty() {
                     what.push(format!("{milliseconds:.1} ms"));
                 }
-                self.line(GREEN, "image", &format!(": {}", what.join(", ")))
+                let usage = good.usage.text();
+                let usage = if usage.is_empty() { usage } else { format!("; {usage}") };
+                self.line(GREEN, "image", &format!(": {}{usage}", what.join(", ")))
             }
             State::Faulty(messages, after) => {
                 let lines: Vec<&Diagnostic> = messages.iter().collect();
@@ -218,10 +222,15 @@ impl Teller {
         let strings = |names: &[PathBuf]| shown(names).iter().map(|name| json_string(name)).collect::<Vec<_>>();
         match state {
             State::Good(good) => self.object("linked", |json| {
-                json.raw("milliseconds", &format!("{:.3}", good.milliseconds))
+                let json = json
+                    .raw("milliseconds", &format!("{:.3}", good.milliseconds))
                     .list("after", strings(&good.after))
                     .number("bytes", good.length)
-                    .raw("written", if good.is_written { "true" } else { "false" })
+                    .raw("written", if good.is_written { "true" } else { "false" });
+                match good.usage == Usage::default() {
+                    true => json,
+                    false => good.usage.json(json),
+                }
             }),
             State::Faulty(messages, after) => self.object("faults", |json| {
                 let faults = messages.iter().map(|message| of_message(JsonObject::new(), message).finish());

@@ -1,6 +1,6 @@
 //! Signals that end the program, and the pipe by which a signal ends a wait.
 
-use std::io::{self, Read};
+use std::io::{self, Read, Write};
 use std::os::unix::io::{AsRawFd, RawFd};
 use std::os::unix::net::UnixStream;
 use std::sync::atomic::{AtomicI32, AtomicUsize, Ordering};
@@ -41,6 +41,11 @@ impl Stops {
                 pipe::register(signal, wake.try_clone()?)?;
                 pipe::register(signal, stop.try_clone()?)?;
             }
+        }
+        // one that came while these were being made may have found no pipe
+        if came.load(Ordering::SeqCst) > 0 {
+            (&stop).write_all(&[0])?;
+            (&wake).write_all(&[0])?;
         }
         pipe::register(SIGCHLD, wake)?;
         let session = Arc::new(AtomicI32::new(0));

@@ -431,7 +431,8 @@ impl<'a> Watch<'a> {
     fn good(&mut self, is_written: bool) -> State {
         let milliseconds = self.gathering.last.elapsed().as_secs_f64() * 1000.0;
         let after = std::mem::take(&mut self.inputs.after).into_iter().collect();
-        State::Good(Good { after, milliseconds, length: self.image.length, is_written })
+        let usage = self.linking.usage();
+        State::Good(Good { after, milliseconds, length: self.image.length, is_written, usage })
     }
 
     // the session's end

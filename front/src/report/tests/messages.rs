@@ -2,7 +2,7 @@
 
 use std::path::Path;
 
-use super::super::{Diagnostic, Excerpt, Severity, Style};
+use super::super::{Diagnostic, Excerpt, JsonObject, Severity, Style};
 use crate::script::parse;
 
 fn of_script(text: &str) -> Diagnostic {
@@ -54,8 +54,8 @@ fn json_has_the_parts() {
     let found = Diagnostic { rule: Some("F5 2".into()), ..found };
     let wanted = "{\"severity\": \"warning\", \"message\": \"x\\\\y: a \\\"b\\\"\\n; n: do\", \"line\": \"F5 2\", \
         \"place\": {\"file\": \"x\\\\y\"}, \"sentence\": \"a \\\"b\\\"\\n\", \"notes\": [\"n\"], \"advice\": \"do\"}";
-    assert_eq!(found.to_json(), wanted);
-    let json = of_script("x = ;").to_json();
+    assert_eq!(found.add_to(JsonObject::new()).finish(), wanted);
+    let json = of_script("x = ;").add_to(JsonObject::new()).finish();
     for member in
         ["\"place\": {\"file\": \"s.ld\", \"line\": 1, \"column\": 5}", "\"text\": \"x = ;\"", "\"length\": 1"]
     {

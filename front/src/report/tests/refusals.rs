@@ -65,13 +65,13 @@ fn files_that_are_no_elf_files() {
 
 #[test]
 fn a_relocation_is_named_with_its_type_symbol_and_place() {
-    let source = "extern int g;\n\n\nint *p(void) { return &g; }";
+    let source = "extern int g;\n\n\nint p(void) { asm(\".long g@GOT\"); return 0; }";
     let data = match compiled(source, &["-fPIC", "-g"]) {
         Some(data) => data,
         None => return,
     };
     let found = refusals_of_object(&input("a.o", 4, 11, None), Some(&object("a.o", data)));
-    let wanted = "/project/text.c:4: (a.o .text+0x3): R_X86_64_REX_GOTPCRELX against `g' needs a global offset table, and \
+    let wanted = "/project/text.c:4: (a.o .text+0x0): R_X86_64_GOT32 against `g' needs a global offset table, and \
         there is none; compile with -fno-pic -mcmodel=small, or -mcmodel=kernel for the upper 2 GB, and without -fno-plt \
         [a.o: refused 4 11]";
     assert_eq!(texts(&found), [wanted]);
@@ -79,14 +79,14 @@ fn a_relocation_is_named_with_its_type_symbol_and_place() {
 
 #[test]
 fn of_each_type_and_symbol_the_first_relocation_is_named() {
-    let data = match assembled("mov g@GOTPCREL(%rip), %rax\nmov g@GOTPCREL(%rip), %rax\n.quad h@size") {
+    let data = match assembled("nop\n.long g@GOT, g@GOT\n.quad h@size") {
         Some(data) => data,
         None => return,
     };
     let found = texts(&refusals_of_object(&input("a.o", 4, 11, None), Some(&object("a.o", data))));
     assert_eq!(found.len(), 2);
-    assert!(found[0].starts_with("a.o: (.text+0x3): R_X86_64_REX_GOTPCRELX against `g' needs"), "{}", found[0]);
-    assert!(found[1].starts_with("a.o: (.text+0xe): R_X86_64_SIZE64 against `h' is a relocation"), "{}", found[1]);
+    assert!(found[0].starts_with("a.o: (.text+0x1): R_X86_64_GOT32 against `g' needs"), "{}", found[0]);
+    assert!(found[1].starts_with("a.o: (.text+0x9): R_X86_64_SIZE64 against `h' is a relocation"), "{}", found[1]);
 }
 
 #[test]

@@ -37,9 +37,9 @@ impl Parser<'_> {
 
     /// `( expression )`
     pub(super) fn in_parentheses(&mut self) -> Parsed<Expr> {
-        self.expect(Expression, "(")?;
+        self.demand(Expression, "(")?;
         let expr = self.expression()?;
-        self.expect(Expression, ")")?;
+        self.demand(Expression, ")")?;
         Ok(expr)
     }
 
@@ -65,7 +65,7 @@ impl Parser<'_> {
         }
         self.nested(ErrorKind::ExpressionDepth, |parser| {
             let then = parser.deep()?;
-            parser.expect(Expression, ":")?;
+            parser.demand(Expression, ":")?;
             let otherwise = parser.deep()?;
             let depth = test.depth.max(then.depth).max(otherwise.depth);
             let span = test.expr.span.to(otherwise.expr.span);
@@ -134,7 +134,7 @@ impl Parser<'_> {
     /// What stands between parentheses, of which the first is taken.
     fn group(&mut self, opening: Token) -> Parsed<Deep> {
         let mut inner = self.nested(ErrorKind::ExpressionDepth, Self::deep)?;
-        let closing = self.expect(Expression, ")")?;
+        let closing = self.demand(Expression, ")")?;
         inner.expr.span = opening.span.to(closing.span);
         Ok(inner)
     }
@@ -160,7 +160,7 @@ impl Parser<'_> {
         match word {
             "SEGMENT_START" => self.segment_start(),
             "ASSERT" => {
-                self.expect(Expression, "(")?;
+                self.demand(Expression, "(")?;
                 let condition = self.deep()?;
                 let message = self.assert_message()?;
                 Ok((ExprKind::Assert(Box::new(condition.expr), message), condition.depth))
@@ -171,18 +171,18 @@ impl Parser<'_> {
 
     /// `, message )` of ASSERT.
     pub(super) fn assert_message(&mut self) -> Parsed<Name> {
-        self.expect(Expression, ",")?;
+        self.demand(Expression, ",")?;
         let message = self.name(Expression, "a message")?;
-        self.expect(Expression, ")")?;
+        self.demand(Expression, ")")?;
         Ok(message.node)
     }
 
     fn segment_start(&mut self) -> Parsed<(ExprKind, usize)> {
-        self.expect(Script, "(")?;
+        self.demand(Script, "(")?;
         let name = self.name(Script, "the name of a segment")?.node;
-        self.expect(Expression, ",")?;
+        self.demand(Expression, ",")?;
         let default = self.deep()?;
-        self.expect(Expression, ")")?;
+        self.demand(Expression, ")")?;
         Ok((ExprKind::SegmentStart(name, Box::new(default.expr)), default.depth))
     }
 
@@ -191,7 +191,7 @@ impl Parser<'_> {
             Some(found) => found,
             None => return Err(self.lexer.error_here(ErrorKind::NoStatement(word.to_owned()))),
         };
-        self.expect(Expression, "(")?;
+        self.demand(Expression, "(")?;
         let mut depth = 0;
         let mut arguments: Vec<Expr> = Vec::new();
         loop {
@@ -202,9 +202,9 @@ impl Parser<'_> {
             if !is_more {
                 break;
             }
-            self.expect(Expression, ",")?;
+            self.demand(Expression, ",")?;
         }
-        self.expect(Expression, ")")?;
+        self.demand(Expression, ")")?;
         Ok((ExprKind::Call(function, arguments), depth))
     }
 

@@ -20,9 +20,9 @@ impl Parser<'_> {
         if self.accept(Wild, "KEEP")?.is_none() {
             return self.input_without_keep();
         }
-        self.expect(Wild, "(")?;
+        self.demand(Wild, "(")?;
         let statement = self.input_without_keep()?;
-        self.expect(Wild, ")")?;
+        self.demand(Wild, ")")?;
         Ok(InputStatement { is_kept: true, ..statement })
     }
 
@@ -52,7 +52,7 @@ impl Parser<'_> {
     }
 
     fn input_of_pattern(&mut self, file: Spanned<Pattern>) -> Parsed<InputStatement> {
-        self.expect(Wild, "(")?;
+        self.demand(Wild, "(")?;
         let sections = Some(self.patterns(")")?);
         Ok(InputStatement { is_kept: false, section_flags: Vec::new(), file: Some(file), sections })
     }
@@ -60,9 +60,9 @@ impl Parser<'_> {
     /// What begins with SORT_BY_NAME: `SORT_BY_NAME(CONSTRUCTORS)`, or an input statement.
     pub(super) fn sorted_statement(&mut self) -> Parsed<SectionStatement> {
         let word = self.take(Wild)?;
-        self.expect(Wild, "(")?;
+        self.demand(Wild, "(")?;
         if self.accept(Wild, "CONSTRUCTORS")?.is_some() {
-            self.expect(Wild, ")")?;
+            self.demand(Wild, ")")?;
             return Ok(SectionStatement::Constructors(true));
         }
         let file = self.pattern_within(word, vec![Sort::ByName], Of::Files)?;
@@ -73,12 +73,12 @@ impl Parser<'_> {
     fn section_flags(&mut self) -> Parsed<Vec<Name>> {
         let mut flags = Vec::new();
         if self.accept(Wild, "INPUT_SECTION_FLAGS")?.is_some() {
-            self.expect(Wild, "(")?;
+            self.demand(Wild, "(")?;
             flags.push(self.name(Wild, "a flag")?.node);
             while self.accept(Wild, "&")?.is_some() {
                 flags.push(self.name(Wild, "a flag")?.node);
             }
-            self.expect(Wild, ")")?;
+            self.demand(Wild, ")")?;
         }
         Ok(flags)
     }
@@ -102,7 +102,7 @@ impl Parser<'_> {
     fn pattern_within(&mut self, first: Token, mut sorts: Vec<Sort>, of: Of) -> Parsed<Spanned<Pattern>> {
         while let Some(sort) = sort(self.peek(Wild)?) {
             self.take(Wild)?;
-            self.expect(Wild, "(")?;
+            self.demand(Wild, "(")?;
             sorts.push(sort);
             if !can_nest(&sorts, of) {
                 return Err(self.lexer.error(first, ErrorKind::Sorts));
@@ -110,7 +110,7 @@ impl Parser<'_> {
         }
         let mut excluded_files = Vec::new();
         if self.accept(Wild, "EXCLUDE_FILE")?.is_some() {
-            self.expect(Wild, "(")?;
+            self.demand(Wild, "(")?;
             excluded_files.push(self.name(Wild, "a name")?.node);
             while self.accept(Wild, ")")?.is_none() {
                 excluded_files.push(self.name(Wild, "a name")?.node);
@@ -120,7 +120,7 @@ impl Parser<'_> {
         self.name(Wild, "a name")?;
         let pattern = self.plain_pattern(token);
         for _ in &sorts {
-            self.expect(Wild, ")")?;
+            self.demand(Wild, ")")?;
         }
         Ok(Spanned::new(Pattern { sorts, excluded_files, ..pattern }, self.since(first.span)))
     }

@@ -13,13 +13,13 @@ impl Parser<'_> {
     /// `MEMORY { region .. }`
     pub(super) fn memory(&mut self) -> Parsed<Statement> {
         self.take(Script)?;
-        let opening = self.expect(Script, "{")?;
+        let opening = self.demand(Script, "{")?;
         let mut regions = Vec::new();
         self.regions(&mut regions)?;
         if self.peek(Script)?.kind == Kind::End {
             return Err(self.open(opening, b"MEMORY"));
         }
-        self.expect(Script, "}")?;
+        self.demand(Script, "}")?;
         Ok(Statement::Memory(regions))
     }
 
@@ -46,14 +46,14 @@ impl Parser<'_> {
             Some(opening) => Some(self.attributes(opening)?),
             None => None,
         };
-        self.expect(Script, ":")?;
-        self.expect(Script, "ORIGIN")?;
-        self.expect(Script, "=")?;
+        self.demand(Script, ":")?;
+        self.demand(Script, "ORIGIN")?;
+        self.demand(Script, "=")?;
         let origin = self.expression()?;
         // A comma, or the word, is read after the expression, so that `len` needs the comma.
         let state = if self.accept(Expression, ",")?.is_some() { Script } else { Expression };
-        self.expect(state, "LENGTH")?;
-        self.expect(Script, "=")?;
+        self.demand(state, "LENGTH")?;
+        self.demand(Script, "=")?;
         let length = self.expression()?;
         Ok(MemoryRegion { name, attributes, origin, length })
     }
@@ -78,7 +78,7 @@ impl Parser<'_> {
     /// `PHDRS { header; .. }`
     pub(super) fn program_headers(&mut self) -> Parsed<Statement> {
         self.take(Script)?;
-        let opening = self.expect(Script, "{")?;
+        let opening = self.demand(Script, "{")?;
         let mut headers = Vec::new();
         loop {
             let token = self.peek(Script)?;

@@ -62,7 +62,7 @@ impl<'a> Parser<'a> {
     }
 
     /// Takes the next token, which must be this mark or word.
-    fn expect(&mut self, state: State, text: &str) -> Parsed<Token> {
+    fn demand(&mut self, state: State, text: &str) -> Parsed<Token> {
         let token = self.peek(state)?;
         if token.is(text) {
             return self.take(state);
@@ -82,9 +82,9 @@ impl<'a> Parser<'a> {
 
     /// `( name )`
     fn name_in_parentheses(&mut self, state: State, expected: &str) -> Parsed<Name> {
-        self.expect(state, "(")?;
+        self.demand(state, "(")?;
         let name = self.name(state, expected)?;
-        self.expect(state, ")")?;
+        self.demand(state, ")")?;
         Ok(name.node)
     }
 

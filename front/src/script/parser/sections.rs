@@ -33,12 +33,12 @@ impl Parser<'_> {
     }
 
     fn braced_sections(&mut self, of: &[u8], into: &mut SectionsList) -> Parsed<()> {
-        let opening = self.expect(Script, "{")?;
+        let opening = self.demand(Script, "{")?;
         self.sections_statements(into)?;
         if self.peek(Script)?.kind == Kind::End {
             return Err(self.open(opening, of));
         }
-        self.expect(Script, "}").map(drop)
+        self.demand(Script, "}").map(drop)
     }
 
     /// The statements up to a brace or the end of a file.
@@ -104,7 +104,7 @@ impl Parser<'_> {
         let is_aligned_with_input = self.accept(Expression, "ALIGN_WITH_INPUT")?.is_some();
         let subalign = self.head_value("SUBALIGN")?;
         let constraint = self.constraint()?;
-        let opening = self.expect(Expression, "{")?;
+        let opening = self.demand(Expression, "{")?;
         let body = self.body(opening, &name.node)?;
         let tail = self.tail(true)?;
         Ok(OutputSection {
@@ -136,7 +136,7 @@ impl Parser<'_> {
             self.take(first)?;
             if is_type_or_end(self.peek(Expression)?) {
                 let kind = self.section_type(token)?;
-                self.expect(Expression, ":")?;
+                self.demand(Expression, ":")?;
                 return Ok((None, kind));
             }
             self.expression_after(token)?
@@ -150,7 +150,7 @@ impl Parser<'_> {
             Some(opening) => self.section_type(opening)?,
             None => None,
         };
-        self.expect(Expression, ":")?;
+        self.demand(Expression, ":")?;
         Ok((Some(address), kind))
     }
 
@@ -177,7 +177,7 @@ impl Parser<'_> {
             }
             _ => return Err(self.unexpected(token, "a type of a section".to_owned())),
         };
-        let closing = self.expect(Expression, ")")?;
+        let closing = self.demand(Expression, ")")?;
         Ok(Some(Spanned::new(kind, opening.span.to(closing.span))))
     }
 
@@ -193,14 +193,14 @@ impl Parser<'_> {
             return Ok(SectionType::ReadOnly(None));
         }
         let value = self.typed()?;
-        self.expect(Expression, ")")?;
+        self.demand(Expression, ")")?;
         Ok(SectionType::ReadOnly(Some(value)))
     }
 
     /// `TYPE = expression`
     fn typed(&mut self) -> Parsed<Expr> {
-        self.expect(Expression, "TYPE")?;
-        self.expect(Expression, "=")?;
+        self.demand(Expression, "TYPE")?;
+        self.demand(Expression, "=")?;
         self.expression()
     }
 
@@ -230,7 +230,7 @@ impl Parser<'_> {
         if self.peek(Wild)?.kind == Kind::End {
             return Err(self.open(opening, of));
         }
-        let closing = self.expect(Wild, "}")?;
+        let closing = self.demand(Wild, "}")?;
         Ok(Spanned::new(statements, opening.span.to(closing.span)))
     }
 
@@ -241,7 +241,7 @@ impl Parser<'_> {
             tail.region = Some(self.name(Script, "the name of a region")?);
         }
         if has_regions && self.accept(Script, "AT")?.is_some() {
-            self.expect(Script, ">")?;
+            self.demand(Script, ">")?;
             tail.load_region = Some(self.name(Script, "the name of a region")?);
         }
         while self.accept(Script, ":")?.is_some() {
@@ -257,11 +257,11 @@ impl Parser<'_> {
     fn overlay(&mut self) -> Parsed<Overlay> {
         self.take(Script)?;
         let address = if self.peek(Expression)?.is(":") { None } else { Some(self.expression()?) };
-        self.expect(Expression, ":")?;
+        self.demand(Expression, ":")?;
         let forbids_cross_references = self.accept(Expression, "NOCROSSREFS")?.is_some();
         let load_address = self.head_value("AT")?;
         let subalign = self.head_value("SUBALIGN")?;
-        let opening = self.expect(Expression, "{")?;
+        let opening = self.demand(Expression, "{")?;
         let mut sections = Vec::new();
         while !self.peek(Script)?.is("}") {
             if self.peek(Script)?.kind == Kind::End {
@@ -287,7 +287,7 @@ impl Parser<'_> {
     fn overlay_section(&mut self) -> Parsed<Spanned<OutputSection>> {
         let token = self.peek(Script)?;
         let name = self.name(Script, "the name of a section")?;
-        let opening = self.expect(Wild, "{")?;
+        let opening = self.demand(Wild, "{")?;
         let body = self.body(opening, &name.node)?;
         let tail = self.tail(false)?;
         let section = OutputSection {
@@ -324,9 +324,9 @@ impl Parser<'_> {
         };
         if let Some(width) = data_width(word) {
             self.take(Wild)?;
-            self.expect(Wild, "(")?;
+            self.demand(Wild, "(")?;
             let value = self.expression()?;
-            self.expect(Expression, ")")?;
+            self.demand(Expression, ")")?;
             return Ok(SectionStatement::Data(width, value));
         }
         match word {
@@ -365,9 +365,9 @@ impl Parser<'_> {
 
     fn fill_statement(&mut self) -> Parsed<SectionStatement> {
         self.take(Wild)?;
-        self.expect(Wild, "(")?;
+        self.demand(Wild, "(")?;
         let fill = self.fill_value()?;
-        self.expect(Expression, ")")?;
+        self.demand(Expression, ")")?;
         Ok(SectionStatement::Fill(fill))
     }
 
@@ -377,9 +377,9 @@ impl Parser<'_> {
             let text = self.name(Wild, "a text")?.node;
             return Ok(SectionStatement::Text(DataText::ZeroTerminated(text)));
         }
-        self.expect(Wild, "(")?;
+        self.demand(Wild, "(")?;
         let size = self.expression()?;
-        self.expect(Expression, ")")?;
+        self.demand(Expression, ")")?;
         let text = self.name(Wild, "a text")?.node;
         Ok(SectionStatement::Text(DataText::Sized(size, text)))
     }

@@ -132,11 +132,11 @@ impl Parser<'_> {
             Kind::Word("PROVIDE") => Provision::Provide,
             _ => Provision::ProvideHidden,
         };
-        self.expect(state, "(")?;
+        self.demand(state, "(")?;
         let target = self.name(state, "a symbol")?;
-        self.expect(state, "=")?;
+        self.demand(state, "=")?;
         let value = self.expression()?;
-        self.expect(Expression, ")")?;
+        self.demand(Expression, ")")?;
         Ok(Assignment { target, operator: AssignOperator::Set, value, provision })
     }
 
@@ -152,7 +152,7 @@ impl Parser<'_> {
     /// `ASSERT(expression, message)`; a separator after it is not read.
     pub(super) fn assertion(&mut self, state: State) -> Parsed<Assertion> {
         self.take(state)?;
-        self.expect(Expression, "(")?;
+        self.demand(Expression, "(")?;
         let condition = self.expression()?;
         let message = self.assert_message()?;
         Ok(Assertion { condition, message })
@@ -167,7 +167,7 @@ impl Parser<'_> {
     /// INPUT or GROUP; AS_NEEDED nests.
     fn input(&mut self, word: &str) -> Parsed<Statement> {
         self.take(Script)?;
-        self.expect(Script, "(")?;
+        self.demand(Script, "(")?;
         let mut files: Vec<Spanned<InputFile>> = Vec::new();
         let mut depth = 0usize;
         let mut is_wanted = true;
@@ -190,7 +190,7 @@ impl Parser<'_> {
                 _ => return Err(self.unexpected(token, "a file".to_owned())),
             }
             if token.is("AS_NEEDED") {
-                self.expect(InputList, "(")?
+                self.demand(InputList, "(")?
             } else {
                 self.take(InputList)?
             };
@@ -202,7 +202,7 @@ impl Parser<'_> {
     /// A command with a list of names in parentheses.
     fn list(&mut self, word: &str) -> Parsed<Statement> {
         self.take(Script)?;
-        self.expect(Script, "(")?;
+        self.demand(Script, "(")?;
         let state = if word == "EXTERN" { Expression } else { Script };
         let is_of_sections = word.starts_with("NOCROSSREFS");
         let mut names: Vec<Name> = Vec::new();
@@ -233,15 +233,15 @@ impl Parser<'_> {
     /// `OUTPUT_FORMAT(default)` or `OUTPUT_FORMAT(default, big, little)`
     fn output_format(&mut self) -> Parsed<Statement> {
         self.take(Script)?;
-        self.expect(Script, "(")?;
+        self.demand(Script, "(")?;
         let mut names = vec![self.name(Script, "the name of a format")?.node];
         if self.peek(Script)?.is(",") {
             for _ in 0..2 {
-                self.expect(Script, ",")?;
+                self.demand(Script, ",")?;
                 names.push(self.name(Script, "the name of a format")?.node);
             }
         }
-        self.expect(Script, ")")?;
+        self.demand(Script, ")")?;
         Ok(Statement::OutputFormat(names))
     }
 
@@ -251,7 +251,7 @@ impl Parser<'_> {
         let place = if self.accept(Script, "AFTER")?.is_some() {
             InsertPlace::After
         } else {
-            self.expect(Script, "BEFORE")?;
+            self.demand(Script, "BEFORE")?;
             InsertPlace::Before
         };
         let section = self.name(Script, "the name of a section")?;
@@ -261,11 +261,11 @@ impl Parser<'_> {
     /// `REGION_ALIAS(alias, region)`
     fn region_alias(&mut self) -> Parsed<Statement> {
         self.take(Script)?;
-        self.expect(Script, "(")?;
+        self.demand(Script, "(")?;
         let alias = self.name(Script, "the name of a region")?;
-        self.expect(Script, ",")?;
+        self.demand(Script, ",")?;
         let region = self.name(Script, "the name of a region")?;
-        self.expect(Script, ")")?;
+        self.demand(Script, ")")?;
         Ok(Statement::RegionAlias(alias.node, region.node))
     }
 }

@@ -11,7 +11,7 @@ impl Parser<'_> {
     /// `VERSION { node .. }`
     pub(super) fn version(&mut self) -> Parsed<Statement> {
         self.take(Script)?;
-        let opening = self.expect(VersionStart, "{")?;
+        let opening = self.demand(VersionStart, "{")?;
         let mut nodes = vec![self.version_node()?];
         loop {
             let token = self.peek(VersionScript)?;
@@ -39,14 +39,14 @@ impl Parser<'_> {
             Kind::Name => Some(self.name(VersionScript, "a tag")?.node),
             _ => None,
         };
-        self.expect(VersionScript, "{")?;
+        self.demand(VersionScript, "{")?;
         let mut node = VersionNode { tag, globals: Vec::new(), locals: Vec::new(), dependencies: Vec::new() };
         self.node_patterns(&mut node)?;
-        self.expect(Node, "}")?;
+        self.demand(Node, "}")?;
         while node.tag.is_some() && self.peek(VersionScript)?.kind == Kind::Name {
             node.dependencies.push(self.name(VersionScript, "a tag")?.node);
         }
-        self.expect(VersionScript, ";")?;
+        self.demand(VersionScript, ";")?;
         Ok(node)
     }
 
@@ -75,7 +75,7 @@ impl Parser<'_> {
             return Ok(None);
         }
         self.take(Node)?;
-        self.expect(Node, ":")?;
+        self.demand(Node, ":")?;
         Ok(Some(word))
     }
 
@@ -83,7 +83,7 @@ impl Parser<'_> {
     fn defined_patterns(&mut self, into: &mut Vec<VersionPattern>) -> Parsed<()> {
         loop {
             self.version_pattern(into, None)?;
-            self.expect(Node, ";")?;
+            self.demand(Node, ";")?;
             let token = self.peek(Node)?;
             let is_label = matches!(token.kind, Kind::Word("global" | "local")) && self.is_before_colon()?;
             if token.is("}") || is_label {
@@ -116,7 +116,7 @@ impl Parser<'_> {
     /// `"language" { pattern; .. }` after the word extern; the last `;` can be left out.
     fn extern_block(&mut self, into: &mut Vec<VersionPattern>) -> Parsed<()> {
         let language = self.name(Node, "a language")?.node;
-        self.expect(Node, "{")?;
+        self.demand(Node, "{")?;
         loop {
             self.version_pattern(into, Some(&language))?;
             let is_more = self.accept(Node, ";")?.is_some() && !self.peek(Node)?.is("}");
@@ -124,6 +124,6 @@ impl Parser<'_> {
                 break;
             }
         }
-        self.expect(Node, "}").map(drop)
+        self.demand(Node, "}").map(drop)
     }
 }

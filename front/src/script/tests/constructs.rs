@@ -3,8 +3,8 @@
 use std::path::Path;
 
 use super::super::tree::{ExprKind, Name, SectionStatement, SectionsStatement, Statement};
-use super::super::{expression, print, version_script};
-use super::{printed, read};
+use super::super::{expression, version_script};
+use super::{print, printed, read};
 
 /// Each text is printed as it stands.
 fn same(texts: &[&str]) {

@@ -2,13 +2,14 @@
 
 mod constructs;
 mod places;
+mod print;
 mod random;
 mod refused;
 mod tokens;
 
 use std::path::Path;
 
-use super::{parse, print, Reading};
+use super::{parse, Reading};
 
 /// Reads a text that is a script.
 fn read(text: &str) -> Reading {

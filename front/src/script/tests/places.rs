@@ -5,8 +5,8 @@ use std::io;
 use std::path::{Path, PathBuf};
 
 use super::super::tree::{SectionsStatement, Statement};
-use super::super::{print, ErrorKind, Reader, Reading};
-use super::read;
+use super::super::{ErrorKind, Reader, Reading};
+use super::{print, read};
 
 /// The files of a folder, by their paths.
 fn files(path: &Path) -> io::Result<Vec<u8>> {

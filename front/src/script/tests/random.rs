@@ -2,8 +2,9 @@
 
 use std::path::Path;
 
+use super::super::parse;
 use super::super::tree::*;
-use super::super::{parse, print};
+use super::print;
 
 /// Numbers by a xorshift with a seed (Marsaglia 2003).
 struct Random(u64);

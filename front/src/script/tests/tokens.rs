@@ -1,6 +1,7 @@
 //! Tokens in each state, as by the rules of `ldlex.l`: the longest match, and among equals the first rule.
 
-use super::super::lexer::{is_bare, scan, Kind, State};
+use super::super::lexer::{scan, Kind, State};
+use super::print::is_bare;
 
 use State::{Expression, InputList, Script, VersionNode, VersionScript, VersionStart, Wild};
 

@@ -4,12 +4,11 @@ mod commands;
 mod expressions;
 mod sections;
 
-use super::lexer::{is_bare, State};
-use super::tree::{Expr, Name, Script};
+use crate::script::lexer::{scan, Kind, State};
+use crate::script::tree::{Expr, Name, Script};
 
 /// The text of a script.
-#[must_use]
-pub fn script(script: &Script) -> Vec<u8> {
+pub(super) fn script(script: &Script) -> Vec<u8> {
     let mut printer = Printer::default();
     for statement in &script.statements {
         printer.statement(&statement.node);
@@ -18,11 +17,15 @@ pub fn script(script: &Script) -> Vec<u8> {
 }
 
 /// The text of an expression, with parentheses where it needs them.
-#[must_use]
-pub fn expression(expr: &Expr) -> Vec<u8> {
+pub(super) fn expression(expr: &Expr) -> Vec<u8> {
     let mut printer = Printer::default();
     printer.expr(expr);
     printer.out
+}
+
+/// Whether a name can be written without quotes in a state.
+pub(super) fn is_bare(state: State, name: &[u8]) -> bool {
+    !name.starts_with(b"/*") && scan(state, name) == Some((Kind::Name, name.len()))
 }
 
 /// Writes parts of a tree, one after the other.

@@ -1,0 +1,173 @@
+//! Sections that are put among those of an image: relocations behind the section that they are of (`--emit-relocs`), and
+//! output sections without bytes that GNU ld's file has.
+
+use bstr::BString;
+use object::elf;
+
+use super::file_image::{plan_or_unchanged, FilePlan};
+use super::image::{Image, NotAnImage, Section};
+use super::symbols::{EmptySection, RelocationTable, SymbolTable};
+use crate::snapshot::Bytes;
+
+/// The bytes of an entry of a table of relocations, and of one of symbols.
+const ENTRY: u64 = 24;
+const SYMBOL: usize = 24;
+
+/// A section that is put into a file.
+struct Inserted {
+    /// The number of the section after which it stands, before any is put in.
+    after: usize,
+    /// The number by which symbols refer to it.
+    number: Option<u16>,
+    name: BString,
+    /// Its header, without name, link and info.
+    header: Section,
+    /// The section that relocations are of.
+    target: Option<usize>,
+    content: Bytes,
+}
+
+/// Puts the sections into a file, whose section headers get other numbers by that.
+pub(super) fn insert(
+    data: &[u8],
+    relocations: Vec<RelocationTable>,
+    missing: Vec<EmptySection>,
+    plan: &mut Option<FilePlan>,
+) -> Result<(), NotAnImage> {
+    if relocations.is_empty() && missing.is_empty() {
+        return Ok(());
+    }
+    let image = Image::read(data)?;
+    let mut changed = plan_or_unchanged(data, plan.take())?;
+    let mut names = changed.names_of(&image)?;
+    let mut inserted = Vec::with_capacity(relocations.len() + missing.len());
+    for table in relocations {
+        let section = changed.sections.get(table.section);
+        let name = section.map_or(&b""[..], |section| name_at(&names, section.name as usize));
+        inserted.push(of_relocations(table, name));
+    }
+    inserted.extend(missing.into_iter().map(of_nothing));
+    // Stable, so that relocations follow their section at once.
+    inserted.sort_by_key(|one| one.after);
+    let numbers = Numbers::of(changed.sections.len(), &inserted);
+    changed.renumber(&|number| numbers.get(number));
+    if let Some(Some(symbols)) = &mut changed.symbols {
+        renumber_homes(symbols, &numbers);
+    }
+    let table = changed.sections.iter().position(|section| section.kind == elf::SHT_SYMTAB);
+    let table = table.map_or(0, |table| numbers.get(table) as u32);
+    for (one, place) in inserted.into_iter().zip(&numbers.inserted) {
+        let (link, info) = one.target.map_or((0, 0), |target| (table, numbers.get(target) as u32));
+        let name = u32::try_from(names.len()).unwrap_or(0);
+        names.extend_from_slice(&one.name);
+        names.push(0);
+        changed.put(*place, Section { name, link, info, ..one.header }, one.content);
+    }
+    changed.names = Some(names);
+    *plan = Some(changed);
+    Ok(())
+}
+
+/// The numbers that sections get.
+struct Numbers {
+    /// By the numbers before.
+    numbers: Vec<usize>,
+    /// Those that are put in, in their order.
+    inserted: Vec<usize>,
+    /// By the number by which symbols refer to one that is put in.
+    referred: Vec<(u16, usize)>,
+}
+
+impl Numbers {
+    fn of(count: usize, inserted: &[Inserted]) -> Numbers {
+        let mut found = Numbers { numbers: Vec::with_capacity(count), inserted: Vec::new(), referred: Vec::new() };
+        let mut rest = inserted.iter().peekable();
+        let mut next = 0;
+        for number in 0..count {
+            found.numbers.push(next);
+            next += 1;
+            while let Some(one) = rest.next_if(|one| one.after == number) {
+                found.inserted.push(next);
+                found.referred.extend(one.number.map(|own| (own, next)));
+                next += 1;
+            }
+        }
+        found
+    }
+
+    fn get(&self, number: usize) -> usize {
+        let referred = || self.referred.iter().find(|(own, _)| usize::from(*own) == number).map(|(_, place)| *place);
+        self.numbers.get(number).copied().or_else(referred).unwrap_or(number)
+    }
+}
+
+fn of_relocations(table: RelocationTable, name: &[u8]) -> Inserted {
+    let flags = elf::SHF_INFO_LINK.into();
+    let size = table.entries.len() as u64;
+    Inserted {
+        after: table.section,
+        number: None,
+        name: [&b".rela"[..], name].concat().into(),
+        header: Section { kind: elf::SHT_RELA, flags, size, align: 8, entry_size: ENTRY, ..NO_SECTION },
+        target: Some(table.section),
+        content: table.entries.into(),
+    }
+}
+
+fn of_nothing(section: EmptySection) -> Inserted {
+    let EmptySection { after, number, name, kind, flags, address, align } = section;
+    let header = Section { kind, flags, address, align, ..NO_SECTION };
+    Inserted { after, number: Some(number), name, header, target: None, content: Bytes::default() }
+}
+
+/// A header of zeros.
+const NO_SECTION: Section =
+    Section { name: 0, kind: 0, flags: 0, address: 0, offset: 0, size: 0, link: 0, info: 0, align: 0, entry_size: 0 };
+
+/// A text of a table of names.
+fn name_at(names: &[u8], at: usize) -> &[u8] {
+    let rest = names.get(at..).unwrap_or_default();
+    let end = memchr::memchr(0, rest).unwrap_or(0);
+    rest.get(..end).unwrap_or_default()
+}
+
+/// Gives symbols the new numbers of their sections.
+fn renumber_homes(symbols: &mut SymbolTable, numbers: &Numbers) {
+    let moved: Vec<u16> = (0..elf::SHN_LORESERVE).map(|number| numbers.get(number.into()) as u16).collect();
+    for entry in symbols.entries.chunks_exact_mut(SYMBOL) {
+        if let [_, _, _, _, _, _, low, high, ..] = entry {
+            let home = u16::from_le_bytes([*low, *high]);
+            if let Some(new) = moved.get(usize::from(home)).filter(|_| home > 0) {
+                let [new_low, new_high] = new.to_le_bytes();
+                *low = new_low;
+                *high = new_high;
+            }
+        }
+    }
+}
+
+impl FilePlan {
+    /// The names of sections so far.
+    fn names_of(&mut self, image: &Image<'_>) -> Result<Vec<u8>, NotAnImage> {
+        if let Some(names) = self.names.take() {
+            return Ok(names);
+        }
+        let table = image.sections.get(image.names_in).map(|table| image.content(table)).transpose()?;
+        Ok(table.unwrap_or(&[0]).to_vec())
+    }
+
+    /// Gives sections that are referred to other numbers.
+    fn renumber(&mut self, moved: &dyn Fn(usize) -> usize) {
+        self.names_in = moved(self.names_in);
+        self.contents = std::mem::take(&mut self.contents).into_iter().map(|(at, bytes)| (moved(at), bytes)).collect();
+        for section in self.sections.iter_mut().filter(|section| section.kind == elf::SHT_SYMTAB) {
+            section.link = moved(section.link as usize) as u32;
+        }
+    }
+
+    /// Puts a section in its place.
+    fn put(&mut self, number: usize, header: Section, content: Bytes) {
+        self.sections.insert(number.min(self.sections.len()), header);
+        self.contents.insert(number, content);
+    }
+}

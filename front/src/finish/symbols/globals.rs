@@ -1,0 +1,267 @@
+//! Names that are not local in objects, in GNU ld's order, with the values of the image (elflink.c,
+//! `elf_link_output_extsym`).
+
+use std::sync::Arc;
+
+use bstr::ByteSlice;
+use object::elf::{self, Sym64};
+use object::LittleEndian as LE;
+
+use super::super::image::{Image, NotAnImage};
+use super::names::{LinkedName, LinkedNames};
+use super::numbers::Numbers;
+use super::outputs::Outputs;
+use super::places::Places;
+use super::table::{Entry, Writer};
+use super::{SymbolOptions, Symbols};
+use crate::layout::evaluation::{Base, Definer, Evaluation, Symbol};
+use crate::layout::ids::SymbolId;
+use crate::objects::{Home, Object, GLOBAL_OFFSET_TABLE};
+use crate::quick::QuickMap;
+
+/// How many assignments are followed from one symbol to the next.
+const DEEPEST: u32 = 16;
+
+/// The names of an image.
+pub(super) struct ImageNames<'a> {
+    entries: &'a [Sym64<LE>],
+    names: &'a [u8],
+    /// By linked name: the number of its entry.
+    numbers: Arc<[u32]>,
+}
+
+impl<'a> ImageNames<'a> {
+    /// Reads the symbol table of an image, and finds the linked names in it.
+    pub(super) fn read(image: &Image<'a>, linked: &LinkedNames) -> Result<ImageNames<'a>, NotAnImage> {
+        let table = image.sections.iter().find(|section| section.kind == elf::SHT_SYMTAB);
+        let (bytes, names) = match table {
+            Some(table) => {
+                let names = image.sections.get(table.link as usize).map(|names| image.content(names)).transpose()?;
+                (image.content(table)?, names.unwrap_or_default())
+            }
+            None => (&[][..], &[][..]),
+        };
+        let count = bytes.len() / std::mem::size_of::<Sym64<LE>>();
+        let entries = object::slice_from_bytes(bytes, count).map_or(&[][..], |(entries, _)| entries);
+        let mut own = ImageNames { entries, names, numbers: Vec::new().into() };
+        // The names stand in the order of the entries, so that these are the same where the names are.
+        own.numbers = linked.numbers_in(names, || own.find(linked));
+        Ok(own)
+    }
+
+    /// How many there are.
+    pub(super) fn len(&self) -> usize {
+        self.entries.len()
+    }
+
+    /// The numbers of the entries of linked names; `NONE` of those that the image has not.
+    fn find(&self, linked: &LinkedNames) -> Vec<u32> {
+        let named = self.entries.iter().enumerate().filter_map(|(at, entry)| Some((self.name(entry)?, at as u32)));
+        let places: QuickMap<&[u8], u32> = named.filter(|(name, _)| !name.is_empty()).collect();
+        linked.iter().map(|one| places.get(one.name.as_slice()).copied().unwrap_or(NONE)).collect()
+    }
+
+    fn name(&self, entry: &Sym64<LE>) -> Option<&'a [u8]> {
+        let rest = self.names.get(entry.st_name.get(LE) as usize..)?;
+        rest.get(..memchr::memchr(0, rest)?)
+    }
+
+    /// The entry of a linked name.
+    fn get(&self, number: usize) -> Option<&Sym64<LE>> {
+        self.entries.get(*self.numbers.get(number)? as usize)
+    }
+}
+
+/// No entry.
+const NONE: u32 = u32::MAX;
+
+/// Writes the names: first those that are local in the image, after a file without a name where there is one with. Those in
+/// use by relocations are written in any case.
+pub(super) fn write(
+    writer: &mut Writer,
+    names: &Names<'_>,
+    used: Option<&[bool]>,
+    has_files: bool,
+    mut numbers: Option<&mut Numbers<'_>>,
+) {
+    let (mut globals, mut locals) = (Vec::with_capacity(names.own.len()), Vec::new());
+    for (number, one) in names.linked.iter().enumerate() {
+        let is_used = used.and_then(|used| used.get(number)) == Some(&true);
+        let found = names.entry_of(number, one).filter(|_| is_used || !names.options.strips(&one.name));
+        match found.or_else(|| is_used.then(|| (undefined(one), false))) {
+            Some((entry, true)) => locals.push((number, one, entry)),
+            Some((entry, false)) => globals.push((number, one, entry)),
+            None => {}
+        }
+    }
+    if has_files && !locals.is_empty() {
+        writer.add_file(b"");
+    }
+    let mut add = |writer: &mut Writer, (number, one, entry): (usize, &LinkedName, Entry)| {
+        numbers.iter_mut().for_each(|numbers| numbers.set_name(number, writer.count()));
+        writer.add(&one.name, entry);
+    };
+    locals.into_iter().for_each(|one| add(writer, one));
+    writer.end_locals();
+    globals.into_iter().for_each(|one| add(writer, one));
+}
+
+/// The entry of a name that nothing defines.
+fn undefined(one: &LinkedName) -> Entry {
+    let binding = if one.is_needed { elf::STB_GLOBAL } else { elf::STB_WEAK };
+    Entry { info: binding << 4 | one.kind, other: one.visibility, ..Entry::default() }
+}
+
+/// What is known of names.
+pub(super) struct Names<'a> {
+    objects: &'a [Object],
+    places: &'a Places,
+    linked: &'a LinkedNames,
+    evaluation: &'a Evaluation,
+    outputs: &'a Outputs,
+    own: &'a ImageNames<'a>,
+    options: &'a SymbolOptions,
+    /// The symbols from which others take theirs: the visibility that objects say, and the type in the image.
+    sources: QuickMap<SymbolId, (u8, Option<u8>)>,
+}
+
+impl<'a> Names<'a> {
+    pub(super) fn of(
+        symbols: &Symbols<'a>,
+        (outputs, places): (&'a Outputs, &'a Places),
+        own: &'a ImageNames<'a>,
+        options: &'a SymbolOptions,
+    ) -> Names<'a> {
+        let evaluation = symbols.evaluation;
+        let likes = evaluation.symbols.iter().flat_map(|symbol| &symbol.likes);
+        let mut sources: QuickMap<SymbolId, (u8, Option<u8>)> =
+            likes.map(|like| (*like, (elf::STV_DEFAULT, None))).collect();
+        for (number, one) in symbols.names.iter().enumerate().filter(|(_, one)| one.is_named) {
+            let id = evaluation.by_name.get(one.name.as_bstr());
+            if let Some(source) = id.and_then(|id| sources.get_mut(id)) {
+                *source = (one.visibility, own.get(number).map(|found| found.st_info & 15));
+            }
+        }
+        Names { objects: symbols.objects, places, linked: symbols.names, evaluation, outputs, own, options, sources }
+    }
+
+    /// The entry of a name, and whether it is local in the image; `None` where it has no value.
+    fn entry_of(&self, number: usize, one: &LinkedName) -> Option<(Entry, bool)> {
+        let found = match self.own.get(number) {
+            Some(found) => found,
+            None => return self.unloaded(one).map(|entry| (entry, false)),
+        };
+        let known = self.known(one);
+        if known.map_or(false, is_nowhere) {
+            return None;
+        }
+        let is_table = one.name == GLOBAL_OFFSET_TABLE;
+        let is_local = is_table || known.map_or(false, |known| known.is_local);
+        let binding = match found.st_info >> 4 {
+            _ if is_local => elf::STB_LOCAL,
+            _ if one.is_unique => elf::STB_GNU_UNIQUE,
+            own => own,
+        };
+        let kind = if is_table { elf::STT_OBJECT } else { self.kind_of(one, known) };
+        let section = known.filter(|known| is_of_script(known)).map(|known| match known.section {
+            Some(section) => self.outputs.get(section).map_or(elf::SHN_ABS, |output| output.number),
+            None => elf::SHN_ABS,
+        });
+        let entry = Entry {
+            info: binding << 4 | kind,
+            other: if is_local { elf::STV_DEFAULT } else { self.visibility_of(one, known) },
+            section: section.unwrap_or_else(|| self.outputs.stands_for(found.st_shndx.get(LE))),
+            value: found.st_value.get(LE),
+            size: one.size,
+        };
+        Some((entry, is_local))
+    }
+
+    /// What the layout says of a name.
+    fn known(&self, one: &LinkedName) -> Option<&'a Symbol> {
+        if one.is_named {
+            self.evaluation.symbol(&one.name)
+        } else {
+            None
+        }
+    }
+
+    /// The entry of a name that is in a section that is not loaded, which the image does not have.
+    fn unloaded(&self, one: &LinkedName) -> Option<Entry> {
+        let (section, value) = self.block_not_loaded(one).or_else(|| self.place_not_loaded(one))?;
+        let binding = if one.is_weak() { elf::STB_WEAK } else { elf::STB_GLOBAL };
+        Some(Entry { info: binding << 4 | one.kind, other: one.visibility, section, value, size: one.size })
+    }
+
+    /// The section and the address of a common block that is not loaded.
+    fn block_not_loaded(&self, one: &LinkedName) -> Option<(u16, u64)> {
+        let known = self.known(one)?;
+        let output = self.outputs.get(known.section?).filter(|output| !output.is_loaded)?;
+        Some((output.number, known.value?.address))
+    }
+
+    /// The section and the address of what is defined in a section that is not loaded.
+    fn place_not_loaded(&self, one: &LinkedName) -> Option<(u16, u64)> {
+        let (number, index) = one.defined_by?;
+        let symbol = self.objects.get(number)?.symbol(index)?;
+        let (place, offset) = match symbol.home {
+            Home::Section(section) => self.places.get_at(number, section, symbol.value)?,
+            _ => return None,
+        };
+        (!place.is_loaded).then(|| (place.output, place.address.wrapping_add(offset)))
+    }
+
+    /// The visibility of a name: starts and ends of sections that GNU ld gives itself have one of their own (elflink.c,
+    /// `bfd_elf_define_start_stop`).
+    fn visibility_of(&self, one: &LinkedName, known: Option<&Symbol>) -> u8 {
+        let is_bound = known.map_or(false, |known| known.definer == Definer::Linker);
+        let of_sources = known.map_or(elf::STV_DEFAULT, |known| self.visibility_of_sources(known, 0));
+        match constrained(one.visibility, of_sources) {
+            elf::STV_DEFAULT if is_bound => self.options.of_bounds.number(),
+            other => other,
+        }
+    }
+
+    /// The visibility that a symbol takes from those that its assignments name.
+    fn visibility_of_sources(&self, symbol: &Symbol, depth: u32) -> u8 {
+        let of_source = |like: &SymbolId| {
+            let source = self.evaluation.symbols.get(like.index())?;
+            let said = self.sources.get(like).map_or(elf::STV_DEFAULT, |(visibility, _)| *visibility);
+            let hidden = if source.is_local { elf::STV_HIDDEN } else { elf::STV_DEFAULT };
+            let more = if depth < DEEPEST { self.visibility_of_sources(source, depth + 1) } else { elf::STV_DEFAULT };
+            Some(constrained(said, constrained(hidden, more)))
+        };
+        symbol.likes.iter().filter_map(of_source).fold(elf::STV_DEFAULT, constrained)
+    }
+
+    /// The type of a name: a symbol of the script has that of the one that its last assignment names alone.
+    fn kind_of(&self, one: &LinkedName, known: Option<&Symbol>) -> u8 {
+        let mut next = known.filter(|known| is_of_script(known)).and_then(|known| known.likes.last());
+        let mut kind = None;
+        for _ in 0..DEEPEST {
+            let id = match next {
+                Some(id) => id,
+                None => break,
+            };
+            kind = self.sources.get(id).and_then(|(_, kind)| *kind);
+            let source = self.evaluation.symbols.get(id.index()).filter(|source| is_of_script(source));
+            next = source.and_then(|source| source.likes.last());
+        }
+        kind.unwrap_or(one.kind)
+    }
+}
+
+/// The more constraining one of two visibilities (elflink.c, `elf_merge_st_other`).
+fn constrained(one: u8, other: u8) -> u8 {
+    one.wrapping_sub(1).min(other.wrapping_sub(1)).wrapping_add(1)
+}
+
+/// Whether a symbol was assigned in an output section that is never made: GNU ld has it undefined.
+fn is_nowhere(symbol: &Symbol) -> bool {
+    is_of_script(symbol) && symbol.value.map_or(false, |value| value.base == Base::Nowhere)
+}
+
+/// Whether the script or GNU ld itself gives a symbol its value.
+fn is_of_script(symbol: &Symbol) -> bool {
+    matches!(symbol.definer, Definer::Script(_) | Definer::Linker)
+}

@@ -1,0 +1,176 @@
+//! The symbol table that GNU ld writes: local symbols object by object, then names in the order of its table (bfd/elflink.c,
+//! `bfd_elf_final_link`, `elf_link_input_bfd`, `elf_link_output_extsym`).
+//!
+//! The values of names are those of the image of `ldi`; a local symbol is at the place of its input section there.
+
+mod globals;
+mod labels;
+mod locals;
+mod names;
+mod numbers;
+mod outputs;
+mod places;
+mod relocations;
+mod sections;
+mod table;
+
+use std::collections::HashSet;
+
+use bstr::{BString, ByteSlice};
+
+use super::image::{Image, NotAnImage};
+use super::unloaded::Unloaded;
+use crate::command::Discard;
+use crate::layout::Evaluation;
+use crate::objects::{Object, Visibility};
+use crate::report::link_map::LinkMap;
+use globals::Names;
+pub use names::LinkedNames;
+use numbers::Numbers;
+pub(super) use outputs::EmptySection;
+use outputs::Outputs;
+use places::Places;
+pub(super) use relocations::RelocationTable;
+pub(super) use table::SymbolTable;
+use table::Writer;
+
+/// Which symbols the file has.
+#[derive(Clone, PartialEq, Eq, Debug)]
+pub struct SymbolOptions {
+    /// Which are left out.
+    pub strip: Strip,
+    /// Which local ones are left out (bfdlink.h, `bfd_link_discard`).
+    pub discard: Discard,
+    /// `-z unique-symbol`: a local name has a number at its end.
+    pub is_unique: bool,
+    /// The visibility of `__start_NAME` and `__stop_NAME` (`-z start-stop-visibility`).
+    pub of_bounds: Visibility,
+    /// `--emit-relocs`: the file has the relocations of what is loaded.
+    pub emits_relocations: bool,
+}
+
+impl Default for SymbolOptions {
+    fn default() -> SymbolOptions {
+        SymbolOptions {
+            strip: Strip::None,
+            discard: Discard::MergedLabels,
+            is_unique: false,
+            of_bounds: Visibility::Protected,
+            emits_relocations: false,
+        }
+    }
+}
+
+/// Which symbols are left out (bfdlink.h, `bfd_link_strip`).
+#[derive(Clone, PartialEq, Eq, Debug)]
+pub enum Strip {
+    /// None.
+    None,
+    /// `-s`: all, and the file has no symbol table.
+    All,
+    /// `--retain-symbols-file`: all but these.
+    But(HashSet<BString>),
+}
+
+/// Why there is no table.
+#[derive(Clone, Copy, PartialEq, Eq, Debug, thiserror::Error)]
+pub enum NoTable {
+    /// What is there is no image of `ldi`.
+    #[error(transparent)]
+    NotAnImage(#[from] NotAnImage),
+    /// The relocations of some input sections cannot be written.
+    #[error("--emit-relocs: the places of some input sections are not known")]
+    Places,
+    /// Those of all.
+    #[error("--emit-relocs: the layout of the script is not known")]
+    Layout,
+}
+
+/// What a symbol table is made of.
+#[derive(Clone, Copy, Debug)]
+pub struct Symbols<'a> {
+    /// The objects.
+    pub objects: &'a [Object],
+    /// The layout.
+    pub evaluation: &'a Evaluation,
+    /// The names of the objects and of the script.
+    pub names: &'a LinkedNames,
+    /// The map of the image, where this is not laid out as the evaluation has it.
+    pub map: Option<&'a LinkMap>,
+}
+
+/// How an image is laid out.
+#[derive(Clone, Copy, Debug)]
+pub enum LaidOut<'a> {
+    /// As was evaluated.
+    AsEvaluated,
+    /// As its map has it.
+    ByMap(&'a LinkMap),
+    /// That is not known.
+    Unknown,
+}
+
+impl<'a> LaidOut<'a> {
+    /// By whether the image agrees with the evaluation, and its map.
+    pub fn of(agrees: bool, map: Option<&'a LinkMap>) -> LaidOut<'a> {
+        match map {
+            _ if agrees => LaidOut::AsEvaluated,
+            Some(map) => LaidOut::ByMap(map),
+            None => LaidOut::Unknown,
+        }
+    }
+}
+
+impl SymbolOptions {
+    /// Whether the file has a symbol table.
+    pub(super) fn has_table(&self) -> bool {
+        self.strip != Strip::All
+    }
+
+    /// Whether a name is left out.
+    fn strips(&self, name: &[u8]) -> bool {
+        match &self.strip {
+            Strip::None => false,
+            Strip::All => true,
+            Strip::But(kept) => !kept.contains(name.as_bstr()),
+        }
+    }
+}
+
+/// What a link's symbols come to.
+pub(super) struct Tables {
+    /// The symbol table.
+    pub(super) symbols: SymbolTable,
+    /// The relocations.
+    pub(super) relocations: Vec<RelocationTable>,
+    /// The sections without bytes to which symbols refer and that the image has not.
+    pub(super) missing: Vec<EmptySection>,
+}
+
+/// The symbol table for an image, and relocations where these are asked for.
+pub(super) fn table_of(
+    image: &Image<'_>,
+    symbols: &Symbols<'_>,
+    options: &SymbolOptions,
+    renamed: &[(BString, BString)],
+    unloaded: &[Unloaded],
+) -> Result<Tables, NoTable> {
+    let outputs = Outputs::of(image, symbols, renamed, unloaded)?;
+    let places = Places::of(symbols, &outputs);
+    let own = globals::ImageNames::read(image, symbols.names)?;
+    let mut writer = Writer::with_room(places.count(symbols.objects) + own.len(), options.is_unique);
+    let mut numbers = None;
+    if options.emits_relocations {
+        if !places.is_whole() {
+            return Err(NoTable::Places);
+        }
+        let numbers = numbers.insert(Numbers::new(symbols.objects, symbols.names, outputs.count()));
+        sections::write(&mut writer, symbols.evaluation, &outputs, numbers);
+    }
+    let used = numbers.as_ref().map(|_| relocations::names_in_use(symbols, &places));
+    let has_files = locals::write(&mut writer, symbols, &places, options, numbers.as_mut());
+    let names = Names::of(symbols, (&outputs, &places), &own, options);
+    globals::write(&mut writer, &names, used.as_deref(), has_files, numbers.as_mut());
+    let relocations = numbers.map_or_else(Vec::new, |numbers| relocations::tables(symbols, &places, &numbers));
+    Ok(Tables { symbols: writer.finish(), relocations, missing: outputs.into_missing() })
+}

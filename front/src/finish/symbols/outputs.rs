@@ -1,0 +1,193 @@
+//! The output sections of a layout in the section headers of an image.
+
+use std::collections::HashMap;
+
+use bstr::{BStr, BString, ByteSlice};
+
+use super::super::image::{Image, NotAnImage, Section};
+use super::super::unloaded::Unloaded;
+use super::Symbols;
+use crate::layout::evaluation::{OutputSection, Placed};
+use crate::layout::ids::OutputId;
+use crate::layout::Evaluation;
+
+/// By output section: its number and its address in the image; `None` where the image has none for it.
+pub(super) struct Outputs {
+    numbers: Vec<Option<Output>>,
+    /// The numbers of empty sections that GNU ld takes out, with those of the sections that take their symbols.
+    instead: HashMap<u16, u16>,
+    /// Those of GNU ld's file that the image has not.
+    missing: Vec<EmptySection>,
+}
+
+/// An output section without bytes that GNU ld's file has and the image has not.
+#[derive(Clone, PartialEq, Eq, Debug)]
+pub(in crate::finish) struct EmptySection {
+    /// The number of the section of the image after which it stands.
+    pub(in crate::finish) after: usize,
+    /// The number by which symbols refer to it: one that no section has.
+    pub(in crate::finish) number: u16,
+    /// Its name.
+    pub(in crate::finish) name: BString,
+    /// Its type, flags, address and alignment.
+    pub(in crate::finish) kind: u32,
+    pub(in crate::finish) flags: u64,
+    pub(in crate::finish) address: u64,
+    pub(in crate::finish) align: u64,
+}
+
+/// An output section in the image.
+#[derive(Clone, Copy, PartialEq, Eq, Debug)]
+pub(super) struct Output {
+    /// The number of its header.
+    pub(super) number: u16,
+    /// Its address.
+    pub(super) address: u64,
+    /// Whether it is loaded.
+    pub(super) is_loaded: bool,
+}
+
+impl Outputs {
+    /// Finds the sections: those of an address and a size, then those of a name; and those that are not loaded.
+    pub(super) fn of(
+        image: &Image<'_>,
+        symbols: &Symbols<'_>,
+        renamed: &[(BString, BString)],
+        unloaded: &[Unloaded],
+    ) -> Result<Outputs, NotAnImage> {
+        let mut headers: Vec<Header<'_>> = Vec::with_capacity(image.sections.len());
+        for (number, section) in image.sections.iter().enumerate().filter(|(_, section)| section.is_allocated()) {
+            let own = image.name(section)?;
+            let name = renamed.iter().find(|(old, _)| old == own).map_or(own, |(_, new)| new.as_bstr());
+            let number = u16::try_from(number).unwrap_or(0);
+            let output = Output { number, address: section.address, is_loaded: true };
+            headers.push(Header { name, size: section.size, output });
+        }
+        let mut outputs = Outputs {
+            numbers: vec![None; symbols.evaluation.outputs.len()],
+            instead: HashMap::new(),
+            missing: Vec::new(),
+        };
+        let mut wanted: Vec<Wanted<'_>> = Vec::new();
+        for id in &symbols.evaluation.order {
+            let output = symbols.evaluation.output(*id);
+            wanted.extend(output.and_then(|output| Some((*id, output, output.in_image()?))));
+        }
+        let (mut wanted, others): (Vec<_>, Vec<_>) = wanted.into_iter().partition(|(_, _, place)| place.is_allocated());
+        let is_there = |one: &Header<'_>, name: &BStr, place: &Placed| {
+            one.name == name && one.size == place.size && one.output.address == place.address
+        };
+        let is_at = |one: &Header<'_>, _: &BStr, place: &Placed| {
+            one.size == place.size && one.output.address == place.address && place.size != 0
+        };
+        let is_named = |one: &Header<'_>, name: &BStr, _: &Placed| one.name == name;
+        outputs.take(&mut wanted, &mut headers, &is_there);
+        outputs.take(&mut wanted, &mut headers, &is_at);
+        outputs.take(&mut wanted, &mut headers, &is_named);
+        outputs.take_unloaded(&others, unloaded, first_unloaded(image));
+        outputs.make_missing(symbols.evaluation, image.sections.len() + unloaded.len());
+        outputs.find_instead(&headers, symbols);
+        Ok(outputs)
+    }
+
+    /// Finds what stands for the empty sections that GNU ld has not.
+    fn find_instead(&mut self, headers: &[Header<'_>], symbols: &Symbols<'_>) {
+        for header in headers.iter().filter(|header| header.size == 0) {
+            let mut own = symbols.evaluation.outputs.iter().filter(|output| output.name == *header.name);
+            let nearby = own.find_map(|output| self.get(output.nearby?));
+            if let Some(nearby) = nearby {
+                self.instead.insert(header.output.number, nearby.number);
+            }
+        }
+    }
+
+    /// Gives sections without bytes that the image has not numbers from one on that no section has.
+    fn make_missing(&mut self, evaluation: &Evaluation, first: usize) {
+        let mut after = 0;
+        for id in &evaluation.order {
+            if let Some(output) = self.get(*id) {
+                after = if output.is_loaded { output.number.into() } else { after };
+                continue;
+            }
+            let found = evaluation.output(*id).and_then(|output| Some((output, output.in_image()?)));
+            let (output, place) = match found.filter(|(_, place)| place.size == 0) {
+                Some(found) => found,
+                None => continue,
+            };
+            let count = self.missing.len();
+            let (number, slot) = match (u16::try_from(first + count), self.numbers.get_mut(id.index())) {
+                (Ok(number), Some(slot)) => (number, slot),
+                _ => continue,
+            };
+            *slot = Some(Output { number, address: place.address, is_loaded: true });
+            let (kind, flags, align) = (place.kind, place.bits, place.align);
+            let (name, address) = (output.name.clone(), place.address);
+            self.missing.push(EmptySection { after, number, name, kind, flags, address, align });
+        }
+    }
+
+    /// The output sections of GNU ld's file that the image has not.
+    pub(super) fn into_missing(self) -> Vec<EmptySection> {
+        self.missing
+    }
+
+    /// Gives sections that are not loaded their numbers, from the first one on: some of them, in their order.
+    fn take_unloaded(&mut self, wanted: &[Wanted<'_>], unloaded: &[Unloaded], first: usize) {
+        let mut rest = wanted.iter();
+        for (number, one) in (first..).zip(unloaded) {
+            let found = rest.find(|(_, output, _)| output.name == one.name);
+            let number = u16::try_from(number).ok();
+            if let Some((slot, number)) = found.and_then(|(id, ..)| self.numbers.get_mut(id.index())).zip(number) {
+                *slot = Some(Output { number, address: one.address, is_loaded: false });
+            }
+        }
+    }
+
+    /// The number of the section that a symbol of a section is in.
+    pub(super) fn stands_for(&self, number: u16) -> u16 {
+        self.instead.get(&number).copied().unwrap_or(number)
+    }
+
+    /// Gives sections that are wanted the headers that fit.
+    fn take(
+        &mut self,
+        wanted: &mut Vec<Wanted<'_>>,
+        headers: &mut Vec<Header<'_>>,
+        fits: &dyn Fn(&Header<'_>, &BStr, &Placed) -> bool,
+    ) {
+        wanted.retain(|(id, output, place)| {
+            let found = headers.iter().position(|one| fits(one, output.name.as_bstr(), place));
+            let header = found.map(|at| headers.remove(at));
+            if let (Some(header), Some(number)) = (header, self.numbers.get_mut(id.index())) {
+                *number = Some(header.output);
+            }
+            found.is_none()
+        });
+    }
+
+    /// One more than the greatest number.
+    pub(super) fn count(&self) -> usize {
+        self.numbers.iter().flatten().map(|output| usize::from(output.number) + 1).max().unwrap_or(0)
+    }
+
+    /// An output section in the image.
+    pub(super) fn get(&self, id: OutputId) -> Option<Output> {
+        self.numbers.get(id.index()).copied().flatten()
+    }
+}
+
+/// An output section of the layout.
+type Wanted<'a> = (OutputId, &'a OutputSection, &'a Placed);
+
+/// The number of the first section that is not loaded: those of the link stand before those of the file itself.
+fn first_unloaded(image: &Image<'_>) -> usize {
+    let is_apart = |section: &Section| section.kind != 0 && !section.is_allocated();
+    image.sections.iter().position(is_apart).unwrap_or(image.sections.len())
+}
+
+/// A section header of the image.
+struct Header<'a> {
+    name: &'a BStr,
+    size: u64,
+    output: Output,
+}

@@ -1,0 +1,343 @@
+//! The statements of the script with what they took (ld/ldlang.c, `print_statement`).
+
+use std::collections::HashMap;
+
+use super::expression::{assertion, assignment, number_of, text_of};
+use super::names::Defined;
+use super::{dot, padded, Request};
+use crate::layout::evaluation::{Gap, InputSection, OutputSection, Statement, StatementKind};
+use crate::layout::ids::{OutputId, SectionId, StatementId};
+use crate::layout::Flags;
+use crate::objects::{LinkNames, SectionIndex};
+use crate::script::tree::{
+    self, Assertion, Assignment, DataWidth, Expr, Fill, InputStatement, Pattern, Provision, Script, SectionStatement,
+    SectionsStatement, Sort, Span,
+};
+
+/// The column of addresses (`SECTION_NAME_MAP_LENGTH`).
+const COLUMN: usize = 16;
+
+/// What stands at a place of the script.
+#[derive(Clone, Copy)]
+enum Node<'a> {
+    Assignment(&'a Assignment),
+    Assertion(&'a Assertion),
+    Input(&'a InputStatement),
+    Data(DataWidth, &'a Expr),
+    Fill(&'a Fill),
+    CreateObjectSymbols,
+}
+
+/// A map that is written.
+pub(super) struct Body<'a> {
+    request: &'a Request<'a>,
+    nodes: HashMap<Span, Node<'a>>,
+    defined: Defined,
+    text: Vec<u8>,
+    /// The start of the output section that is written.
+    start: u64,
+    /// Where the last thing ends that was written (`print_dot`).
+    dot: u64,
+}
+
+impl<'a> Body<'a> {
+    pub(super) fn new(request: &'a Request<'a>, known: &LinkNames) -> Body<'a> {
+        let defined = Defined::of(request, known);
+        Body { request, nodes: nodes_of(request.script), defined, text: Vec::new(), start: 0, dot: 0 }
+    }
+
+    /// The text of some statements.
+    pub(super) fn statements(&mut self, statements: &[StatementId]) -> Vec<u8> {
+        statements.iter().for_each(|id| self.statement(*id));
+        std::mem::take(&mut self.text)
+    }
+
+    fn line(&mut self, line: impl AsRef<[u8]>) {
+        self.text.extend_from_slice(line.as_ref());
+        self.text.push(b'\n');
+    }
+
+    fn statement(&mut self, id: StatementId) {
+        let statement = match self.request.evaluation.statement(id) {
+            Some(statement) => statement,
+            None => return,
+        };
+        let node = statement.span.and_then(|span| self.nodes.get(&span)).copied();
+        match (&statement.kind, node) {
+            (StatementKind::Output(output), _) => self.output(*output),
+            (StatementKind::Input { sections, gaps }, node) => self.input(node, sections, gaps),
+            (StatementKind::Assign { .. } | StatementKind::Dot { .. }, Some(Node::Assignment(node))) => {
+                self.assignment(statement, node);
+            }
+            (StatementKind::Assert, Some(Node::Assertion(node))) => {
+                let value = self.request.evaluation.value_at(node.condition.span).map_or(1, |value| value.address);
+                self.line(format!(
+                    "{:COLUMN$}0x{value:016x}{:COLUMN$}{}",
+                    "",
+                    "",
+                    assertion(&node.condition, &node.message)
+                ));
+            }
+            (StatementKind::Data { offset, size, value }, Some(Node::Data(width, expr))) => {
+                self.data(*offset, *size, *value, width, expr);
+            }
+            (StatementKind::Fill, Some(Node::Fill(fill))) => {
+                self.line(format!(" FILL mask 0x{}", hex(&fill_bytes(fill))));
+            }
+            (_, Some(Node::CreateObjectSymbols)) => self.line(" CREATE_OBJECT_SYMBOLS"),
+            _ => {}
+        }
+    }
+
+    /// `print_output_section_statement`
+    fn output(&mut self, id: OutputId) {
+        let output: &OutputSection = match self.request.evaluation.output(id) {
+            Some(output) => output,
+            None => return,
+        };
+        self.text.push(b'\n');
+        match &output.place {
+            None => self.line(&output.name),
+            Some(place) => {
+                let size = self.request.spans.output(id).unwrap_or(place.size);
+                let load = match place.address == place.load {
+                    true => String::new(),
+                    false => format!(" load address 0x{:016x}", place.load),
+                };
+                let address = place.address;
+                self.named(&output.name, &format!("0x{address:016x} {:>10}{load}", format!("{size:#x}")));
+                self.start = address;
+                self.dot = address;
+            }
+        }
+        output.body.iter().for_each(|id| self.statement(*id));
+    }
+
+    /// A name, and what stands in the column of addresses: on the next line behind a long one.
+    fn named(&mut self, name: &[u8], rest: &str) {
+        self.text.extend_from_slice(name);
+        if name.len() >= COLUMN - 1 {
+            self.text.push(b'\n');
+            self.text.extend_from_slice(&[b' '; COLUMN]);
+        } else {
+            self.text.extend(std::iter::repeat(b' ').take(COLUMN - name.len()));
+        }
+        self.line(rest);
+    }
+
+    /// `print_wild_statement`, and the sections with what is between them.
+    fn input(&mut self, node: Option<Node<'_>>, sections: &[SectionId], gaps: &[Gap]) {
+        if let Some(Node::Input(node)) = node {
+            let line = wild(node);
+            self.line(line);
+        }
+        let mut gaps = gaps.iter().peekable();
+        let mut end = None;
+        for id in sections {
+            let section = match self.request.evaluation.section(*id) {
+                Some(section) => section,
+                None => continue,
+            };
+            while let Some(gap) = gaps.next_if(|gap| gap.offset < section.offset) {
+                self.gap(gap);
+            }
+            if let Some((address, size)) = self.request.spans.section(*id) {
+                if let Some(end) = end.filter(|end| *end < address) {
+                    self.filled(end, address - end, "");
+                }
+                end = Some(address.wrapping_add(size));
+            }
+            self.section(*id, section);
+        }
+        gaps.for_each(|gap| self.gap(gap));
+    }
+
+    /// `print_padding_statement`
+    fn gap(&mut self, gap: &Gap) {
+        let fill = gap.fill.as_ref().map_or_else(String::new, |fill| hex(fill));
+        self.filled(self.start.wrapping_add(gap.offset), gap.size, &fill);
+    }
+
+    fn filled(&mut self, address: u64, size: u64, fill: &str) {
+        self.dot = address.wrapping_add(size);
+        self.named(b" *fill*", &format!("0x{address:016x} {:>10} {fill}", format!("{size:#x}")));
+    }
+
+    /// `print_input_section`
+    fn section(&mut self, id: SectionId, section: &InputSection) {
+        let evaluation = self.request.evaluation;
+        let span = self.request.spans.section(id);
+        let address = span.map(|(address, _)| address).or_else(|| evaluation.section_address(section)).unwrap_or(0);
+        let own = self.own_size(section);
+        let now = span.map_or(section.size, |(_, size)| size);
+        let is_left_out = match span {
+            Some(_) => self.request.spans.is_left_out(id),
+            None => now == 0 && section.flags.has(Flags::EXCLUDE),
+        };
+        let size = if is_left_out { own } else { now };
+        let name = [b" ", &**evaluation.section_name(section)].concat();
+        let object = self.request.owner(section.object);
+        self.named(&name, &format!("0x{address:016x} {:>10} {object}", format!("{size:#x}")));
+        self.dot = self.dot.max(address.wrapping_add(size));
+        if size != own && own != 0 {
+            self.line(format!("{:35}{:>10} (size before relaxing)", "", format!("{own:#x}")));
+        }
+        let names: Vec<String> = self
+            .defined
+            .in_section(id)
+            .iter()
+            .map(|(at, name)| format!("{:COLUMN$}0x{:016x}{:COLUMN$}{name}", "", address.wrapping_add(*at), ""))
+            .collect();
+        names.iter().for_each(|line| self.line(line));
+    }
+
+    /// The bytes that a section has in its object; as many as it has now where it has none there.
+    fn own_size(&self, section: &InputSection) -> u64 {
+        let number = section.number().unwrap_or(SectionIndex(0));
+        let object = self.request.objects.get(section.object.0 as usize);
+        object.and_then(|object| object.section(number)).map_or(section.size, |own| own.size)
+    }
+
+    /// `print_assignment`
+    fn assignment(&mut self, statement: &Statement, node: &Assignment) {
+        let is_provided = matches!(node.provision, Provision::Provide | Provision::ProvideHidden);
+        let text = assignment(node);
+        let blank = " ".repeat(COLUMN);
+        let printed = match (statement.output, &node.operator) {
+            (None, tree::AssignOperator::Set) => dot::value_of(self.request, &node.value, self.dot),
+            _ => None,
+        };
+        match &statement.kind {
+            StatementKind::Dot { after, gap } => {
+                let after = printed.unwrap_or(*after);
+                self.dot = after;
+                self.line(format!("{blank}0x{after:016x}{blank}{text}"));
+                gap.iter().for_each(|gap| self.gap(gap));
+            }
+            StatementKind::Assign { symbol, value: Some(value) } => {
+                let last = self.request.evaluation.symbols.get(symbol.index()).and_then(|symbol| symbol.value);
+                self.line(format!("{blank}0x{:016x}{blank}{text}", last.unwrap_or(*value).address));
+            }
+            _ if is_provided => self.line(format!("{blank}[!provide]{:24}{text}", "")),
+            _ => self.line(format!("{blank}*undef*   {:24}{text}", "")),
+        }
+    }
+
+    /// `print_data_statement`
+    fn data(&mut self, offset: u64, size: u8, value: u64, width: DataWidth, expr: &Expr) {
+        let name = match width {
+            DataWidth::Byte => "BYTE",
+            DataWidth::Short => "SHORT",
+            DataWidth::Long => "LONG",
+            DataWidth::Quad => "QUAD",
+            DataWidth::SignedQuad => "SQUAD",
+        };
+        let address = self.start.wrapping_add(offset);
+        self.dot = address.wrapping_add(u64::from(size));
+        let more = if number_of(expr).is_some() { String::new() } else { format!(" {}", text_of(expr)) };
+        let size = format!("{size:#x}");
+        self.line(format!("{:COLUMN$}0x{address:016x} {size:>10} {name} {value:#x}{more}", ""));
+    }
+}
+
+/// An input statement.
+fn wild(node: &InputStatement) -> String {
+    let file = node.file.as_ref().map(|file| &file.node);
+    let mut text = " ".to_owned();
+    text.push_str(&excluded(file));
+    let is_sorted = file.map_or(false, |file| !file.sorts.is_empty());
+    let name = file.map_or_else(|| "*".to_owned(), |file| file.glob.to_string());
+    text.push_str(&if is_sorted { format!("SORT_BY_NAME({name})") } else { name });
+    let patterns: Vec<String> = node.sections.iter().flatten().map(|one| pattern(&one.node)).collect();
+    format!("{text}({})", patterns.join(" "))
+}
+
+/// A pattern of sections (`wildcard_spec`: which sorts there are).
+fn pattern(one: &Pattern) -> String {
+    let (front, back) = match one.sorts.as_slice() {
+        [] => ("", ""),
+        [Sort::ByName, Sort::ByAlignment] => ("SORT_BY_NAME(SORT_BY_ALIGNMENT(", "))"),
+        [Sort::ByAlignment, Sort::ByName] => ("SORT_BY_ALIGNMENT(SORT_BY_NAME(", "))"),
+        [Sort::ByAlignment, ..] => ("SORT_BY_ALIGNMENT(", ")"),
+        [Sort::ByInitPriority, ..] => ("SORT_BY_INIT_PRIORITY(", ")"),
+        [Sort::None, ..] => ("SORT_NONE(", ")"),
+        [Sort::ByName | Sort::Reverse, ..] => ("SORT_BY_NAME(", ")"),
+    };
+    format!("{front}{}{}{back}", excluded(Some(one)), one.glob)
+}
+
+fn excluded(pattern: Option<&Pattern>) -> String {
+    // The parser of GNU ld puts each name in front of those before it.
+    let files = pattern.iter().flat_map(|one| one.excluded_files.iter().rev());
+    let files: Vec<String> = files.map(ToString::to_string).collect();
+    match files.is_empty() {
+        true => String::new(),
+        false => format!("EXCLUDE_FILE({}) ", files.join(" ")),
+    }
+}
+
+/// The bytes of FILL (ldexp.c, `exp_get_fill`).
+fn fill_bytes(fill: &Fill) -> Vec<u8> {
+    match &fill.literal {
+        Some(bytes) => bytes.clone(),
+        None => (number_of(&fill.value).unwrap_or(0) as u32).to_be_bytes().to_vec(),
+    }
+}
+
+fn hex(bytes: &[u8]) -> String {
+    bytes.iter().map(|byte| format!("{byte:02x}")).collect()
+}
+
+/// What stands at the places of a script.
+fn nodes_of(script: &Script) -> HashMap<Span, Node<'_>> {
+    let mut nodes = HashMap::new();
+    for statement in &script.statements {
+        match &statement.node {
+            tree::Statement::Assign(node) => {
+                nodes.insert(statement.span, Node::Assignment(node));
+            }
+            tree::Statement::Assert(node) => {
+                nodes.insert(statement.span, Node::Assertion(node));
+            }
+            tree::Statement::Sections(items) => items.iter().for_each(|item| match &item.node {
+                SectionsStatement::Assign(node) => {
+                    nodes.insert(item.span, Node::Assignment(node));
+                }
+                SectionsStatement::Assert(node) => {
+                    nodes.insert(item.span, Node::Assertion(node));
+                }
+                SectionsStatement::Output(output) => nodes_of_body(&output.body.node, &mut nodes),
+                SectionsStatement::Overlay(overlay) => {
+                    overlay.sections.node.iter().for_each(|one| nodes_of_body(&one.node.body.node, &mut nodes));
+                }
+                SectionsStatement::Entry(_) => {}
+            }),
+            _ => {}
+        }
+    }
+    nodes
+}
+
+fn nodes_of_body<'a>(body: &'a [tree::Spanned<SectionStatement>], nodes: &mut HashMap<Span, Node<'a>>) {
+    for statement in body {
+        let node = match &statement.node {
+            SectionStatement::Assign(node) => Node::Assignment(node),
+            SectionStatement::Assert(node) => Node::Assertion(node),
+            SectionStatement::Input(node) => Node::Input(node),
+            SectionStatement::Data(width, value) => Node::Data(*width, value),
+            SectionStatement::Fill(fill) => Node::Fill(fill),
+            SectionStatement::CreateObjectSymbols => Node::CreateObjectSymbols,
+            SectionStatement::Text(_) | SectionStatement::Constructors(_) | SectionStatement::LinkerVersion => continue,
+        };
+        nodes.insert(statement.span, node);
+    }
+}
+
+/// A name with spaces behind it, up to a column; on a line of its own where it is longer (ldmain.c,
+/// `add_archive_element`).
+pub(super) fn in_column(name: &str, column: usize) -> String {
+    match name.len() >= column - 1 {
+        true => format!("{name}\n{}", padded("", column)),
+        false => padded(name, column),
+    }
+}

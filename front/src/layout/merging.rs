@@ -1,0 +1,154 @@
+//! The input sections that are merged (elflink.c, `_bfd_elf_merge_sections`): those of one output section and one kind with
+//! each other, in the order of objects and headers, before sizes are found.
+
+use super::evaluation::InputSection;
+use super::flags::Flags;
+use super::ids::{OutputId, SectionId};
+use super::link::Link;
+use crate::objects::{MergeKind, MergeSource, Merged, Object, ObjectIndex, OwnMerged, SectionIndex, SectionKind};
+use crate::quick::QuickMap;
+use crate::snapshot::Bytes;
+use std::sync::Arc;
+
+/// What is merged in a link.
+#[derive(Clone, Debug, Default)]
+pub struct Merges {
+    groups: Vec<Arc<Group>>,
+    /// All sections, by object and number.
+    sources: Vec<MergeSource>,
+    /// By section: its group, and its number there.
+    numbers: QuickMap<MergeSource, (u32, u32)>,
+}
+
+/// Sections that are merged with each other.
+#[derive(Debug)]
+struct Group {
+    kind: MergeKind,
+    sources: Vec<MergeSource>,
+    /// Their bytes.
+    contents: Vec<Bytes>,
+    merged: Merged,
+}
+
+impl Merges {
+    /// Whether nothing is merged.
+    pub fn is_empty(&self) -> bool {
+        self.groups.is_empty()
+    }
+
+    /// A section of an object that is merged.
+    pub fn own(&self, object: ObjectIndex, section: SectionIndex) -> Option<OwnMerged<'_>> {
+        let (group, part) = *self.numbers.get(&MergeSource { object, section })?;
+        let group = self.groups.get(group as usize)?;
+        Some(OwnMerged { section, merged: &group.merged, part, sources: &group.sources })
+    }
+
+    /// The bytes that a section of an object has now; `None` where it is not merged.
+    pub fn size(&self, object: ObjectIndex, section: SectionIndex) -> Option<u64> {
+        let own = self.own(object, section)?;
+        own.merged.parts().get(own.part as usize).map(|part| part.contents.len() as u64)
+    }
+
+    /// The sections that are merged, by object and number.
+    pub fn sources(&self) -> &[MergeSource] {
+        &self.sources
+    }
+
+    /// Where what was at a place of a section of an object is now; `None` where it is where it was.
+    pub fn place(&self, object: ObjectIndex, section: SectionIndex, offset: u64) -> Option<(MergeSource, u64)> {
+        self.own(object, section)?.place(offset)
+    }
+}
+
+impl Link<'_> {
+    /// Merges sections; `before` is what was merged of the same objects before some changed.
+    pub fn merge(&mut self, objects: &[Object], before: Option<&Merges>) {
+        if !self.settings.merges {
+            return;
+        }
+        let mut merges = Merges::default();
+        for (kind, candidates) in self.candidates(objects) {
+            let group = group_of(kind, &candidates, before);
+            for (part, (candidate, own)) in candidates.iter().zip(group.merged.parts()).enumerate() {
+                merges.numbers.insert(candidate.source, (merges.groups.len() as u32, part as u32));
+                if let Some(section) = self.section_mut(candidate.id) {
+                    section.size = own.contents.len() as u64;
+                    if own.is_left_out {
+                        section.flags |= Flags::EXCLUDE;
+                        section.align = 1;
+                        section.own_align = 1;
+                    }
+                }
+            }
+            merges.groups.push(group);
+        }
+        merges.sources = merges.numbers.keys().copied().collect();
+        merges.sources.sort_unstable();
+        self.merges = Arc::new(merges);
+    }
+
+    /// The sections that are merged, by those that they are merged with.
+    fn candidates(&self, objects: &[Object]) -> Vec<(MergeKind, Vec<Candidate>)> {
+        let mut groups: Vec<(MergeKind, Vec<Candidate>)> = Vec::new();
+        let mut numbers: QuickMap<(OutputId, MergeKind), usize> = QuickMap::default();
+        for (number, section) in self.sections.iter().enumerate() {
+            if let Some((key, candidate)) = self.candidate(SectionId::new(number), section, objects) {
+                let group = *numbers.entry(key).or_insert(groups.len());
+                match groups.get_mut(group) {
+                    Some((_, group)) => group.push(candidate),
+                    None => groups.push((key.1, vec![candidate])),
+                }
+            }
+        }
+        groups
+    }
+
+    /// A section that is merged, and with which others: one that is in the image.
+    fn candidate(
+        &self,
+        id: SectionId,
+        section: &InputSection,
+        objects: &[Object],
+    ) -> Option<((OutputId, MergeKind), Candidate)> {
+        if !section.flags.has(Flags::MERGE) || section.flags & (Flags::EXCLUDE | Flags::CREATED) != Flags::NONE {
+            return None;
+        }
+        let output = section.output()?;
+        let is_loaded = self.place(output).map_or(false, |place| place.flags.has(Flags::ALLOC));
+        let object = objects.get(section.object.0 as usize).filter(|_| is_loaded)?;
+        let own = object.section(section.number()?).filter(|own| own.kind != SectionKind::NOBITS)?;
+        let kind = MergeKind::of(&own).filter(|_| !object.has_relocation_table(own.index))?;
+        let start = usize::try_from(own.offset).ok()?;
+        let contents = object.data().slice(start..start.checked_add(usize::try_from(own.size).ok()?)?)?;
+        let source = MergeSource { object: section.object, section: own.index };
+        Some(((output, kind), Candidate { id, source, contents }))
+    }
+}
+
+/// A section that is merged.
+#[derive(Clone, Debug)]
+struct Candidate {
+    id: SectionId,
+    source: MergeSource,
+    contents: Bytes,
+}
+
+/// What sections come to: as before where they are the same.
+fn group_of(kind: MergeKind, candidates: &[Candidate], before: Option<&Merges>) -> Arc<Group> {
+    let first = candidates.first().and_then(|first| before?.numbers.get(&first.source));
+    let old = first.and_then(|(group, _)| before?.groups.get(*group as usize));
+    let is_same = |old: &Arc<Group>| {
+        let sources = old.sources.iter().zip(&old.contents);
+        old.kind == kind
+            && old.sources.len() == candidates.len()
+            && sources.zip(candidates).all(|((source, bytes), one)| *source == one.source && *bytes == one.contents)
+    };
+    if let Some(old) = old.filter(|old| is_same(old)) {
+        return Arc::clone(old);
+    }
+    let contents: Vec<Bytes> = candidates.iter().map(|one| one.contents.clone()).collect();
+    let bytes: Vec<&[u8]> = contents.iter().map(|bytes| &**bytes).collect();
+    let merged = Merged::of(kind, &bytes);
+    let sources = candidates.iter().map(|one| one.source).collect();
+    Arc::new(Group { kind, sources, contents, merged })
+}

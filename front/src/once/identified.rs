@@ -1,0 +1,105 @@
+//! The file of an image, with what is not loaded, and with its build ID: the file is hashed, the note with the hash is sent
+//! to the session, and the file is made of the image that it answers then.
+
+use std::ops::Range;
+
+use crate::command::BuildId;
+use crate::finish::{finish, hash_of, place_of_note, FileImage, FinishError, Finished, HashKind, LaidOut, Unloaded};
+use crate::mirror::{Mirror, SessionError, Wanted};
+use crate::objects::NOTE_HEAD;
+use crate::plan::{Identity, LinkPlan};
+use crate::unloaded::{self, unloaded, NotMade};
+
+/// Why there is no file.
+#[derive(Debug, thiserror::Error)]
+pub(crate) enum FileFault {
+    /// The session gave no answer.
+    #[error(transparent)]
+    Session(#[from] SessionError),
+    /// The image has no such form.
+    #[error(transparent)]
+    Form(#[from] FinishError),
+    /// What is not loaded cannot be made.
+    #[error(transparent)]
+    NotMade(#[from] NotMade),
+}
+
+/// The file of the image that the session has.
+pub(crate) fn file_of(
+    plan: &mut LinkPlan,
+    image: Vec<u8>,
+    laid_out: LaidOut<'_>,
+    mirror: &mut Mirror,
+) -> Result<Finished, FileFault> {
+    let place = plan.inputs.identity().and_then(|identity| place_of(plan, identity, &image));
+    let unloaded = unloaded_of(plan, &image, laid_out, mirror)?;
+    let has_hash = plan.inputs.identity().map_or(false, |identity| identity.style().is_found());
+    let again = if has_hash { unloaded.clone() } else { Vec::new() };
+    let finished = finish(image, &plan.form, plan.symbols(laid_out).as_ref(), unloaded)?;
+    let start = place.and_then(|place| finished.file.place_of(place + NOTE_HEAD));
+    let id = match (plan.inputs.identity(), start) {
+        (Some(identity), Some(start)) => {
+            let end = start + identity.id().len() as u64;
+            id_of(identity.style(), &finished.file, start..end)
+        }
+        _ => None,
+    };
+    match id.filter(|id| plan.inputs.identity().map_or(false, |identity| identity.id() != id.as_slice())) {
+        Some(id) => {
+            mirror.reuse(finished.file.into_image());
+            plan.set_id(id);
+            let image = image_again(plan, mirror)?;
+            Ok(finish(image, &plan.form, plan.symbols(laid_out).as_ref(), again)?)
+        }
+        None => Ok(finished),
+    }
+}
+
+/// What is in the file and not loaded.
+fn unloaded_of(
+    plan: &LinkPlan,
+    image: &[u8],
+    laid_out: LaidOut<'_>,
+    mirror: &mut Mirror,
+) -> Result<Vec<Unloaded>, FileFault> {
+    match &plan.evaluation {
+        Ok(evaluation) if !plan.form.is_flat => {
+            let link = unloaded::Link { evaluation, objects: plan.inputs.objects(), laid_out };
+            unloaded(link, plan.form.strips_debugging, image, || mirror.map().map_err(FileFault::from))
+        }
+        _ => Ok(Vec::new()),
+    }
+}
+
+/// Where the note is in the image.
+fn place_of(plan: &LinkPlan, identity: &Identity, image: &[u8]) -> Option<usize> {
+    let (object, number) = identity.place();
+    let address = plan.evaluation.as_ref().ok().and_then(|evaluation| {
+        let mut sections = evaluation.sections.iter();
+        let section = sections.find(|one| one.object == object && one.number() == Some(number))?;
+        evaluation.section_address(section)
+    });
+    place_of_note(image, &identity.note(), address)
+}
+
+/// The image with the note as it is now.
+fn image_again(plan: &LinkPlan, mirror: &mut Mirror) -> Result<Vec<u8>, SessionError> {
+    let brought = mirror.bring(Wanted { options: &plan.options, objects: plan.held(), script: &plan.residual.text })?;
+    if !brought.is_good || !brought.refused.is_empty() {
+        return Err(SessionError::NoAnswer("the note of the build ID was not taken".to_owned()));
+    }
+    mirror.image()
+}
+
+/// The ID of a file, whose ID so far is at a stretch; `None` where it is a number that is given.
+fn id_of(style: &BuildId, file: &FileImage, stretch: Range<u64>) -> Option<Vec<u8>> {
+    match style {
+        BuildId::Sha1 => Some(hash_of(file, HashKind::Sha1, stretch)),
+        BuildId::Md5 => Some(hash_of(file, HashKind::Md5, stretch)),
+        BuildId::Uuid => {
+            let mut random = vec![0; style.size()];
+            getrandom::getrandom(&mut random).ok().map(|()| random)
+        }
+        BuildId::Bytes(_) => None,
+    }
+}

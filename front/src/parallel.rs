@@ -1,0 +1,40 @@
+//! The same for each of many things, by several threads.
+
+/// So few are done by one thread.
+const FEW: usize = 64;
+const MOST_THREADS: usize = 8;
+
+/// What something comes to for each item, in their order.
+pub(crate) fn map_all<T: Sync, R: Send>(items: &[T], act: &(dyn Fn(&T) -> R + Sync)) -> Vec<R> {
+    let threads = match items.len() {
+        0..=FEW => 1,
+        _ => std::thread::available_parallelism().map_or(1, usize::from).min(MOST_THREADS),
+    };
+    if threads <= 1 {
+        return items.iter().map(act).collect();
+    }
+    let size = (items.len() + threads - 1) / threads;
+    std::thread::scope(|scope| {
+        let of = |part| scope.spawn(move || Vec::from_iter(<[T]>::iter(part).map(act)));
+        let running: Vec<_> = items.chunks(size).map(of).collect();
+        let done = |thread: std::thread::ScopedJoinHandle<'_, Vec<R>>| match thread.join() {
+            Ok(done) => done,
+            Err(panic) => std::panic::resume_unwind(panic),
+        };
+        running.into_iter().flat_map(done).collect()
+    })
+}
+
+#[cfg(test)]
+mod tests {
+    use super::map_all;
+
+    #[test]
+    fn all_in_their_order() {
+        for count in [0, 1, 64, 65, 1000] {
+            let items: Vec<usize> = (0..count).collect();
+            let wanted: Vec<usize> = items.iter().map(|one| one * 2).collect();
+            assert_eq!(map_all(&items, &|one| one * 2), wanted);
+        }
+    }
+}

@@ -1,0 +1,45 @@
+//! A plan whose layout is known: the objects can be sent while the script is written.
+
+use super::loaded::{self, MadeLoaded};
+use super::merged::Remade;
+use super::Inputs;
+use crate::command::Command;
+use crate::finish::LinkedNames;
+use crate::layout::{Evaluation, Layout, Stop};
+use crate::mirror::Held;
+
+/// A layout, and what is to become a plan.
+#[derive(Debug)]
+pub struct Begun {
+    pub(super) inputs: Inputs,
+    pub(super) layout: Option<Layout>,
+    pub(super) evaluation: Result<Evaluation, Stop>,
+    pub(super) made_loaded: MadeLoaded,
+    pub(super) remade: Remade,
+    /// The names of an earlier plan.
+    pub(super) names: Option<LinkedNames>,
+    pub(super) held: Vec<Held>,
+}
+
+impl Begun {
+    /// What a layout makes of objects; names and objects of an earlier plan are used again.
+    pub(super) fn new(
+        command: &Command,
+        inputs: Inputs,
+        (layout, mut evaluation): (Option<Layout>, Result<Evaluation, Stop>),
+        names: Option<LinkedNames>,
+        mut remade: Remade,
+    ) -> Begun {
+        let made_loaded = evaluation.as_mut().map_or_else(|_| MadeLoaded::new(), loaded::load);
+        let mut held = inputs.held.clone();
+        if let Ok(evaluation) = &evaluation {
+            remade.put(&mut held, inputs.objects(), evaluation, &made_loaded, command.collects_sections);
+        }
+        Begun { inputs, layout, evaluation, made_loaded, remade, names, held }
+    }
+
+    /// The objects as the session is to hold them, but for those that get names or places of the script's.
+    pub fn held(&self) -> &[Held] {
+        &self.held
+    }
+}

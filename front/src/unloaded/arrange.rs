@@ -1,0 +1,269 @@
+//! What stands where in the sections that are not loaded.
+
+use std::borrow::Cow;
+
+use object::elf;
+
+use super::compressed::inflated;
+use super::strings::Strings;
+use super::NotMade;
+use crate::layout::evaluation::{Evaluation, Gap, InputSection, OutputSection, Placed, StatementKind};
+use crate::layout::ids::SectionId;
+use crate::objects::{Object, SectionFlags};
+use crate::quick::QuickMap;
+
+/// Names of sections of debug information begin so (bfd/elf.c, `_bfd_elf_make_section_from_shdr`).
+const DEBUGGING: [&[u8]; 7] =
+    [b".debug", b".gnu.debuglto_.debug_", b".gnu.linkonce.wi.", b".zdebug", b".line", b".stab", b".gdb_index"];
+
+/// The bytes of an output section.
+pub(super) struct Arranged<'a> {
+    pub(super) output: &'a OutputSection,
+    pub(super) place: &'a Placed,
+    pub(super) size: u64,
+    pub(super) align: u64,
+    pub(super) pieces: Vec<Piece<'a>>,
+}
+
+/// Bytes at a place of an output section.
+pub(super) struct Piece<'a> {
+    pub(super) at: u64,
+    pub(super) bytes: Cow<'a, [u8]>,
+    /// The input section, whose relocations apply.
+    pub(super) section: Option<SectionId>,
+}
+
+/// Where an input section is.
+#[derive(Clone, Copy, Debug)]
+pub(super) struct Spot {
+    /// The address of the output section, and the place there.
+    pub(super) address: u64,
+    /// Its strings: the number of those that were merged together, and of it among them.
+    pub(super) strings: Option<(usize, usize)>,
+}
+
+/// All of them.
+#[derive(Default)]
+pub(super) struct Arrangement<'a> {
+    pub(super) outputs: Vec<Arranged<'a>>,
+    spots: QuickMap<usize, Spot>,
+    /// Strings that were merged together, and the sections that have them.
+    strings: Vec<(Strings, Vec<SectionId>)>,
+}
+
+impl<'a> Arrangement<'a> {
+    /// Arranges the output sections of a layout that are not loaded; those of debug information are left out where they
+    /// are stripped.
+    pub(super) fn of(
+        evaluation: &'a Evaluation,
+        objects: &'a [Object],
+        strips_debugging: bool,
+    ) -> Result<Arrangement<'a>, NotMade> {
+        let mut arrangement = Arrangement::default();
+        for (output, place) in evaluation.in_image().filter(|(_, place)| !place.is_allocated()) {
+            let one = Making { evaluation, objects, strips_debugging, output, place };
+            if let Some(arranged) = one.arranged(&mut arrangement)? {
+                arrangement.outputs.push(arranged);
+            }
+        }
+        Ok(arrangement)
+    }
+
+    /// Where an input section is.
+    pub(super) fn spot(&self, section: SectionId) -> Option<Spot> {
+        self.spots.get(&section.index()).copied()
+    }
+
+    /// Whether a section is left out, as its strings are in others.
+    pub(super) fn is_left_out(&self, section: SectionId) -> bool {
+        let part = self.spot(section).and_then(|spot| spot.strings);
+        let strings = part.and_then(|(together, part)| Some((self.strings.get(together)?, part)));
+        strings.map_or(false, |((strings, _), part)| strings.is_left_out(part))
+    }
+
+    /// The address of an offset of a section whose strings were merged.
+    pub(super) fn address_of_string(&self, (together, section): (usize, usize), offset: u64) -> u64 {
+        let found = self.strings.get(together).and_then(|(strings, sections)| {
+            let (section, at) = strings.place_of(section, offset);
+            let spot = self.spot(*sections.get(section)?)?;
+            Some(spot.address.wrapping_add(at))
+        });
+        found.unwrap_or(0)
+    }
+}
+
+/// The bytes of a section, and their alignment.
+struct Content<'a> {
+    bytes: Cow<'a, [u8]>,
+    align: u64,
+}
+
+/// An output section that is arranged.
+struct Making<'a> {
+    evaluation: &'a Evaluation,
+    objects: &'a [Object],
+    strips_debugging: bool,
+    output: &'a OutputSection,
+    place: &'a Placed,
+}
+
+impl<'a> Making<'a> {
+    fn arranged(&self, into: &mut Arrangement<'a>) -> Result<Option<Arranged<'a>>, NotMade> {
+        let taken = self.taken();
+        let has_more = self.has_more();
+        if self.place.size == 0 || taken.is_empty() && !has_more {
+            return Ok(None);
+        }
+        let (output, place) = (self.output, self.place);
+        let mut arranged = Arranged { output, place, size: 0, align: place.align, pieces: Vec::new() };
+        if has_more || place.kind == elf::SHT_NOBITS {
+            if taken.iter().any(|id| self.section(*id).map_or(false, is_compressed)) {
+                return Err(NotMade::Compressed(output.name.clone()));
+            }
+            self.keep_places(into, &taken, &mut arranged);
+        } else {
+            self.pack(into, &taken, &mut arranged)?;
+        }
+        Ok((arranged.size > 0).then_some(arranged))
+    }
+
+    fn section(&self, id: SectionId) -> Option<&'a InputSection> {
+        self.evaluation.section(id)
+    }
+
+    /// The input sections, in their order.
+    fn taken(&self) -> Vec<SectionId> {
+        let statements = self.output.body.iter().filter_map(|id| self.evaluation.statement(*id));
+        let sections = statements.flat_map(|statement| match &statement.kind {
+            StatementKind::Input { sections, .. } => sections.as_slice(),
+            _ => &[],
+        });
+        let is_left_out = |section: &InputSection| {
+            let name = self.evaluation.section_name(section);
+            self.strips_debugging && DEBUGGING.iter().any(|front| name.starts_with(front))
+        };
+        let is_here = |id: &SectionId| {
+            let section = self.section(*id).filter(|section| section.size > 0 && section.number().is_some());
+            section.map_or(false, |section| section.output().is_some() && !is_left_out(section))
+        };
+        sections.copied().filter(is_here).collect()
+    }
+
+    /// Whether there is more in it than input sections.
+    fn has_more(&self) -> bool {
+        let statements = self.output.body.iter().filter_map(|id| self.evaluation.statement(*id));
+        let mut kinds = statements.map(|statement| &statement.kind);
+        kinds.any(|kind| matches!(kind, StatementKind::Data { .. } | StatementKind::Dot { gap: Some(_), .. }))
+    }
+
+    fn bytes(&self, section: &InputSection) -> &'a [u8] {
+        let object = self.objects.get(section.object.0 as usize);
+        object.zip(section.number()).map_or(&[], |(object, number)| object.contents(number))
+    }
+
+    /// The bytes of a section and its alignment, as they were before they were compressed.
+    fn content(&self, section: &InputSection) -> Result<Content<'a>, NotMade> {
+        if !is_compressed(section) {
+            return Ok(Content { bytes: Cow::Borrowed(self.bytes(section)), align: section.align.max(1) });
+        }
+        let name = || self.evaluation.section_name(section).to_owned();
+        let (bytes, align) = inflated(self.bytes(section)).ok_or_else(|| NotMade::Compressed(name()))?;
+        Ok(Content { bytes: Cow::Owned(bytes), align })
+    }
+
+    /// merge.c, `_bfd_add_merge_section`; of other alignments and sizes of characters than 1 no compiler has any.
+    fn is_merged(&self, section: &InputSection, content: &Content<'_>) -> bool {
+        let flags = SectionFlags(section.bits);
+        let object = self.objects.get(section.object.0 as usize);
+        let has_relocations =
+            object.zip(section.number()).map_or(true, |(object, number)| object.has_relocations(number));
+        flags.has(SectionFlags::MERGE)
+            && flags.has(SectionFlags::STRINGS)
+            && section.entry_size == 1
+            && content.align == 1
+            && !has_relocations
+    }
+
+    /// Input sections one after the other, as large as they are now: strings are merged, in the order of objects.
+    fn pack(
+        &self,
+        into: &mut Arrangement<'a>,
+        taken: &[SectionId],
+        arranged: &mut Arranged<'a>,
+    ) -> Result<(), NotMade> {
+        let mut contents: Vec<(SectionId, Content<'a>, bool)> = Vec::with_capacity(taken.len());
+        for id in taken {
+            if let Some(section) = self.section(*id) {
+                let content = self.content(section)?;
+                let is_merged = self.is_merged(section, &content);
+                contents.push((*id, content, is_merged));
+            }
+        }
+        if taken.iter().any(|id| self.section(*id).map_or(false, is_compressed)) {
+            arranged.align = contents.iter().map(|(_, content, _)| content.align).max().unwrap_or(1);
+        }
+        let mut merged: Vec<(SectionId, &[u8])> =
+            contents.iter().filter(|one| one.2).map(|(id, content, _)| (*id, &*content.bytes)).collect();
+        merged.sort_by_key(|(id, _)| *id);
+        let together = into.strings.len();
+        let strings = Strings::of(&merged.iter().map(|(_, bytes)| *bytes).collect::<Vec<_>>());
+        let parts: QuickMap<SectionId, usize> = merged.iter().enumerate().map(|(at, (id, _))| (*id, at)).collect();
+        let mut at = 0u64;
+        for (id, content, _) in contents {
+            let part = parts.get(&id).copied();
+            let Content { bytes, align } = match part.and_then(|part| strings.kept.get(part)) {
+                Some(kept) => Content { bytes: Cow::Owned(kept.clone()), align: 1 },
+                None => content,
+            };
+            at = at.checked_add(at.wrapping_neg() & (align - 1)).ok_or(NotMade::TooLarge)?;
+            let address = self.place.address.wrapping_add(at);
+            into.spots.insert(id.index(), Spot { address, strings: part.map(|part| (together, part)) });
+            let next = at.checked_add(bytes.len() as u64).ok_or(NotMade::TooLarge)?;
+            arranged.pieces.push(Piece { at, bytes, section: Some(id) });
+            at = next;
+        }
+        let mut sections: Vec<(usize, SectionId)> = parts.into_iter().map(|(id, part)| (part, id)).collect();
+        sections.sort_unstable();
+        into.strings.push((strings, sections.into_iter().map(|(_, id)| id).collect()));
+        arranged.size = at;
+        Ok(())
+    }
+
+    /// All where the layout has it: input sections, data and what fills gaps.
+    fn keep_places(&self, into: &mut Arrangement<'a>, taken: &[SectionId], arranged: &mut Arranged<'a>) {
+        arranged.size = self.place.size;
+        for id in taken {
+            if let Some(section) = self.section(*id) {
+                let address = self.place.address.wrapping_add(section.offset);
+                into.spots.insert(id.index(), Spot { address, strings: None });
+                let bytes = Cow::Borrowed(self.bytes(section));
+                arranged.pieces.push(Piece { at: section.offset, bytes, section: Some(*id) });
+            }
+        }
+        for statement in self.output.body.iter().filter_map(|id| self.evaluation.statement(*id)) {
+            match &statement.kind {
+                StatementKind::Data { offset, size, value } => {
+                    let bytes = value.to_le_bytes();
+                    let bytes = bytes.get(..usize::from(*size)).unwrap_or_default().to_vec();
+                    arranged.pieces.push(Piece { at: *offset, bytes: Cow::Owned(bytes), section: None });
+                }
+                StatementKind::Dot { gap: Some(gap), .. } => arranged.pieces.extend(filled(gap)),
+                StatementKind::Input { gaps, .. } => arranged.pieces.extend(gaps.iter().filter_map(filled)),
+                _ => {}
+            }
+        }
+        arranged.pieces.sort_by_key(|piece| piece.at);
+    }
+}
+
+fn is_compressed(section: &InputSection) -> bool {
+    SectionFlags(section.bits).has(SectionFlags::COMPRESSED)
+}
+
+/// What fills a gap; `None` for zeros.
+fn filled<'a>(gap: &Gap) -> Option<Piece<'a>> {
+    let fill = gap.fill.as_ref().filter(|fill| fill.iter().any(|byte| *byte != 0))?;
+    let size = usize::try_from(gap.size).ok()?;
+    let bytes: Vec<u8> = fill.iter().copied().cycle().take(size).collect();
+    Some(Piece { at: gap.offset, bytes: Cow::Owned(bytes), section: None })
+}

@@ -1,0 +1,300 @@
+//! Sections that are in the file and not loaded, as GNU ld writes them: debug information, `.comment`, and what a script
+//! places so that it is not loaded.
+//!
+//! ```text
+//! Evaluation, Objects --> Arrangement: what stands where, with strings merged
+//! image, map          --> Places, Answered: where sections and names are in the image
+//!                         both --> Targets --> relocate::apply() --> Unloaded
+//! ```
+
+mod arrange;
+mod compressed;
+mod image;
+mod kept;
+mod places;
+mod relocate;
+mod strings;
+mod targets;
+
+use std::collections::{HashMap, HashSet};
+use std::sync::Mutex;
+
+use bstr::{BStr, BString, ByteSlice};
+use object::elf;
+
+use crate::finish::{LaidOut, Unloaded};
+use crate::layout::ids::{OutputId, SectionId};
+use crate::layout::Evaluation;
+use crate::objects::{Binding, LinkNames, Object, Relocation};
+use crate::report::link_map::LinkMap;
+use arrange::{Arrangement, Piece};
+use image::Answered;
+use kept::Kept;
+use places::Places;
+pub use relocate::Fault;
+use targets::{Target, Targets};
+
+/// From as many bytes on several threads write.
+const MUCH: u64 = 1 << 20;
+const MOST_THREADS: usize = 8;
+/// A list that 0 would end (bfd/reloc.c, `_bfd_clear_contents`).
+const RANGES: &[u8] = b".debug_ranges";
+
+/// Why such sections are not made.
+#[derive(Clone, PartialEq, Eq, Debug, thiserror::Error)]
+pub enum NotMade {
+    /// A section is compressed in another way than by zlib, or stands beside data of the script.
+    #[error("{0} is compressed")]
+    Compressed(BString),
+    /// There are too many bytes.
+    #[error("sections that are not loaded are too large")]
+    TooLarge,
+    /// A relocation cannot be applied.
+    #[error("{object}: {section}, which is not loaded: {fault}")]
+    Relocation {
+        /// The object.
+        object: BString,
+        /// Its section.
+        section: BString,
+        /// Why.
+        fault: Fault,
+    },
+}
+
+/// Where what is not loaded is, as it is in the file.
+#[derive(Clone, Debug, Default)]
+pub struct Spans {
+    sections: HashMap<SectionId, (u64, u64)>,
+    left_out: HashSet<SectionId>,
+    outputs: HashMap<OutputId, u64>,
+}
+
+impl Spans {
+    /// Those of a layout.
+    pub fn of(evaluation: &Evaluation, objects: &[Object], strips_debugging: bool) -> Spans {
+        let arrangement = Arrangement::of(evaluation, objects, strips_debugging).unwrap_or_default();
+        let mut spans = Spans::default();
+        for output in &arrangement.outputs {
+            for piece in &output.pieces {
+                if let Some(id) = piece.section {
+                    let address = output.place.address.wrapping_add(piece.at);
+                    spans.sections.insert(id, (address, piece.bytes.len() as u64));
+                    if arrangement.is_left_out(id) {
+                        spans.left_out.insert(id);
+                    }
+                    let own = evaluation.section(id).and_then(|section| section.output());
+                    spans.outputs.extend(own.map(|own| (own, output.size)));
+                }
+            }
+        }
+        spans
+    }
+
+    /// The address and the size of an input section.
+    pub fn section(&self, id: SectionId) -> Option<(u64, u64)> {
+        self.sections.get(&id).copied()
+    }
+
+    /// Whether an input section is left out, as its strings are in others.
+    pub fn is_left_out(&self, id: SectionId) -> bool {
+        self.left_out.contains(&id)
+    }
+
+    /// The size of an output section.
+    pub fn output(&self, id: OutputId) -> Option<u64> {
+        self.outputs.get(&id).copied()
+    }
+}
+
+/// A link, as it was laid out.
+#[derive(Clone, Copy)]
+pub struct Link<'a> {
+    /// The layout.
+    pub evaluation: &'a Evaluation,
+    /// The objects.
+    pub objects: &'a [Object],
+    /// How the image is laid out.
+    pub laid_out: LaidOut<'a>,
+}
+
+/// The sections of a link that are not loaded. `map` gives the map of the image, where that is needed.
+///
+/// # Errors
+/// Something in them is none of this; or `map` says so.
+pub fn unloaded<E: From<NotMade>>(
+    link: Link<'_>,
+    strips_debugging: bool,
+    image: &[u8],
+    map: impl FnOnce() -> Result<Vec<u8>, E>,
+) -> Result<Vec<Unloaded>, E> {
+    let Link { evaluation, objects, laid_out } = link;
+    let arrangement = Arrangement::of(evaluation, objects, strips_debugging)?;
+    let has_relocations = |piece: &Piece<'_>| relocated(evaluation, objects, piece).is_some();
+    let is_plain = !arrangement.outputs.iter().flat_map(|output| &output.pieces).any(has_relocations);
+    if is_plain {
+        return Ok(written(&arrangement, None)?);
+    }
+    let answered = Answered::read(image);
+    let mut places = Places::new(evaluation);
+    match laid_out {
+        LaidOut::AsEvaluated if places.are_in(&answered) => {}
+        LaidOut::ByMap(map) => places = places.with_map(map, objects),
+        LaidOut::AsEvaluated | LaidOut::Unknown => {
+            let map = LinkMap::read(&map()?).unwrap_or_default();
+            places = places.with_map(&map, objects);
+        }
+    }
+    let names = missing_names(&arrangement, evaluation, objects, &answered);
+    let names = LinkNames::look_up(objects, names);
+    let (image, kept) = (&answered, Kept::of(objects));
+    let targets = Targets { evaluation, objects, arrangement: &arrangement, places, image, names, kept };
+    Ok(written(&arrangement, Some(&targets))?)
+}
+
+/// The object and the section of a piece that has relocations.
+fn relocated<'a>(evaluation: &Evaluation, objects: &'a [Object], piece: &Piece<'_>) -> Option<Relocated<'a>> {
+    let id = piece.section?;
+    let section = evaluation.section(id)?;
+    let (object, number) = (objects.get(section.object.0 as usize)?, section.number()?);
+    object.has_relocations(number).then_some(Relocated { id, object })
+}
+
+/// A section with relocations.
+#[derive(Clone, Copy)]
+struct Relocated<'a> {
+    id: SectionId,
+    object: &'a Object,
+}
+
+/// The names that relocations have and the image does not.
+fn missing_names(
+    arrangement: &Arrangement<'_>,
+    evaluation: &Evaluation,
+    objects: &[Object],
+    image: &Answered<'_>,
+) -> Vec<BString> {
+    let pieces = arrangement.outputs.iter().flat_map(|output| &output.pieces);
+    let mut found = Vec::new();
+    for Relocated { id, object } in pieces.filter_map(|piece| relocated(evaluation, objects, piece)) {
+        let number = evaluation.section(id).and_then(|section| section.number()).unwrap_or_default();
+        let symbols = object.relocations(number).filter_map(|one| object.symbol(one.symbol));
+        let names = symbols.filter(|symbol| symbol.binding != Binding::Local).map(|symbol| symbol.name);
+        found.extend(names.filter(|name| image.value(name).is_none()).map(BStr::to_owned));
+    }
+    found.sort_unstable();
+    found.dedup();
+    found
+}
+
+/// A piece and the bytes that it gets.
+struct Job<'a> {
+    piece: &'a Piece<'a>,
+    /// The address of the piece.
+    address: u64,
+    bytes: &'a mut [u8],
+}
+
+/// The sections with their bytes.
+fn written(arrangement: &Arrangement<'_>, targets: Option<&Targets<'_>>) -> Result<Vec<Unloaded>, NotMade> {
+    let mut contents = Vec::with_capacity(arrangement.outputs.len());
+    for output in &arrangement.outputs {
+        let size = if output.place.kind == elf::SHT_NOBITS { 0 } else { output.size };
+        contents.push(vec![0; usize::try_from(size).map_err(|_| NotMade::TooLarge)?]);
+    }
+    let mut jobs = Vec::new();
+    for (output, content) in arrangement.outputs.iter().zip(&mut contents) {
+        let (mut rest, mut end) = (content.as_mut_slice(), 0);
+        for piece in &output.pieces {
+            let start = usize::try_from(piece.at).map_err(|_| NotMade::TooLarge)?;
+            let size = piece.bytes.len();
+            if start < end || rest.len() < start - end + size {
+                continue; // what overlaps, as of a section that has no bytes in the file
+            }
+            let (bytes, after) = rest.split_at_mut(start - end).1.split_at_mut(size);
+            jobs.push(Job { piece, address: output.place.address.wrapping_add(piece.at), bytes });
+            (rest, end) = (after, start + size);
+        }
+    }
+    run(jobs, targets)?;
+    let made = arrangement.outputs.iter().zip(contents).map(|(output, content)| Unloaded {
+        name: output.output.name.clone(),
+        kind: output.place.kind,
+        flags: output.place.bits,
+        address: output.place.address,
+        align: output.align,
+        entry_size: output.place.entry_size,
+        size: output.size,
+        content: content.into(),
+    });
+    Ok(made.collect())
+}
+
+/// Writes all pieces, by several threads if that is a lot; of several faults the first is given.
+fn run(jobs: Vec<Job<'_>>, targets: Option<&Targets<'_>>) -> Result<(), NotMade> {
+    let much = jobs.iter().map(|job| job.bytes.len() as u64).sum::<u64>() > MUCH;
+    let threads = if much { std::thread::available_parallelism().map_or(1, usize::from).min(MOST_THREADS) } else { 1 };
+    if threads <= 1 {
+        return jobs.into_iter().try_for_each(|job| write(job, targets));
+    }
+    let queue = Mutex::new(jobs.into_iter().enumerate());
+    let next = || queue.lock().ok().and_then(|mut queue| queue.next());
+    let faults: Mutex<Vec<(usize, NotMade)>> = Mutex::default();
+    std::thread::scope(|scope| {
+        for _ in 0..threads {
+            scope.spawn(|| {
+                while let Some((number, job)) = next() {
+                    let fault = write(job, targets).err();
+                    if let (Some(fault), Ok(mut faults)) = (fault, faults.lock()) {
+                        faults.push((number, fault));
+                    }
+                }
+            });
+        }
+    });
+    let faults = faults.into_inner().unwrap_or_default();
+    faults.into_iter().min_by_key(|(number, _)| *number).map_or(Ok(()), |(_, fault)| Err(fault))
+}
+
+/// Writes a piece.
+fn write(job: Job<'_>, targets: Option<&Targets<'_>>) -> Result<(), NotMade> {
+    let Job { piece, address, bytes } = job;
+    bytes.copy_from_slice(&piece.bytes);
+    let (id, targets) = match (piece.section, targets) {
+        (Some(id), Some(targets)) => (id, targets),
+        _ => return Ok(()),
+    };
+    let section = match targets.evaluation.section(id) {
+        Some(section) => section,
+        None => return Ok(()),
+    };
+    let object = targets.objects.get(section.object.0 as usize);
+    let (object, number) = match object.zip(section.number()) {
+        Some(found) => found,
+        None => return Ok(()),
+    };
+    let name = targets.evaluation.section_name(section);
+    let placeholder = u64::from(name.as_bytes() == RANGES);
+    for one in object.relocations(number) {
+        let fault = |fault| NotMade::Relocation { object: object.name().to_owned(), section: name.to_owned(), fault };
+        let value = value_of(targets, section.object, &one, address).map_err(fault)?;
+        relocate::apply(bytes, &one, value, placeholder).map_err(fault)?;
+    }
+    Ok(())
+}
+
+/// What the field of a relocation gets; `None` where what it names is not in the output.
+fn value_of(
+    targets: &Targets<'_>,
+    object: crate::objects::ObjectIndex,
+    one: &Relocation,
+    address: u64,
+) -> Result<Option<u64>, Fault> {
+    let field = relocate::Field::of(one.kind)?;
+    Ok(match targets.of(object, one.symbol, one.addend as u64) {
+        Target::Address(value) if field.map_or(false, |field| field.is_relative) => {
+            Some(value.wrapping_sub(address.wrapping_add(one.offset)))
+        }
+        Target::Address(value) => Some(value),
+        Target::Gone => None,
+    })
+}
