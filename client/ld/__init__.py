@@ -1,1 +1,0 @@
-"""GNU ld's command line in front of `ldi session`."""

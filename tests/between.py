@@ -1,0 +1,53 @@
+"""A session of `ldi` that something is done to: a program in the place of `ldi`, by LDI, that passes on what it gets.
+
+Before it passes on the command `image`, it runs the file of the name `between` in the working folder, which it renames
+first, so that this is done once. So tests change files after a program has asked for the image.
+"""
+from __future__ import annotations
+
+import os
+import stat
+from pathlib import Path
+
+from tests.programs import LDI
+
+PROGRAM = f"""#!/usr/bin/python3
+import os, subprocess, sys
+if sys.argv[1:2] != ["session"]:
+    os.execv("{LDI}", ["{LDI}", *sys.argv[1:]])
+session = subprocess.Popen(["{LDI}", *sys.argv[1:]], stdin=subprocess.PIPE)
+source = open(0, "rb")
+while line := source.readline():
+    words = line.split()
+    if words and words[0] == b"image":
+        try:
+            os.rename("between", "between.done")
+        except OSError:
+            pass
+        else:
+            subprocess.run(["/bin/sh", "between.done"], check=True, stdin=subprocess.DEVNULL)
+    session.stdin.write(line)
+    if words and words[0] in (b"add", b"replace", b"script"):
+        left = int(words[-1])
+        while left and (part := source.read(min(left, 1 << 20))):
+            session.stdin.write(part)
+            left -= len(part)
+    session.stdin.flush()
+session.stdin.close()
+sys.exit(session.wait())
+"""
+
+
+def put_between(folder: str | os.PathLike[str], commands: str) -> None:
+    """Has these commands of the shell run in a working folder before the next image is passed on."""
+    new = Path(folder, "between.new")
+    new.write_text(commands, encoding="utf-8")
+    new.rename(Path(folder, "between"))
+
+
+def session_between(folder: str | os.PathLike[str]) -> str:
+    """Writes the program into a folder; gives its path, for LDI."""
+    path = Path(folder, "between-ldi")
+    path.write_text(PROGRAM, encoding="utf-8")
+    path.chmod(path.stat().st_mode | stat.S_IXUSR)
+    return str(path)

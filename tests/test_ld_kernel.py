@@ -1,0 +1,245 @@
+"""`ld.ldi`: what a kernel's script and command line want besides: values of objects' symbols, and larger pages."""
+from __future__ import annotations
+
+import re
+import struct
+
+from tests.images import read_image
+from tests.linking import LinkTest, needs
+
+KERNEL = """OUTPUT_FORMAT("elf64-x86-64")
+jiffies = jiffies_64;
+ENTRY(phys_start)
+PHDRS { text PT_LOAD FLAGS(5); data PT_LOAD FLAGS(6); }
+SECTIONS {
+  . = 0xffffffff81000000;
+  phys_start = ABSOLUTE(start - 0xffffffff80000000);
+  .text : AT(ADDR(.text) - 0xffffffff80000000) { *(.text .text.*) } :text
+  . = ALIGN(0x1000);
+  .data : AT(ADDR(.data) - 0xffffffff80000000) { *(.data .data.*) } :data
+  .bss : { *(.bss .bss.*) . = ALIGN(0x1000); end = .; }
+  /DISCARD/ : { *(.eh_frame) *(.note.*) *(.comment) }
+}
+half = end / 2 + jiffies;
+"""
+SOURCES = {
+    "head.c": "extern unsigned long jiffies; long pad[9]; void first(void) {} long start(void) { return jiffies; }",
+    "timer.c": "long before[5] = {1}; long jiffies_64 __attribute__((aligned(64))) = 7;",
+}
+LARGE_PAGE = 0x200000
+NOTE = """.section .note.test,"a",@note
+.balign 4
+.long 4, 4, 1
+.asciz "abc"
+.long 9
+.section .note.GNU-stack,"",@progbits
+"""
+SEGMENTS = """ENTRY(start)
+PHDRS {
+  headers PT_PHDR PHDRS;
+  text PT_LOAD FILEHDR PHDRS FLAGS(4 | 1);
+  data PT_LOAD; /* its flags are those of its sections */
+  note PT_NOTE;
+  stack PT_GNU_STACK FLAGS(6);
+  number 0x70000001 FLAGS(4);
+  none PT_NULL;
+  empty PT_LOAD;
+}
+SECTIONS {
+  . = 0x400000 + SIZEOF_HEADERS;
+  .text : { *(.text .text.*) } :text
+  .notes : { *(.note.test) } :text :note
+  .rodata : { *(.rodata .rodata.*) } :text
+  .nothing : { *(.nothing) } :empty
+  . = ALIGN(0x1000);
+  .data : AT(0x100000) { *(.data .data.*) } :data
+  .bss : { *(.bss .bss.*) }
+  .later : { *(.later) }
+  .unused : { *(.unused) } :NONE
+  /DISCARD/ : { *(.eh_frame) *(.note.GNU*) *(.comment) }
+}
+"""
+MIXED = """long zeros[50]; long words[3] = {1, 2, 3};
+long later[2] __attribute__((section(".later"))) = {4, 5};
+const long fixed[4] = {6};
+long start(void) { return zeros[1] + words[1] + later[1] + fixed[1]; }
+"""
+
+
+class KernelTest(LinkTest):
+    """A script that names symbols of objects, and wants its segments on large pages."""
+
+    def setUp(self) -> None:
+        """Compiles the sources."""
+        super().setUp()
+        self.objects = [self.compile(name, text, "-mcmodel=kernel") for name, text in SOURCES.items()]
+        self.write("kernel.ld", KERNEL)
+
+    def _symbols(self, name: str) -> dict[str, int]:
+        lines = (line.split() for line in self.run_tool("nm", name).splitlines())
+        return {words[2]: int(words[0], 16) for words in lines if len(words) == 3 and words[1] in "ABDTabdt"}
+
+    @needs("ld.bfd")
+    def test_symbols_of_objects(self) -> None:
+        """Expressions with objects' symbols have GNU ld's values; what they name is proved by ASSERT, but for a name alone,
+        which is one of the object's too."""
+        done = self.links("-T", "kernel.ld", "-o", "kernel", "--verbose", *self.objects)
+        self.assertIn("jiffies is a symbol of the object that has jiffies_64", done.stdout + done.stderr)
+        self.assertIn("start as the number that a link gives it", done.stdout + done.stderr)
+        self.run_tool("ld.bfd", "-T", "kernel.ld", "-o", "gnu", *self.objects)
+        ours, theirs = self._symbols("kernel"), self._symbols("gnu")
+        for name in ("jiffies", "jiffies_64", "phys_start", "start", "end", "half"):
+            self.assertEqual(hex(ours[name]), hex(theirs[name]), name)
+
+    def test_layout_that_depends_on_a_symbol(self) -> None:
+        """Where the values of a first link are not right, they are looked for until a link leaves them as they are."""
+        self.write("t.ld", """ENTRY(start) SECTIONS { . = 0x401000; .text : { *(.text .text.*) } . = ALIGN(0x1000);
+            . = . + (jiffies_64 > 0x1000 ? 0x3000 : 0); copy = jiffies_64; .data : { *(.data .data.*) }
+            .bss : { *(.bss .bss.*) } /DISCARD/ : { *(.eh_frame) *(.note.*) *(.comment) } }""")
+        self.links("-T", "t.ld", "-o", "image", "--defsym", "jiffies=0", *self.objects)
+        symbols = self._symbols("image")
+        self.assertEqual(symbols["copy"], symbols["jiffies_64"])
+        self.assertEqual(symbols["jiffies_64"] & ~0xFFF, 0x405000)
+        self.write("never.ld", """ENTRY(start) SECTIONS { . = 0x401000; .text : { *(.text .text.*) }
+            . = ALIGN(0x1000); . = . + (jiffies_64 & 0x1000 ? 0 : 0x1000); .data : { *(.data .data.*) }
+            .bss : { *(.bss .bss.*) } /DISCARD/ : { *(.eh_frame) *(.note.*) *(.comment) } }""")
+        words = ["-T", "never.ld", "--defsym", "jiffies=0", *self.objects]
+        done = self.ld(*words, "-o", "never")
+        gnu = self.run_program("ld.bfd", *words, "-o", "gnu")
+        self.assertEqual(done.returncode, gnu.returncode, done.stderr)
+        self.assertEqual(self._symbols("never"), self._symbols("gnu"))
+
+    def test_symbol_that_is_left_out(self) -> None:
+        """A symbol whose section --gc-sections leaves out has no value: that is said, and there is no image."""
+        object_ = self.compile("two.c", "long start(void) { return 1; } long other(void) { return 2; }")
+        script = """ENTRY(start) copy = other;
+            SECTIONS { . = 0x401000; .text : { *(.text.start) *(.text.other) } /DISCARD/ : { *(*) } }"""
+        self.write("t.ld", script)
+        self.links("-T", "t.ld", "-o", "image", object_)
+        done = self.ld("--gc-sections", "-T", "t.ld", "-o", "none", object_)
+        self.assertEqual(done.returncode, 2, done.stderr)
+        self.assertIn("the section of other is not in the image", done.stderr)
+        self.assertFalse((self.folder / "none").exists())
+        self.write("t.ld", script.replace("*(.text.other)", "KEEP(*(.text.other))"))
+        self.links("--gc-sections", "-T", "t.ld", "-o", "kept", object_)
+        symbols = self._symbols("kept")
+        self.assertEqual(symbols["copy"], symbols["other"])
+
+    def test_symbol_of_no_object(self) -> None:
+        """A name that nothing defines is left, and there is no image."""
+        self.write("kernel.ld", KERNEL.replace("jiffies_64;", "nothing;"))
+        done = self.ld("-T", "kernel.ld", "-o", "kernel", *self.objects)
+        self.assertEqual(done.returncode, 2)
+        self.assertIn("kernel.ld:2: left: ", done.stderr)
+        self.assertFalse((self.folder / "kernel").exists())
+
+    def test_large_pages(self) -> None:
+        """Segments of -z max-page-size=: places equal to addresses modulo it; bytes, addresses and sections as before."""
+        self.links("-T", "kernel.ld", "-o", "plain", *self.objects)
+        self.links("-T", "kernel.ld", "-o", "large", "-z", f"max-page-size={LARGE_PAGE:#x}", *self.objects)
+        plain, large = ((self.folder / name).read_bytes() for name in ("plain", "large"))
+        before, after = (read_image(data).segments for data in (plain, large))
+        self.assertEqual(len(before), len(after))
+        for old, new in zip(before, after):
+            self.assertEqual((new.offset - new.address) % LARGE_PAGE, 0)
+            self.assertEqual((old.address, old.load, old.memory_size), (new.address, new.load, new.memory_size))
+            self.assertEqual(plain[old.offset:old.offset + old.file_size], large[new.offset:new.offset + new.file_size])
+            self.assertEqual(new.alignment, LARGE_PAGE)
+        self.assertNotIn("warning", self.run_tool("readelf", "-lSW", "large").lower())
+        self.assertEqual(self._symbols("plain"), self._symbols("large"))
+        self.assertEqual(self.run_tool("objdump", "-d", "plain").split("\n")[3:],
+                         self.run_tool("objdump", "-d", "large").split("\n")[3:])
+
+
+class ProgramHeaderTest(LinkTest):
+    """PHDRS of a script, beside GNU ld's program headers."""
+
+    def setUp(self) -> None:
+        """Compiles the sources."""
+        super().setUp()
+        self.objects = [self.compile("mixed.c", MIXED), self.compile("note.s", NOTE)]
+
+    def _headers(self, name: str) -> list[tuple[int, ...]]:
+        """The program headers without their offsets."""
+        image = (self.folder / name).read_bytes()
+        (count,) = struct.unpack_from("<H", image, 56)
+        headers = [struct.unpack_from("<IIQQQQQQ", image, 64 + 56 * index) for index in range(count)]
+        return [(kind, flags, *rest) for kind, flags, _, *rest in headers]
+
+    def _bytes(self, name: str) -> dict[str, str]:
+        """The sections of an image with their bytes."""
+        lines = self.run_tool("objdump", "-s", name).split("Contents of section ")[1:]
+        return {text.split(":", 1)[0]: text for text in lines}
+
+    def _links_both(self, script: str, *words: str) -> str:
+        """Links by both linkers; gives what `ld.ldi` said."""
+        self.write("script.ld", script)
+        self.run_tool("ld.bfd", "-T", "script.ld", "-o", "gnu", *words, *self.objects)
+        return self.links("-T", "script.ld", "-o", "image", *words, *self.objects).stderr
+
+    @needs("ld.bfd")
+    def test_as_gnu_ld(self) -> None:
+        """Types, flags, addresses, sizes and alignments are GNU ld's, and readelf finds nothing wrong."""
+        for words in ((), ("-z", f"max-page-size={LARGE_PAGE:#x}")):
+            said = self._links_both(SEGMENTS, *words)
+            self.assertEqual(self._headers("image"), self._headers("gnu"), words)
+            self.assertNotIn("PHDRS", said)
+            self.assertNotIn("segments follow", said)
+            self.assertNotIn("warning", self.run_tool("readelf", "-lSW", "image").lower())
+
+    @needs("ld.bfd")
+    def test_kernel(self) -> None:
+        """Two segments at a distance from their load addresses; zeros in the middle are in the file."""
+        script = KERNEL.replace("jiffies = jiffies_64;", "").replace(" + jiffies", "")
+        script = script.replace("/DISCARD/", ".later : { *(.later) } .rodata : { *(.rodata*) } /DISCARD/")
+        self._links_both(script)
+        self.assertEqual(self._headers("image"), self._headers("gnu"))
+        self.assertEqual(self._bytes("image")[".later"], self._bytes("gnu")[".later"])
+        self.assertEqual(self._headers("image")[1][4], self._headers("image")[1][5])
+
+    def _plain(self) -> bytes:
+        """The image of the script without PHDRS."""
+        script = re.sub(r"PHDRS \{.*?\}", "", SEGMENTS, flags=re.DOTALL).replace("SIZEOF_HEADERS", hex(64 + 8 * 56))
+        self.write("plain.ld", re.sub(r"\} (:\w+ ?)+", "} ", script))
+        self.links("-T", "plain.ld", "-o", "plain", *self.objects)
+        return (self.folder / "plain").read_bytes()
+
+    def test_bytes_stay(self) -> None:
+        """Sections, symbols and bytes are those of the same script without PHDRS."""
+        self._plain()
+        self.write("script.ld", SEGMENTS)
+        self.links("-T", "script.ld", "-o", "image", *self.objects)
+        for tool in (("nm",), ("objdump", "-s"), ("objdump", "-d"), ("size", "-A")):
+            texts = [self.run_tool(*tool, name).replace(name, "") for name in ("plain", "image")]
+            self.assertEqual(*texts, tool)
+
+    def test_loads(self) -> None:
+        """A program with PHDRS runs."""
+        objects = self.compile_example()
+        script = (self.folder / "linux.ld").read_text(encoding="utf-8")
+        script = re.sub(r"(\.(text|data) : \{.*\})", r"\1 :\2", script)
+        self.write("phdrs.ld", "PHDRS { text PT_LOAD FLAGS(5); data PT_LOAD FLAGS(6); }\n" + script)
+        self.links("-T", "phdrs.ld", "-o", "hello", *objects)
+        self.assertEqual([header[:2] for header in self._headers("hello")], [(1, 5), (1, 6)])
+        self.assertIn("primes below 100: 25", self.run_tool("./hello"))
+
+    def test_cannot_be_written(self) -> None:
+        """The reason is one line, and the image has the program headers of `ldi`."""
+        for reason, (old, new) in {
+            ".bss and .later of data are loaded at two distances from their addresses": (".later :",
+                                                                                         ".later : AT(0x900000)"),
+            "there is no room for the headers of the file before text": ("0x400000 + SIZEOF_HEADERS", "0x100"),
+            "data has FILEHDR or PHDRS and is not the first PT_LOAD": ("data PT_LOAD;", "data PT_LOAD FILEHDR PHDRS;"),
+            ".later is in data and in empty, both PT_LOAD": (".later : { *(.later) }",
+                                                             ".later : { *(.later) } :data :empty"),
+            "text and empty would share addresses": (":text :note", ":empty"),
+            "there are 70007 program headers": ("headers PT_PHDR PHDRS;", "many PT_NULL;" * 70000),
+            ".unused is assigned to missing, which PHDRS does not have": (":NONE", ":missing"),
+            "no PT_LOAD has the PHDRS of headers": ("text PT_LOAD FILEHDR PHDRS", "text PT_LOAD FILEHDR"),
+        }.items():
+            self.write("script.ld", SEGMENTS.replace(old, new))
+            said = self.links("-T", "script.ld", "-o", "image", *self.objects).stderr
+            lines = [line for line in said.splitlines() if "segments follow" in line]
+            self.assertEqual(lines, [f"ld.ldi: script.ld: PHDRS: {reason}: segments follow addresses, sizes and flags "
+                                     "of the output sections"])
+            self.assertEqual({header[0] for header in self._headers("image")}, {1})

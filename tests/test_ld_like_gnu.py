@@ -1,0 +1,254 @@
+"""Links that were other than GNU ld's, each beside GNU ld's image of the same words."""
+from __future__ import annotations
+
+import random
+
+from tests.images import EXECUTE, WRITE, Image, read_image
+from tests.programs import LDI_WATCH, OutsideTest, needs
+
+START = ".globl _start\n_start: nop\n"
+PLAIN = """ENTRY(_start)
+SECTIONS { . = 0x400000; .text : { *(.text) } .rodata : { *(.rodata*) } . = ALIGN(4096); .data : { *(.data) }
+           .bss : { *(.bss) *(COMMON) } /DISCARD/ : { *(.comment) *(.note*) *(.eh_frame) } }
+"""
+NONE = {"LDI_FALLBACK": "none"}
+"""No link of these tests is another linker's, but where that is said."""
+
+
+@needs("ld.bfd")
+class BesideTest(OutsideTest):
+    """Links by both linkers."""
+
+    def both(self, *words: str) -> tuple[Image, Image]:
+        """The images of `ld.ldi`, which links by itself, and of GNU ld."""
+        self.links(*words, "-o", "own", env=NONE)
+        self.must("ld.bfd", *words, "-o", "gnu")
+        return read_image(self.read("own")), read_image(self.read("gnu"))
+
+    def same(self, *words: str) -> tuple[Image, Image]:
+        """The same, whose sections, symbols and entries are the same."""
+        own, gnu = self.both(*words)
+        self.assertEqual(own.places(), gnu.places())
+        self.assertEqual(own.symbols, gnu.symbols)
+        self.assertEqual(own.entry, gnu.entry)
+        return own, gnu
+
+
+class CommonTest(BesideTest):
+    """Common blocks: their order and padding."""
+
+    def blocks(self) -> list[str]:
+        """Four files, with seven common blocks in each."""
+        choice, kinds = random.Random(1), ("char", "short", "int", "long")
+        names = []
+        for file in range(4):
+            text = "".join(f"{choice.choice(kinds)} c{file}_{n}[{choice.randrange(1, 20)}];\n" for n in range(7))
+            text += "int _start(void) { return c0_0[0]; }\n" if file == 0 else ""
+            names.append(self.compile(f"f{file}.c", text, "-fcommon"))
+        return names
+
+    def test_default_script(self) -> None:
+        """Seven to a file in four files, under GNU ld's default script: nothing is said, and all is as GNU ld's."""
+        self.same(*self.blocks())
+        self.assertEqual(self.ld(*self.blocks(), "-o", "own", env=NONE).stderr, "")
+
+    def test_script(self) -> None:
+        """The same under a script of the user."""
+        self.write("t.ld", PLAIN)
+        self.same("-T", "t.ld", *self.blocks())
+
+    def test_arrays(self) -> None:
+        """Blocks of which several files have other sizes."""
+        self.write("t.ld", PLAIN)
+        names = [self.compile(f"{name}.c", text, "-fcommon") for name, text in (
+            ("a", "int com3[5], com4[4]; int _start(void) { return com3[0]; }\n"), ("b", "int com2[8], com3[4];\n"),
+            ("c", "int com2[4], com4[9];\n"))]
+        self.same("-T", "t.ld", *names)
+
+    def test_watch(self) -> None:
+        """`ldi-watch` makes the image of the same words under the default script's text."""
+        text = self.must("ld.bfd", "-static", "--verbose").split("=" * 50 + "\n")[1]
+        self.write("default.ld", text)
+        names = self.blocks()
+        self.must(LDI_WATCH, "--once", "-T", "default.ld", "-o", "own", *names, env=NONE)
+        self.must("ld.bfd", "-T", "default.ld", "-o", "gnu", *names)
+        self.assertEqual(read_image(self.read("own")).places(), read_image(self.read("gnu")).places())
+
+    def test_a_build_goes_on(self) -> None:
+        """None of them ends a build, or leaves a worse image than GNU ld's, also by a later call."""
+        self.write("t.ld", PLAIN)
+        blocks = self.blocks()
+        for words in (("-T", "t.ld"), ()):
+            self.must("ld.bfd", *words, "-o", "gnu", *blocks)
+            for links in (self.links, self.serves, self.serves):
+                done = links(*words, "-o", "own", *blocks)
+                self.assertLessEqual(len(done.stderr.splitlines()), 1 + done.stderr.count("warning: "), done.stderr)
+                self.assertEqual(read_image(self.read("own")).symbols, read_image(self.read("gnu")).symbols)
+
+
+class ScriptTest(BesideTest):
+    """What a script says."""
+
+    def test_input_of_the_script_alone(self) -> None:
+        """INPUT and GROUP of the script where the words name no object; a script without them has no input."""
+        self.compile("a.s", START)
+        for line in ("INPUT(a.o)", "GROUP(a.o)"):
+            self.write("in.ld", f"{line}\n{PLAIN}")
+            self.same("-T", "in.ld")
+        self.write("t.ld", PLAIN)
+        done = self.ld("-T", "t.ld", "-o", "none", env=NONE)
+        self.assertEqual((done.returncode, done.stderr), (2, "ld.ldi: no input files\n"))
+        self.assertEqual(self.ld("-T", "t.ld", "--verbose").returncode, 0)
+
+    def test_input_of_the_script_alone_with_a_server(self) -> None:
+        """The same by a server: the second call finds the object that the script names then."""
+        self.compile("a.s", START)
+        self.compile("b.s", START + ".long 4\n")
+        for name in ("a.o", "b.o"):
+            self.write("in.ld", f"INPUT({name})\n{PLAIN}")
+            self.serves("-T", "in.ld", "-o", "own", env=NONE)
+            self.must("ld.bfd", "-T", "in.ld", "-o", "gnu")
+            self.assertEqual(read_image(self.read("own")).places(), read_image(self.read("gnu")).places())
+
+    def test_text_is_not_writable(self) -> None:
+        """Writable input sections in `.text`: neither the section nor its segment is writable, as GNU ld's."""
+        self.compile("a.s", START + '.data\n.quad 1\n.section .init_array, "aw"\n.quad 2\n')
+        taken = "*(.text) KEEP(*(.init_array)) *(.data*)"
+        for script in (f"SECTIONS {{ . = 0x400000; .text : {{ {taken} }} }}",
+                       f"PHDRS {{ all PT_LOAD; }} SECTIONS {{ . = 0x400000; .text : {{ {taken} }} :all }}"):
+            self.write("t.ld", script)
+            own, gnu = self.same("-e", "_start", "-T", "t.ld", "a.o")
+            for image in (own, gnu):
+                self.assertEqual(image.section(".text").flags & (WRITE | EXECUTE), EXECUTE)
+                self.assertEqual(image.rights(0x400000) & 7, 5)
+        done = self.run_program(LDI_WATCH, "--once", "-T", "t.ld", "-e", "_start", "-z", "norelro", "-o", "seen", "a.o")
+        self.assertEqual(done.returncode, 0, done.stderr)
+        self.assertEqual(read_image(self.read("seen")).rights(0x400000) & 7, 5)
+
+    def test_two_sections_of_one_name(self) -> None:
+        """Places and bytes of output sections that have one name."""
+        own, gnu = self.two()
+        self.assertEqual([one[1:] for one in own.places()], [one[1:] for one in gnu.places()])
+
+    def test_names_and_flags_of_two_sections_of_one_name(self) -> None:
+        """The name is written twice, with the flags of each."""
+        own, gnu = self.two()
+        self.assertEqual(*([(one.name, one.flags) for one in image.sections] for image in (own, gnu)))
+
+    def two(self) -> tuple[Image, Image]:
+        """Images with two sections `.text`, and three `.data`."""
+        self.compile("a.s", START + '.data\n.quad 1\n.section .init.text, "ax"\nnop\n.section .rodata, "a"\n.quad 4\n')
+        self.write("t.ld", """SECTIONS { . = 0x1000; .text : { *(.text) } . = 0x2000; .data : { *(.data) } . = 0x3000;
+                              .text : { *(.init.text) } .data : { *(.rodata) } .data : { LONG(1) } }""")
+        return self.both("-e", "_start", "-T", "t.ld", "a.o")
+
+    def test_segment_start(self) -> None:
+        """-Ttext-segment moves the default script's sections, and SEGMENT_START of a script of the user."""
+        self.compile("a.s", START + '.data\n.quad 1\n')
+        own, gnu = self.both("-Ttext-segment=0x700000", "a.o")
+        self.assertEqual(own.places(), gnu.places())
+        self.write("t.ld", PLAIN.replace("0x400000", 'SEGMENT_START("text-segment", 0x400000 + (2 * (8)))'))
+        for words in ((), ("-Ttext-segment", "800000")):
+            self.same(*words, "-T", "t.ld", "a.o")
+
+    def test_words_of_memory(self) -> None:
+        """`l`, `o`, `len` and `org` are symbols in expressions, and no names where a statement begins."""
+        for word in ("l", "o", "len", "org"):
+            self.compile("a.s", f".globl _start, {word}\n_start: nop\n.data\n{word}: .quad {word}\n")
+            self.write("good.ld", PLAIN.replace(".bss", f"copy = {word} + 1; .bss", 1))
+            self.same("-T", "good.ld", "a.o")
+            self.compile("b.s", START)
+            self.write("bad.ld", f"{word} = 5;\n{PLAIN}")
+            for env in (NONE, {}):
+                self.assertNotEqual(self.ld("-T", "bad.ld", "b.o", "-o", "bad", env=env).returncode, 0)
+                self.assertFalse((self.folder / "bad").exists())
+
+
+@needs("ld.bfd")
+class CrossReferenceTest(OutsideTest):
+    """NOCROSSREFS and NOCROSSREFS_TO."""
+
+    def setUp(self) -> None:
+        """Code that calls a function of `.init.text`, which names a local symbol of `.data`."""
+        super().setUp()
+        self.compile("a.s", ".globl _start, v\n_start: call first\n call first\n.data\nv: .quad 1\nown: .quad 2\n")
+        self.compile("b.s", '.section .init.text, "ax"\n.globl first\nfirst: mov near, %eax\n ret\n'
+                            '.data\nnear: .quad 1\n')
+
+    def tried(self, line: str, *words: str) -> tuple[int, str]:
+        """The status of a link under a script with this line, which is 0 exactly if GNU ld's is, and what is said."""
+        self.write("t.ld", f"""{line}
+            SECTIONS {{ . = 0x1000; .text : {{ *(.text) }} .init.text : {{ *(.init.text) }}
+            .data : {{ *(.data) here = .; }} /DISCARD/ : {{ *(.note*) }} }}""")
+        done = self.ld("-e", "_start", *words, "-T", "t.ld", "a.o", "b.o", "-o", "own", env=NONE)
+        gnu = self.run_program("ld.bfd", "-e", "_start", *words, "-T", "t.ld", "a.o", "b.o", "-o", "gnu")
+        self.assertEqual(done.returncode == 0, gnu.returncode == 0, (line, done.stderr, gnu.stderr))
+        return done.returncode, done.stderr
+
+    def test_prohibited(self) -> None:
+        """References by global and by local symbols; which sections a list is of."""
+        for line, status in (("NOCROSSREFS(.text .init.text)", 1), ("NOCROSSREFS(.init.text .data)", 1),
+                             ("NOCROSSREFS(.text .data)", 0), ("NOCROSSREFS_TO(.init.text .text)", 1),
+                             ("NOCROSSREFS_TO(.text .init.text)", 0), ("NOCROSSREFS_TO(.data .text .init.text)", 1),
+                             ("NOCROSSREFS(.text .none)", 0), ("", 0)):
+            for words in ((), ("--gc-sections",)):
+                with self.subTest(line=line, words=words):
+                    self.assertEqual(self.tried(line, *words)[0], status)
+
+    def test_message(self) -> None:
+        """Each relocation is said, with its place, the symbol and both sections; no image is written."""
+        _, said = self.tried("NOCROSSREFS(.text .init.text)")
+        lines = [line for line in said.splitlines() if "prohibited cross reference" in line]
+        self.assertEqual(len(lines), 2, said)
+        for line, place in zip(lines, ("a.o: (.text+0x1)", "a.o: (.text+0x6)")):
+            for part in (place, "first", ".init.text"):
+                self.assertIn(part, line)
+        self.assertFalse((self.folder / "own").exists())
+
+    def test_with_a_server(self) -> None:
+        """A reference that comes with an edit which changes no size is found by a later call."""
+        self.write("t.ld", f"NOCROSSREFS(.text .data)\n{PLAIN}")
+        self.compile("a.s", START + " .long 4\n.data\n.globl v\nv: .quad 1\n")
+        self.serves("-T", "t.ld", "a.o", "-o", "own", env=NONE)
+        before = self.read("own")
+        self.compile("a.s", START + " .long v\n.data\n.globl v\nv: .quad 1\n")
+        self.assertEqual(self.serve("-T", "t.ld", "a.o", "-o", "own", env=NONE).returncode, 1)
+        self.assertEqual(self.read("own"), before)
+
+
+@needs("ld.bfd")
+class FlatTest(OutsideTest):
+    """OUTPUT_FORMAT("binary")."""
+
+    SCRIPT = """OUTPUT_FORMAT("binary") OUTPUT_ARCH(i386:x86-64)
+SECTIONS { . = 0; .header : { *(.header) } . = ALIGN(512); .text : { *(.data) . = ALIGN(512); }
+           .reloc : { *(.reloc) . = ALIGN(512); } .sbat : { *(.sbat) . = ALIGN(512); } /DISCARD/ : { *(*) } }
+"""
+
+    def compare(self, *words: str, env: dict[str, str]) -> str:
+        """What is said of a flat image, which is that of GNU ld."""
+        done = self.links(*words, "-o", "own", env=env)
+        self.must("ld.bfd", *words, "-o", "gnu")
+        self.assertEqual(self.read("own"), self.read("gnu"))
+        return done.stderr
+
+    def test_loaded(self) -> None:
+        """A file of sections that are loaded: nothing is said of an image that is ELF."""
+        self.compile("a.s", '.section .header, "a"\n.ascii "MZ"\n.data\n.long 4\n.section .sbat, "a"\n.ascii "sbat"\n')
+        self.write("t.ld", self.SCRIPT)
+        self.assertEqual(self.compare("-T", "t.ld", "a.o", env=NONE), "")
+
+    def test_sections_that_are_not_loaded(self) -> None:
+        """`.reloc` without the flag ALLOC, as memtest86+ has it: it is linked, or the link goes to GNU ld, or none is
+        made."""
+        self.compile("a.s", '.section .header, "a"\n.ascii "MZ"\n.data\n.long 4\n.section .reloc\n.long 5, 6\n'
+                            '.section .sbat, "a"\n.ascii "sbat"\n')
+        self.write("t.ld", self.SCRIPT)
+        said = self.compare("-T", "t.ld", "a.o", env={})
+        if said:  # a linker that does not link such sections
+            self.assertIn(".reloc", said)
+        done = self.ld("-T", "t.ld", "a.o", "-o", "none", env=NONE)
+        if done.returncode == 0:  # a linker that links such sections
+            self.assertEqual(self.read("none"), self.read("gnu"))
+        else:
+            self.assertFalse((self.folder / "none").exists())

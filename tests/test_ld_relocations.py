@@ -1,0 +1,65 @@
+"""`--emit-relocs`: relocations of what is loaded, each table beside GNU ld's of the same words."""
+from __future__ import annotations
+
+from tests.symbol_table import Relocation, read_relocations, read_table
+from tests.test_ld_symbols import FIRST, NONE, SCRIPT, SECOND, SymbolTest
+
+WITHOUT_ALIAS = SCRIPT.replace("alias = function; near = function + 4;", "")
+
+
+class RelocationTest(SymbolTest):
+    """Links by both linkers."""
+
+    def same_relocations(self, *words: str) -> dict[str, list[Relocation]]:
+        """The relocations of the image by `ld.ldi`, which are those of GNU ld's, as is the table of symbols."""
+        self.same("-q", *words)
+        own, gnu = read_relocations(self.read("own")), read_relocations(self.read("gnu"))
+        self.assertEqual(own, gnu)
+        return own
+
+    def test_relocations(self) -> None:
+        """Offsets are addresses; a reference to a section's symbol is to that of the output section."""
+        found = self.same_relocations("-T", "t.ld", *self.objects())
+        self.assertIn(".rela.text of .text", found)
+        self.assertIn(".rela.data of .data", found)
+
+    def test_options(self) -> None:
+        """Local symbols that are left out, and that a relocation needs, are there all the same."""
+        objects = self.objects()
+        for words in (("-x",), ("-X",), ("--discard-none",), ("--gc-sections",), ("--gc-sections", "-x")):
+            with self.subTest(words):
+                self.same_relocations(*words, "-T", "t.ld", *objects)
+
+    def test_empty_sections(self) -> None:
+        """An output section stays that has input sections, all of them empty."""
+        self.write("t.ld", WITHOUT_ALIAS)
+        self.same_relocations("-T", "t.ld", self.compile("a.c", "int start(void) { return 1; }"))
+
+    def test_position_independent(self) -> None:
+        """References by a global offset table that became others."""
+        self.write("t.ld", SCRIPT)
+        flags = "-fcommon", "-fpic"
+        first = FIRST.replace("if (maybe) maybe();", "")
+        self.same_relocations("-T", "t.ld", self.compile("a.c", first, *flags), self.compile("b.c", SECOND, *flags))
+
+    def test_by_a_table(self) -> None:
+        """A reference that needs the table: GNU ld links."""
+        self.write("t.ld", WITHOUT_ALIAS)
+        name = self.compile("a.s", ".globl start\nstart: pushq here@GOTPCREL(%rip)\n.data\nhere: .quad 4\n")
+        done = self.ld("-q", "-T", "t.ld", name, "-o", "own")
+        self.assertEqual(done.returncode, 0, done.stderr)
+        self.assertIn("references by a global offset table with --emit-relocs: linked by ld.bfd", done.stderr)
+
+    def test_later_calls(self) -> None:
+        """A server's tables are those of a link from scratch."""
+        words = "-q", "-T", "t.ld", *self.objects()
+        for text in (SECOND, SECOND.replace("x + local_data", "x * 7 - local_data * x"), SECOND):
+            self.compile("b.c", text, "-fcommon")
+            self.serves(*words, "-o", "own", env=NONE)
+            self.must("ld.bfd", *words, "-o", "gnu")
+            self.assertEqual(read_relocations(self.read("own")), read_relocations(self.read("gnu")))
+            self.assertEqual(read_table(self.read("own")), read_table(self.read("gnu")))
+        self.assertEqual(self.calls(), 2)
+
+
+del SymbolTest  # its subclasses here are the tests

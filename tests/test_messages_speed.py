@@ -1,0 +1,27 @@
+"""The time that messages take for very many fault lines."""
+from __future__ import annotations
+
+import time
+
+from tests.message_links import SCRIPT, LinkTest, compiled
+
+OBJECTS = 400
+CALLS = 250
+
+
+class SpeedTest(LinkTest):
+    """100,000 fault lines."""
+
+    def test_undefined(self) -> None:
+        """F12 in objects with debug information, with lines that each are looked up."""
+        calls = "\n".join(f"  y += f{k}(y);" for k in range(CALLS))
+        source = "".join(f"int f{k}(int);\n" for k in range(CALLS)) + f"static int g(int y)\n{{\n{calls}\n  return y;\n}}"
+        data = compiled(source + "\nint (*const v)(int) = g;".replace("const v", "const __attribute__((weak)) v"), "-g")
+        objects = {f"o{k}.o": data for k in range(OBJECTS)}
+        started = time.monotonic()
+        messages = self.messages(SCRIPT.replace("*(.text)", "*(.text .rodata)"), objects)
+        seconds = time.monotonic() - started
+        undefined = [message for message in messages if message.line.startswith("F12 ")]
+        self.assertEqual(len(undefined), OBJECTS * CALLS)
+        self.assertTrue(all(message.sentence.startswith("/project/text.c:") for message in undefined))
+        self.assertLess(seconds, 60)
