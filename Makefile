@@ -7,7 +7,7 @@ export LDI
 
 .PHONY: help demo ldi install check test test-client rules fmt examples bench check-real check-images check-model \
         check-link check-readers check-session check-counts check-no-memory check-memory mutants soak-client row lint
-.PHONY: self dist dist-test front test-front
+.PHONY: self dist dist-test front test-front uninstall
 
 help: ## this list
 	@awk -F ':.*## ' '/^[a-z-]+:.*## / { printf "make %-14s %s\n", $$1, $$2 }' Makefile
@@ -29,8 +29,11 @@ dist: ## makes the packages: dist/ldi-VERSION-x86_64-linux.tar.gz and dist/ldi_V
 dist-test: ## tries the packages in a minimal Debian, as root
 	@tools/dist-test
 
-install: ## puts what `make ldi` built and the client's programs into PREFIX; PREFIX is /usr/local by default
-	@tools/install "$(DESTDIR)$(PREFIX)"
+install: ## puts what `make ldi` and `make front` built into PREFIX; PREFIX is /usr/local by default
+	@tools/install "$(DESTDIR)$(PREFIX)" $(PROGRAMS)
+
+uninstall: ## removes what `make install` put there
+	@tools/install --remove "$(DESTDIR)$(PREFIX)"
 
 check: ## proves every crate, over what earlier runs have proved
 	rt all check
@@ -38,24 +41,25 @@ check: ## proves every crate, over what earlier runs have proved
 test: ## the merge gate: every proof from nothing, the edits that must fail, the tests and the stored runs
 	rt ci
 
-test-client: ## the tests of the client's programs, over the program that `make ldi` built
+front: ## builds the front end, `ld.ldi`, `ldi-watch`, `ldi-adapt` and `ldi-gdb`: front/target/release/ldi-front
+	@tools/build-front
+
+test-front: ## rustfmt, clippy and the unit tests of the front end
+	@tools/test-front
+
+test-client: ## the tests of the front end's programs from outside (tests/), over the program that `make ldi` built
 	@tools/test-client
 
 soak-client: ## runs ldi-watch over 2,000 rounds of random rewrites and ld.ldi over 500, and judges every image
-	@/usr/bin/python3 -m client.tests.soak 2000
-	@/usr/bin/python3 -m client.tests.soak_server 500
+	@python3 -m tests.soak 2000
+	@python3 -m tests.soak_server 500
 
-front: ## builds the compiled front end, front/target/release/ldi-front
-	@tools/build-front
-
-test-front: ## rustfmt, clippy and the unit tests of the compiled front end
-	@tools/test-front
-
-lint: ## looks over the client's programs by `mypy --strict`, and by ruff where that is installed
+lint: ## looks over the front end by rustfmt and clippy, and the tools in Python by `mypy --strict` and ruff
 	@tools/lint
 
-rules: ## writes the tables of the client and of the documents that are made of the crates' rules
+rules: ## writes the tables of the front end and of the documents that are made of the crates' rules, and the pictures
 	@tools/rules
+	@tools/pictures
 
 fmt: ## lays out every crate; prints what changed, needless names in crates.txt, ways past a face, and dead links
 	@tools/fmt
@@ -88,6 +92,8 @@ check-session: ## compares sessions with links from scratch on 2,000 lists of 50
 	@test -x crates/trylink/out/trylink || { echo "trylink is not built: run 'rt run' in crates/trylink" >&2; exit 1; }
 	tools/check-session
 	tools/check-session --moving
+	tools/check-session --deferred
+	tools/check-session --moving --deferred
 
 check-counts: ## looks whether work can be done without being counted: rules over the text, code that must not compile
 	tools/check-counts --compile

@@ -11,7 +11,7 @@ import tempfile
 ROOT = os.path.realpath(os.path.join(os.path.dirname(os.path.abspath(__file__)), ".."))
 sys.path.insert(0, ROOT)
 
-from client.object_file import ObjectFile  # noqa: E402
+from tests.object_file import ObjectFile  # noqa: E402
 
 OBJECT = "init/main.o"
 EDITS = ("the same sizes", "longer", "a symbol more")

@@ -17,7 +17,7 @@ from built_kernel import last_link  # noqa: E402
 from calculator.build import CODE, DATA, Rel, Sec, Sym, build  # noqa: E402
 from sessions import Project  # noqa: E402
 
-LD_LDI = os.path.join(ROOT, "client", "bin", "ld.ldi")
+LD_LDI = os.environ.get("LD_LDI") or os.path.join(ROOT, "front", "bin", "ld.ldi")
 ADDRESS, OTHER_ADDRESS = "ALIGN(0x1000000,", "ALIGN(0x1200000,"
 """Where the script puts the kernel, and where another one does."""
 PLT32 = 4

@@ -9,7 +9,7 @@ import sys
 ROOT = os.path.realpath(os.path.join(os.path.dirname(os.path.abspath(__file__)), ".."))
 sys.path.insert(0, ROOT)
 
-from client.object_file import (  # noqa: E402
+from tests.object_file import (  # noqa: E402
     ABSOLUTE, ALLOC, FUNCTION, GLOBAL, HEADER, NOTYPE, OBJECT, PROGBITS, RELA, SYMBOL, UNDEFINED, WRITABLE, ObjectFile,
     Symbol)
 

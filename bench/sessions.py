@@ -14,7 +14,7 @@ PIPE_BYTES = 1 << 20
 
 
 class Session:
-    """A session through two pipes, which hold as much as those of the client's sessions."""
+    """A session through two pipes, which hold as much as those of the front end's sessions."""
 
     def __init__(self, ldi, words=()):
         self.process = subprocess.Popen([ldi, "session", *words], stdin=subprocess.PIPE, stdout=subprocess.PIPE)
@@ -127,7 +127,7 @@ class Opened:
 
 
 def send(session, commands):
-    """Opens a project, or a part of it, where that takes too long. As in a client's session, a thread sends the
+    """Opens a project, or a part of it, where that takes too long. As in the front end, a thread sends the
     commands, and the answers are read meanwhile."""
     writer = threading.Thread(target=session.write, args=(commands,))
     start = before = now = time.perf_counter()

@@ -1,5 +1,5 @@
-"""What stands outside the crates of the rules that are tables: the modules of the client and of the front end, and the
-tables of the documents.
+"""What stands outside the crates of the rules that are tables: the module of the front end, and the tables of the
+documents.
 
 The rows come from the crates (tools/rule_rows.py), words for people from tools/rules.toml. In a document a table stands
 between `<!-- rules: NAME -->` and `<!-- /rules -->`.
@@ -19,7 +19,6 @@ from rule_rows import Fault, Refusal
 
 ROOT = Path(__file__).resolve().parent.parent
 WORDS = "tools/rules.toml"
-CLIENT = "client/rules.py"
 FRONT = "front/src/report/rules.rs"
 LONGEST = 120
 NO_MEMORY = "NoMemory"
@@ -52,35 +51,7 @@ def read() -> Rules:
     return found
 
 
-# The client
-
-def _python(value: object) -> str:
-    """A value as Python has it, with texts in double quotes."""
-    if isinstance(value, tuple):
-        return "(" + ", ".join(map(_python, value)) + ("," if len(value) == 1 else "") + ")"
-    return json.dumps(value, ensure_ascii=False) if isinstance(value, str) else repr(value)
-
-
-def _dictionary(name: str, kind: str, rows: dict[Any, Any], about: str) -> list[str]:
-    """A table of the client's module. A text that is too long for its line stands in parts."""
-    lines = [f"{name}: {kind} = {{"]
-    for key, value in rows.items():
-        line = f"    {_python(key)}: {_python(value)},"
-        if len(line) > LONGEST:
-            parts = textwrap.wrap(value, LONGEST - 12, drop_whitespace=False)
-            line = "\n".join([f"    {_python(key)}:", *(f"        {_python(part)}" for part in parts)]) + ","
-        lines.append(line)
-    return [*lines, "}", f'"""{about}"""', ""]
-
-
-def _set(name: str, members: list[str], about: str) -> list[str]:
-    """A set of words of the client's module."""
-    text = textwrap.wrap(" ".join(members), LONGEST - 16)
-    if len(text) == 1:
-        return [f'{name} = frozenset("{text[0]}".split())', f'"""{about}"""', ""]
-    return [f"{name} = frozenset(", *(f'    "{line} "' for line in text[:-1]), f'    "{text[-1]}".split()', ")",
-            f'"""{about}"""', ""]
-
+# The front end
 
 def _forms(rules: Rules) -> dict[str, tuple[str, tuple[str, ...]]]:
     """The number of each fault line, and what each of its words is: a literal word stands for itself."""
@@ -95,49 +66,12 @@ def _forms(rules: Rules) -> dict[str, tuple[str, tuple[str, ...]]]:
 
 
 def _sentences(rules: Rules, of: str) -> dict[int, str]:
-    """The client's sentence for each refusal, by number."""
+    """The sentence for each refusal, by number."""
     words = rules.words[of]
     texts = {rule: word if isinstance(word, str) else word["sentence"] for rule, word in words.items()}
     return {row.number: re.sub(r"\s+", " ", texts[row.rule])
             for row in rules.refusals[of] if of == "edit" or row.rule != NO_MEMORY}
 
-
-def client(rules: Rules) -> str:
-    """The client's module."""
-    edits = rules.refusals["edit"]
-    names = ["_".join(re.findall("[A-Z][a-z]*", row.rule)).upper() for row in edits]
-    lines: list[str] = [
-        '"""The rules of `ldi` that are tables, for the client. `tools/rules` writes this file: do not edit it."""',
-        "from __future__ import annotations", "",
-        *_dictionary("RELOCATIONS", "dict[int, str]", {row.number: row.name for row in rules.relocations},
-                     "The psABI's names of relocation types, by their numbers."),
-        *_dictionary("WIDTHS", "dict[int, int]", {row.number: row.width for row in rules.relocations},
-                     "The bytes of their fields."),
-        *_dictionary("RANGES", "dict[int, tuple[int, int]]",
-                     {row.number: row.range for row in rules.relocations if row.range},
-                     "The least and the greatest value that fits, where not every value does."),
-        "PC_RELATIVE = frozenset({%s})" % ", ".join(
-            str(row.number) for row in rules.relocations if row.calculation.endswith("P")),
-        '"""The types that count from the place of the field."""', "",
-        *_dictionary("FAULTS", "dict[str, tuple[str, tuple[str, ...]]]", _forms(rules),
-                     "The number of each fault line, and its words: `name`, `number`, `hex`, `text`, or itself."),
-        ", ".join(names) + " = " + ", ".join(str(row.number) for row in edits),
-        '"""The refusals of edits."""', "",
-        *_dictionary("EDITS", "dict[int, str]", _sentences(rules, "edit"), "A sentence for each refusal of an edit."),
-        *_dictionary("OBJECTS", "dict[int, str]", _sentences(rules, "object"),
-                     "What docs/objects.md says of each number, for where `readobj` cannot be had."),
-        *_dictionary("SCRIPTS", "dict[int, str]", _sentences(rules, "script"),
-                     "What docs/scripts.md says of each number, for where `readscript` cannot be had."),
-        *_set("RESERVED", [row.word for row in rules.reserved], "The words that scripts keep for themselves."),
-        *_set("EXPRESSION_WORDS", [row.word for row in rules.reserved if row.opens_expression],
-              "Those whose parentheses hold an expression between the braces of an output section."),
-        *_set("NAME_FUNCTIONS", [row.word for row in rules.reserved if row.asks],
-              "The functions that have the name of a section or of a region in their parentheses."),
-    ]
-    return "\n".join(lines)
-
-
-# The front end
 
 FRONT_TYPES = '''//! The rules of `ldi` that are tables. `tools/rules` writes this file: do not edit it.
 
@@ -222,10 +156,10 @@ def front(rules: Rules) -> str:
     lines += [f'    FaultForm {{ code: "{code}", rule: FaultRule::{rule}, words: &[{_words(words)}] }},'
               for rule, (code, words) in _forms(rules).items()]
     lines += ["];", ""]
-    for row in rules.refusals["edit"]:
-        name = "_".join(re.findall("[A-Z][a-z]*", row.rule)).upper()
-        lines += [f"/// The refusal of an edit: {rules.words['edit'][row.rule]['meaning']}.",
-                  f"pub const {name}: u32 = {row.number};"]
+    for refusal in rules.refusals["edit"]:
+        name = "_".join(re.findall("[A-Z][a-z]*", refusal.rule)).upper()
+        lines += [f"/// The refusal of an edit: {rules.words['edit'][refusal.rule]['meaning']}.",
+                  f"pub const {name}: u32 = {refusal.number};"]
     lines += ["", *_texts("EDITS", _sentences(rules, "edit"), "A sentence for each refusal of an edit."),
               *_texts("OBJECTS", _sentences(rules, "object"),
                       "What docs/objects.md says of each number, for where `readobj` cannot be had."),
@@ -338,7 +272,6 @@ def heads(rules: Rules) -> Iterator[tuple[str, list[str], list[str]]]:
 
 def files(rules: Rules) -> Iterator[tuple[str, str]]:
     """Each file that is written, and what must stand in it."""
-    yield CLIENT, client(rules)
     yield FRONT, front(rules)
     for path in TABLES:
         yield path, with_tables(path, (ROOT / path).read_text(encoding="utf-8"), rules)

@@ -5,6 +5,7 @@ import sys
 
 from . import edits, elf
 from .answers import answers
+from .deferred import deferred_answers
 from .link import link
 
 REFUSED, DEVICE = 2, 3
@@ -19,6 +20,8 @@ def arguments(words):
         program.add_argument("--gc-sections", action="store_true")
         program.add_argument("-e")
         program.add_argument("--orphan-handling", choices=("error", "discard"), default="error")
+        if name == "session":
+            program.add_argument("--deferred", action="store_true")
         if name == "link":
             program.add_argument("-T", required=True)
             program.add_argument("-o", required=True)
@@ -32,10 +35,10 @@ def name(word):
     return elf.text(word.encode("utf-8", "surrogateescape"))
 
 
-def session(options):
+def session(options, is_deferred):
     """Standard input to standard output."""
     try:
-        return answers(options, sys.stdin.buffer.read(), write)
+        return (deferred_answers if is_deferred else answers)(options, sys.stdin.buffer.read(), write)
     except OSError:
         return DEVICE
 
@@ -142,4 +145,4 @@ def main(words):
     sys.setrecursionlimit(10_000)
     given = arguments(words)
     options = edits.Options(given.gc_sections, None if given.e is None else name(given.e), given.orphan_handling)
-    return session(options) if given.program == "session" else link_files(given, options)
+    return session(options, given.deferred) if given.program == "session" else link_files(given, options)
