@@ -1,24 +1,77 @@
 //! What a link uses of the server: new files beside their places, and reasons for another linker to be kept.
 
 use std::cell::RefCell;
+use std::io;
 use std::path::Path;
+use std::sync::{Arc, Mutex, MutexGuard, PoisonError};
 
 use rustix::fs::Mode;
 
 use crate::once::{Asked, HandedOver, Host, Reasons, Status};
 use crate::place::{Apart, NotWritten};
 
-/// The process of many links of one output, for one of them.
+/// The new files of a call, which the thread that links writes. The other one removes them when the call is done, and
+/// when the server ends, after which none is written any more.
+#[derive(Clone, Debug, Default)]
+pub(super) struct NewFiles(Arc<Mutex<Written>>);
+
 #[derive(Debug, Default)]
+struct Written {
+    places: Vec<Apart>,
+    is_closed: bool,
+}
+
+impl NewFiles {
+    /// Writes one beside its place; gives whether it can be put there, as where that is no regular file it cannot.
+    fn write(&self, path: &Path, pieces: &[&[u8]], mode: Mode) -> io::Result<bool> {
+        let mut written = self.written();
+        if written.is_closed {
+            return Err(io::Error::from(io::ErrorKind::BrokenPipe));
+        }
+        let apart = Apart::write(path, pieces, mode)?;
+        let is_placeable = apart.is_some();
+        written.places.extend(apart);
+        Ok(is_placeable)
+    }
+
+    /// The files that are there now.
+    pub(super) fn places(&self) -> Vec<Apart> {
+        self.written().places.clone()
+    }
+
+    /// Removes new files, or the old ones that were exchanged for them.
+    pub(super) fn remove(&self) {
+        self.written().remove();
+    }
+
+    /// Removes them, and lets no others be written.
+    pub(super) fn close(&self) {
+        let mut written = self.written();
+        written.is_closed = true;
+        written.remove();
+    }
+
+    fn written(&self) -> MutexGuard<'_, Written> {
+        self.0.lock().unwrap_or_else(PoisonError::into_inner)
+    }
+}
+
+impl Written {
+    fn remove(&mut self) {
+        self.places.drain(..).for_each(|apart| apart.remove());
+    }
+}
+
+/// The process of many links of one output, for one of them.
+#[derive(Debug)]
 pub(super) struct ServerHost {
+    files: NewFiles,
     found: RefCell<Found>,
 }
 
-/// What a link left.
+/// What a link left, but for new files.
 #[derive(Debug, Default)]
 pub(super) struct Found {
-    /// The new files.
-    pub(super) places: Vec<Apart>,
     /// Why another linker is to link.
     pub(super) handed_over: Option<HandedOver>,
     /// Why the server cannot make this link.
@@ -26,6 +79,11 @@ pub(super) struct Found {
 }
 
 impl ServerHost {
+    /// A link that writes such files.
+    pub(super) fn new(files: NewFiles) -> ServerHost {
+        ServerHost { files, found: RefCell::default() }
+    }
+
     /// What the link left.
     pub(super) fn found(self) -> Found {
         self.found.into_inner()
@@ -34,12 +92,9 @@ impl ServerHost {
 
 impl Host for ServerHost {
     fn write(&self, path: &Path, pieces: &[&[u8]], mode: Mode) -> Result<(), NotWritten> {
-        let written = Apart::write(path, pieces, mode);
-        let written = written.map_err(|fault| NotWritten { path: path.to_owned(), fault })?;
-        let mut found = self.found.borrow_mut();
-        match written {
-            Some(apart) => found.places.push(apart),
-            None => found.hindrance = Some(format!("{} is no regular file", path.display())),
+        let written = self.files.write(path, pieces, mode);
+        if !written.map_err(|fault| NotWritten { path: path.to_owned(), fault })? {
+            self.found.borrow_mut().hindrance = Some(format!("{} is no regular file", path.display()));
         }
         Ok(())
     }
@@ -55,5 +110,30 @@ impl Host for ServerHost {
 
     fn keeps_session(&self) -> bool {
         true
+    }
+}
+
+#[cfg(test)]
+mod tests {
+    use super::*;
+    use std::fs;
+
+    #[test]
+    fn when_the_server_has_ended_nothing_is_left_and_nothing_is_written() {
+        let folder = std::env::temp_dir().join(format!("ldi-front-host-{}", std::process::id()));
+        fs::create_dir_all(&folder).unwrap();
+        let (files, path) = (NewFiles::default(), folder.join("image"));
+        let count = || fs::read_dir(&folder).unwrap().count();
+        assert!(files.write(&path, &[b"one"], Mode::RUSR).unwrap());
+        assert_eq!((count(), files.places().len()), (1, 1));
+        files.remove();
+        assert_eq!((count(), files.places().len()), (0, 0));
+        assert!(files.write(&path, &[b"two"], Mode::RUSR).unwrap());
+        let by_another_thread = files.clone();
+        files.close();
+        assert_eq!(count(), 0);
+        assert!(by_another_thread.write(&path, &[b"three"], Mode::RUSR).is_err());
+        assert_eq!(count(), 0);
+        fs::remove_dir(&folder).unwrap();
     }
 }

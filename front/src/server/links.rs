@@ -11,12 +11,11 @@ use std::sync::atomic::AtomicU32;
 use std::sync::Arc;
 
 use super::call::{hand_over_message, Answer};
-use super::host::{Found, ServerHost};
+use super::host::{Found, NewFiles, ServerHost};
 use super::wire::{Kind, Message};
 use crate::command::{split_words, Command};
 use crate::mirror::Mirror;
 use crate::once::{make, read_words, run, said, Asked, Done, LinkFault, Planned, Status};
-use crate::place::Apart;
 use crate::plan::{find_program, others, Environment};
 use crate::report::Style;
 use crate::snapshot::{is_by_process, look, Snapshot, Stamp};
@@ -43,15 +42,13 @@ pub(super) struct Wish {
 pub(super) struct Outcome {
     /// What is sent to it.
     pub(super) message: Message,
-    /// The new files.
-    pub(super) places: Vec<Apart>,
     /// Whether a link was made.
     pub(super) is_made: bool,
 }
 
 impl Outcome {
     fn declined(why: impl AsRef<str>) -> Outcome {
-        Outcome { message: Message::of(Kind::Refused).with(why.as_ref()), places: Vec::new(), is_made: false }
+        Outcome { message: Message::of(Kind::Refused).with(why.as_ref()), is_made: false }
     }
 }
 
@@ -72,13 +69,19 @@ pub(super) struct Links {
     mirror: Mirror,
     snapshot: Snapshot,
     kept: Option<Kept>,
+    files: NewFiles,
 }
 
 impl Links {
     /// Nothing was linked yet.
     pub(super) fn new(environment: Environment) -> Links {
         let mirror = Mirror::new(find_program("ldi", &environment), None);
-        Links { environment, mirror, snapshot: Snapshot::shared(), kept: None }
+        Links { environment, mirror, snapshot: Snapshot::shared(), kept: None, files: NewFiles::default() }
+    }
+
+    /// The new files of the link that was made last.
+    pub(super) fn files(&self) -> NewFiles {
+        self.files.clone()
     }
 
     /// The number of the session's process.
@@ -94,7 +97,7 @@ impl Links {
         }
         let mut has_ended = false;
         for _ in 0..TRIES {
-            let host = ServerHost::default();
+            let host = ServerHost::new(self.files());
             let (done, texts) = streams::keep(wish.style, || {
                 let done = self.once(wish, &host);
                 let is_first_end = matches!(done, Err(LinkFault::Session { .. })) && !has_ended;
@@ -105,13 +108,13 @@ impl Links {
                 Some(done) => self.outcome(done, found, texts, wish),
                 None => {
                     has_ended = true; // a session that has ended is started again once
-                    remove(&found.places);
                     None
                 }
             };
             if let Some(outcome) = outcome {
                 return outcome;
             }
+            self.files.remove();
         }
         Outcome::declined("inputs change all the time")
     }
@@ -124,15 +127,14 @@ impl Links {
         if is_same && hindrance.is_none() {
             if let Some(handed_over) = &found.handed_over {
                 let message = hand_over_message(&texts, handed_over);
-                return Some(Outcome { message, places: Vec::new(), is_made: false });
+                return Some(Outcome { message, is_made: false });
             }
         }
         self.keep(planned, wish);
         if is_same && hindrance.is_none() {
-            let answer = Answer { status: status as u8, places: found.places, texts };
-            return Some(Outcome { message: answer.message(), places: answer.places, is_made: true });
+            let answer = Answer { status: status as u8, places: self.files.places(), texts };
+            return Some(Outcome { message: answer.message(), is_made: true });
         }
-        remove(&found.places);
         hindrance.map(Outcome::declined)
     }
 
@@ -234,11 +236,6 @@ impl Links {
     }
 }
 
-/// Removes new files, or the old ones that were exchanged for them.
-pub(super) fn remove(places: &[Apart]) {
-    places.iter().for_each(Apart::remove);
-}
-
 /// Whether some words are those of response files.
 fn has_files(words: &[OsString]) -> bool {
     words.iter().any(|word| word.as_bytes().starts_with(b"@"))
@@ -331,7 +328,7 @@ done
             fs::write(&log, "").unwrap();
             let outcome = self.links.make(&self.wish);
             assert!(outcome.is_made, "{:?}", outcome.message);
-            assert_eq!((outcome.message.kind, outcome.places.len()), (Kind::Done, 0));
+            assert_eq!((outcome.message.kind, self.links.files.places().len()), (Kind::Done, 0));
             assert_eq!(Reader::of(outcome.message).number(), Some(Status::Faults as u8));
             fs::read_to_string(log).unwrap().lines().map(str::to_owned).collect()
         }

@@ -19,12 +19,13 @@ use rustix::io::{poll, PollFd, PollFlags};
 use signal_hook::consts::{SIGHUP, SIGINT, SIGTERM};
 
 use super::call::{is_own, seconds_of};
+use super::host::NewFiles;
 use super::key::{output_of, program_marks, real_path, sockets, standing, value_of};
-use super::links::{remove, Links, Outcome, Wish};
+use super::links::{Links, Outcome, Wish};
 use super::status::{ask, State};
 use super::usage::{memory_limit, resident, work_of};
 use super::wire::{Kind, Message, Reader};
-use crate::place::{remove_left, Apart};
+use crate::place::remove_left;
 use crate::plan::Environment;
 use crate::report::Style;
 use crate::snapshot::{look, FileId, Stamp};
@@ -83,11 +84,20 @@ fn detached() -> io::Result<UnixListener> {
 /// A call that is being served.
 struct Job {
     connection: UnixStream,
-    /// The new files, and until when they have to be in place.
-    placing: Option<(Vec<Apart>, Instant)>,
+    /// Until when its new files have to be in place.
+    placing: Option<Instant>,
     /// What was done for it when that was last another number, and when.
     work: Vec<String>,
     worked: Instant,
+    /// When the server last looked for that.
+    looked: Instant,
+}
+
+impl Job {
+    fn new(connection: UnixStream) -> Job {
+        let now = Instant::now();
+        Job { connection, placing: None, work: Vec::new(), worked: now, looked: now }
+    }
 }
 
 /// A server, from its start to its end.
@@ -100,6 +110,7 @@ struct Server {
     signals: UnixStream,
     wishes: Sender<Wish>,
     outcomes: Receiver<Outcome>,
+    files: NewFiles,
     session: Arc<AtomicU32>,
     environment: Environment,
     /// The key of its calls, and the output.
@@ -126,7 +137,7 @@ impl Server {
         let (wishes, wished) = channel();
         let (made, outcomes) = channel();
         let links = Links::new(environment.clone());
-        let session = links.session();
+        let (session, files) = (links.session(), links.files());
         let work = move || links_of(links, &wished, &made, &waker);
         std::thread::Builder::new().stack_size(STACK).spawn(work)?;
         Ok(Server {
@@ -137,6 +148,7 @@ impl Server {
             signals,
             wishes,
             outcomes,
+            files,
             session,
             programs: program_marks(&environment),
             environment,
@@ -247,7 +259,7 @@ impl Server {
         }
         let style = if is_coloured == 0 { Style::Line } else { Style::Coloured };
         Message::of(Kind::Working).send(&connection)?;
-        self.job = Some(Job { connection, placing: None, work: Vec::new(), worked: Instant::now() });
+        self.job = Some(Job::new(connection));
         self.wishes.send(Wish { words, mask, style }).map_err(|_| io::ErrorKind::BrokenPipe.into())
     }
 
@@ -269,8 +281,8 @@ impl Server {
             Some(job) => job,
             None => return,
         };
-        if let Some((_, until)) = &job.placing {
-            if is_ready || now > *until {
+        if let Some(until) = job.placing {
+            if is_ready || now > until {
                 self.finish();
             }
             return;
@@ -296,7 +308,7 @@ impl Server {
         if let Some(job) = &mut self.job {
             let is_sent = outcome.message.send(&job.connection).is_ok();
             let is_placed = outcome.is_made && is_sent;
-            job.placing = Some((outcome.places, Instant::now() + LONGEST_PLACING));
+            job.placing = Some(Instant::now() + LONGEST_PLACING);
             if !is_placed {
                 self.finish();
             }
@@ -304,9 +316,8 @@ impl Server {
     }
 
     fn finish(&mut self) {
-        if let Some((places, _)) = self.job.take().and_then(|job| job.placing) {
-            remove(&places);
-        }
+        self.job = None;
+        self.files.remove();
         self.last_call = Instant::now();
         let limit = memory_limit(&value_of(&self.environment, "LDI_SERVER_MEMORY"));
         if self.made > 1 && self.memory() > limit {
@@ -369,9 +380,7 @@ impl Server {
     /// Leaves nothing behind.
     fn end(&mut self) {
         self.remove_socket();
-        if let Some((places, _)) = self.job.take().and_then(|job| job.placing) {
-            remove(&places);
-        }
+        self.files.close();
         let session = self.session.load(Ordering::SeqCst);
         if let Some(session) = i32::try_from(session).ok().filter(|number| *number > 0) {
             // One that is stopped does not see the end of its input.
@@ -391,10 +400,12 @@ fn links_of(mut links: Links, wished: &Receiver<Wish>, made: &Sender<Outcome>, m
     }
 }
 
-/// Whether nothing has worked on a link for long, as where its session was stopped.
+/// Whether nothing has worked on a link for long, as where its session was stopped. The time in which the server itself
+/// was stopped does not count.
 fn rests(job: &mut Job, session: u32, now: Instant) -> bool {
     let work = work_of(session);
-    if work != job.work {
+    let was_stopped = now.duration_since(std::mem::replace(&mut job.looked, now)) > PERIOD;
+    if was_stopped || work != job.work {
         job.work = work;
         job.worked = now;
     }
@@ -505,8 +516,7 @@ mod tests {
     fn a_second_call_is_told_that_it_is_busy() {
         let mut asked = Asked::new("busy");
         let (here, _there) = UnixStream::pair().unwrap();
-        let worked = Instant::now();
-        asked.server.job = Some(Job { connection: here, placing: None, work: Vec::new(), worked });
+        asked.server.job = Some(Job::new(here));
         let stream = asked.wish("key");
         assert_eq!(Message::receive(&stream).unwrap().kind, Kind::Refused);
         assert!(asked.server.job.is_some());
@@ -547,10 +557,19 @@ mod tests {
     fn a_link_goes_on_as_long_as_something_works_on_it() {
         let (here, _there) = UnixStream::pair().unwrap();
         let now = Instant::now();
-        let mut job = Job { connection: here, placing: None, work: vec!["of before".into()], worked: now };
         let later = now + LONGEST_REST + Duration::from_millis(1);
+        let mut job = Job { work: vec!["of before".into()], worked: now, looked: later, ..Job::new(here) };
         assert!(!rests(&mut job, 0, later));
         assert_eq!(job.worked, later);
         assert_ne!(job.work, ["of before"]);
+    }
+
+    #[test]
+    fn a_server_that_was_stopped_lets_its_link_go_on() {
+        let (here, _there) = UnixStream::pair().unwrap();
+        let mut job = Job::new(here);
+        let later = job.looked + 2 * LONGEST_REST;
+        assert!(!rests(&mut job, 0, later));
+        assert_eq!((job.worked, job.looked), (later, later));
     }
 }
