@@ -82,11 +82,9 @@ class HandedOverTest(OutsideTest):
         self.hands_over("-T", "t.ld", "a.o", "c.o", why=".table")
 
     def test_names(self) -> None:
-        """A name of the script and of an object; two strong definitions where GNU ld is to let them pass."""
+        """Two strong definitions where GNU ld is to let them pass."""
         self.compile("b.s", ".globl other\n.data\nother: .long 1\n")
         self.compile("c.s", ".globl other\n.data\nother: .long 2\n")
-        self.write("name.ld", PLAIN.replace(".bss :", "other = .; .bss :"))
-        self.hands_over("-T", "name.ld", "a.o", "b.o", why="other")
         for words in (("-z", "muldefs"), ("--allow-multiple-definition",)):
             self.hands_over(*words, "-T", "t.ld", "a.o", "b.o", "c.o", why="other")
         self.compile("d.s", ".globl _start\n_start: call nowhere\n")

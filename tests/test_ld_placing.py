@@ -141,6 +141,23 @@ class PlacingTest(OutsideTest):
         self.assertEqual(done.returncode, 2)
         self.assertIn("-R t.ld", done.stderr)
 
+    def test_names_of_the_script_and_of_objects(self) -> None:
+        """The script's value counts, in the object of the name too: of -R, strong, weak, common, with --gc-sections and
+        by the default script."""
+        self.compile("image.s", SYMBOLS + ".globl __bss_start, _edata, _end\n__bss_start: _edata: _end: .long 1\n")
+        self.write("image.ld", IMAGE)
+        self.must("ld.bfd", "-T", "image.ld", "image.o", "-o", "image")
+        self.compile("uses.s", ".globl _start, own\n_start: call entry\n mov $counter, %eax\n mov $_end, %ecx\n mov own, %edx\n"
+                               ".weak _end\n.data\nown: .quad own, counter, block\n.comm block, 8, 8\n.quad soft\n")
+        self.both("-R", "image", "uses.o")
+        self.write("names.ld", SCRIPT.replace(".bss :", "counter = .; own = . + 8; .bss :").replace(
+            ".rodata", "soft = .; block = 0x1234; early = own; PROVIDE(mark = 3); .rodata", 1))
+        self.compile("before.s", SYMBOLS)
+        for words in (("-R", "image"), ("before.o",)):
+            for more in ((), ("--gc-sections",), ("--defsym=own=0x10",)):
+                self.both(*words, *more, "-T", "names.ld", "uses.o")
+                self.assertEqual(self.code("own"), self.code("gnu"), words)
+
     def test_just_symbols_with_a_server(self) -> None:
         """An image whose symbols move."""
         self.write("image.ld", IMAGE)

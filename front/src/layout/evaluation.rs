@@ -347,6 +347,8 @@ pub struct Symbol {
     pub definer: Definer,
     /// Its value at the end; `None` where it is undefined.
     pub value: Option<Value>,
+    /// Whether the script gives a value to what an object defines.
+    pub is_overridden: bool,
     /// Whether it is weak.
     pub is_weak: bool,
     /// Whether an object has it undefined, or defines it.

@@ -112,6 +112,7 @@ impl Link<'_> {
             name: symbol.name.clone(),
             definer,
             value: self.symbol_value(symbol),
+            is_overridden: symbol.by_object && matches!(definer, Definer::Script(_)),
             is_weak: symbol.kind == super::symbols::SymbolKind::DefinedWeak,
             is_in_objects: symbol.is_in_objects,
             is_hidden: symbol.is_hidden,

@@ -14,6 +14,7 @@ mod frame_table;
 mod loaded;
 mod merged;
 mod notes;
+mod overridden;
 mod programs;
 mod references;
 mod scripts;
@@ -334,7 +335,8 @@ fn changed_of(
     residual: &Residual,
 ) -> Option<Vec<Held>> {
     let has_commons = inputs.objects().iter().any(|object| object.has_commons());
-    let is_as_read = made_loaded.is_empty() && !has_commons && residual.aliases.is_empty();
+    let overridden = overridden::names(evaluation);
+    let is_as_read = made_loaded.is_empty() && !has_commons && residual.aliases.is_empty() && overridden.is_empty();
     if is_as_read && evaluation.merges.is_empty() {
         return None;
     }
@@ -343,6 +345,7 @@ fn changed_of(
         commons::with_places(&mut held, inputs.objects(), evaluation);
     }
     aliases::with_names(&mut held, evaluation, &residual.aliases);
+    overridden::undefine(&mut held, inputs.objects(), &overridden);
     Some(held)
 }
 
