@@ -41,7 +41,7 @@ def noted(ldi, folder, words):
         subprocess.run(command, cwd=folder, env={**os.environ, "LDI": program}, check=True, stderr=subprocess.PIPE)
         last = max(glob.glob(os.path.join(room, "*.commands")), key=os.path.getmtime)
         with open(last.replace(".commands", ".words"), encoding="utf-8") as file:
-            options = file.read().split()
+            options = [word for word in file.read().split() if word != "--deferred"]
         with open(last, "rb") as file:
             return options, list(edits_in(file))
 
@@ -51,7 +51,7 @@ def edits_in(stream):
     while line := stream.readline():
         words = line.decode().split()
         payload = stream.read(int(words[-1])) if words[0] in ("add", "replace", "script") else b""
-        if words[0] not in ("image", "map", "faults"):
+        if words[0] not in ("image", "map", "faults", "link", "changes"):
             yield line.decode().rstrip("\n"), payload
 
 

@@ -4,13 +4,15 @@ import fcntl
 import subprocess
 import threading
 import time
-from dataclasses import dataclass
+from dataclasses import dataclass, field
 
 from calculator.projects import (
     CALL, FUNCTION, LONGER, SCRIPT, SECTION, VALUE, project_object)
 
 LONGEST = 300.0
 PIPE_BYTES = 1 << 20
+SEVERAL = 24
+"""The number of objects that are replaced at once."""
 
 
 class Session:
@@ -27,8 +29,14 @@ class Session:
         self.process.stdin.write(line.encode() + b"\n" + payload)
         self.process.stdin.flush()
         answer = self.answer()
-        data = self.process.stdout.read(int(answer[1])) if answer[0] == "bytes" else b""
-        return answer, data, time.perf_counter() - start
+        return answer, self.rest_of(answer), time.perf_counter() - start
+
+    def rest_of(self, answer):
+        """The bytes after the line of an answer: of an image or a text, or of the ranges of `changes`."""
+        if answer[0] == "changes":
+            ranges = [self.answer() for _ in range(int(answer[2]))]
+            return self.process.stdout.read(sum(int(count) for _, count in ranges))
+        return self.process.stdout.read(int(answer[1])) if answer[0] == "bytes" else b""
 
     def write(self, commands):
         """Sends commands whose answers are read meanwhile, each by `answer`; ends where the session does."""
@@ -47,6 +55,11 @@ class Session:
         """The peak memory in bytes."""
         with open(f"/proc/{self.process.pid}/status") as lines:
             return next(int(line.split()[1]) * 1024 for line in lines if line.startswith("VmHWM"))
+
+    def processor(self):
+        """The seconds of the processor so far."""
+        with open(f"/proc/{self.process.pid}/schedstat", encoding="ascii") as numbers:
+            return int(numbers.read().split()[0]) / 1e9
 
     def end(self):
         self.process.stdin.close()
@@ -76,6 +89,8 @@ class Project:
     """The folder and the words of the link by other linkers, where that is not one of these objects and this script."""
     front: int = 0
     """The first place to which an object is moved."""
+    several: dict = field(default_factory=dict)
+    """Objects that come in the place of others at once, each with a longer function."""
 
     @property
     def size(self):
@@ -112,9 +127,11 @@ def made_project(count):
         "a function more": project_object(middle, count, other=FUNCTION),
         "a section more": project_object(middle, count, other=SECTION),
     }
+    several = {f"o{number}.o": project_object(number, count, other=LONGER)
+               for number in range(0, count, max(count // SEVERAL, 1))[:SEVERAL]}
     return Project(f"{count} objects", SCRIPT, {f"o{number}.o": data for number, data in enumerate(objects)},
                    f"o{middle}.o", variants, project_object(count, count), SCRIPT.replace(b"0x401000", b"0x403000"),
-                   opening(objects, True, True))
+                   opening(objects, True, True), several=several)
 
 
 @dataclass(frozen=True)
@@ -135,7 +152,7 @@ def send(session, commands):
     writer.start()
     for _ in commands:
         answer = session.answer()
-        assert answer[:1] == ["linked"], answer
+        assert answer[:1] in (["linked"], ["accepted"]), answer
         answered += 1
         before, now = now, time.perf_counter()
         last = now - before
@@ -179,3 +196,35 @@ def edits_of(project):
     yield "add again", f"add {name} {middle} {len(before)}", before
     for query in ("image", "map", "faults"):
         yield query, query, b""
+
+
+def deferred_opening(project):
+    """The commands that open a project in a deferred session, with one link."""
+    edits = [edit for edit in project.opening if edit[0] not in ("link", "changes")]
+    return [*edits, ("link", b"")]
+
+
+def deferred_edits(project):
+    """The title and the edits of each link of a deferred session, most of them made back by the next one."""
+    name = project.edited
+    longer = next(data for what, data in project.variants.items() if "longer" in what)
+    bytes_alone = next(iter(project.variants.values()))
+
+    def replace(objects):
+        return [(f"replace {name} {len(data)}", data) for name, data in objects.items()]
+
+    def script(text):
+        return [(f"script {len(text)}", text)]
+
+    before = {name: project.objects[name]}
+    yield "other bytes", replace({name: bytes_alone})
+    yield "back: other bytes", replace(before)
+    yield "a longer function", replace({name: longer})
+    yield "back: a longer function", replace(before)
+    if project.several:
+        yield f"{len(project.several)} objects, a longer function each", replace(project.several)
+        yield "back: these", replace({name: project.objects[name] for name in project.several})
+    yield "script of another address", script(project.other_script)
+    yield "script of the first address", script(project.script)
+    yield "script of another address, object", [*script(project.other_script), *replace({name: longer})]
+    yield "back: both", [*script(project.script), *replace(before)]
