@@ -116,6 +116,15 @@ class CollectingTest(BesideGnu):
         self.write("t.ld", SCRIPT.replace("ENTRY(_start)", "").format(before="", inside="", after=""))
         self.collects("plain.o", "other.o")
 
+    def test_groups_that_are_left_out(self) -> None:
+        """KEEP of a section that is left out with its group: what that refers to is kept all the same."""
+        text = '.globl {0}\n{0}: ret\n.section .text.of_{0},"ax"\nof_{0}: .byte 5, 6\n' \
+               '.section .data.once,"awG",@progbits,once,comdat\n.weak once\nonce: .quad of_{0}\n'
+        names = [self.compile(f"{name}.s", text.format(name)) for name in ("_start", "other", "third")]
+        for kept in ("KEEP(*(.data.once))", "KEEP(third.o(.data.*)) *(.data.once)", "*(.data.once)"):
+            self.write("t.ld", "ENTRY(_start) SECTIONS { . = 0x1000; .text : { *(.text .text.*) } .data : { %s } }" % kept)
+            self.collects(*names)
+
     def test_bounds(self) -> None:
         """`__start_NAME` keeps the sections NAME, but where the script assigns it, or by -z start-stop-gc."""
         for before, inside in (("", ""), ("__start_cmds = 4; __stop_cmds = 5;", ""),

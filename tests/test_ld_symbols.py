@@ -152,6 +152,38 @@ class OptionTest(SymbolTest):
             with self.subTest(word):
                 self.same("--gc-sections", *word, "-T", "t.ld", *objects)
 
+    def test_types_of_what_is_left_out(self) -> None:
+        """`--gc-sections`: a symbol has the type of the name that it is assigned, which is left out."""
+        self.write("t.ld", "SECTIONS { alias = block; . = 0x1000; .text : { *(.text) } alias = .; }")
+        name = self.compile("a.s", ".globl start\nstart: nop\n.comm block, 8, 8\n.type f, @function\n"
+                            ".section .text.f\n.globl f\nf: nop\n.section .note.GNU-stack\n")
+        table = self.same("--gc-sections", "-e", "start", "-T", "t.ld", name)
+        self.assertEqual([entry.kind for entry in table.entries if entry.name == "alias"] if table else [], ["OBJECT"])
+
+    def test_sections_that_are_not_made(self) -> None:
+        """ONLY_IF_RO that is not met: what counts from such a section is undefined, and there if it is strong."""
+        self.write("t.ld", "SECTIONS { .text : { *(.text) } .not : ONLY_IF_RO { *(.data) inside = 4; inside_used = 5; }"
+                           " outside = inside; HIDDEN(hidden = inside); weak = inside; .data : { *(.data) } }")
+        name = self.compile("a.s", ".globl start\nstart: nop\n.weak weak\n.data\n.quad weak, inside_used\n"
+                            ".section .note.GNU-stack\n")
+        for words in ((), ("--emit-relocs",)):
+            with self.subTest(words):
+                self.same("-e", "start", *words, "-T", "t.ld", name)
+
+    def test_zeros_that_are_not_loaded(self) -> None:
+        """A section without bytes in one of type INFO."""
+        self.write("t.ld", "SECTIONS { . = 0x1000; .info (INFO) : { *(.bss) } .text : { *(.text) } last = .; }")
+        self.same("-T", "t.ld", self.compile("a.s", ".globl start\nstart: nop\n.bss\n.skip 12\n.globl zeros\nzeros: "
+                                             ".skip 8\n.section .note.GNU-stack\n"))
+
+    def test_files_that_statements_name(self) -> None:
+        """A file that a statement names is read there: a PROVIDE after it counts for what it asks for."""
+        self.write("t.ld", "SECTIONS { . = 0x1000; PROVIDE(asked = 1); .first : { b.o(.text) }"
+                           " PROVIDE(asked = ADDR(.first)); .text : { *(.text) } }")
+        objects = [self.compile("a.s", ".globl start\nstart: nop\n.section .note.GNU-stack\n"),
+                   self.compile("b.s", ".text\n.quad asked\n.section .note.GNU-stack\n")]
+        self.same("-e", "start", "-T", "t.ld", *objects)
+
     def test_script_after_objects(self) -> None:
         """The order of names where the objects are read before the script."""
         self.same(*self.objects(), "-T", "t.ld")

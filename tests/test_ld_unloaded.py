@@ -8,6 +8,7 @@ from typing import NamedTuple
 
 from tests.images import ALLOC, NOBITS
 from tests.programs import LD_LDI, OutsideTest, needs
+from tests.symbol_table import read_table
 from tests.test_watch_commands import FolderTest
 from tests.watching import PATIENCE, Watching, wait_until
 
@@ -167,6 +168,19 @@ class UnloadedTest(OutsideTest):
             found = {one.name for one in self.same("-T", "own.ld", *words)}
             self.assertLessEqual({".comment", ".own", ".strings", ".refers"}, found)
         self.assertIn(".info", found)
+
+    def test_what_follows(self) -> None:
+        """`.`, SIZEOF and names go by strings that are merged, in `.comment` and in a section of type INFO."""
+        text = """ .globl NAME\nNAME: ret\n .section .comment,"MS",@progbits,1\n .string "one"\n .string "NAME"
+ .section .rodata.str1.1,"aMS",@progbits,1\n .globl text_NAME\n .string "both"\ntext_NAME: .string "a NAME"
+ .section .rodata.cst8,"aM",@progbits,8\n .quad 7\n .section .own,"",@progbits\n .quad text_NAME, .rodata.str1.1 + 1\n"""
+        names = [self.compile(f"{name}.s", text.replace("NAME", name)) for name in ("_start", "start", "other")]
+        sections = ".comment : { *(.comment) }", ".info (INFO) : { *(.rodata*) }", ".info (INFO) : { *(.rodata*) BYTE(1) }"
+        for section in sections:
+            self.write("own.ld", f"SECTIONS {{ . = 0x1000; .text : {{ *(.text) }} {section} .data : {{ LONG(1) }} last = .; "
+                       "size = SIZEOF(.comment); .comment 0 : { *(.comment) } .own 0 : { *(.own) } }")
+            self.same("-T", "own.ld", *names)
+            self.assertEqual(read_table(self.read("own")), read_table(self.read("gnu")))
 
     def test_loaded_strings(self) -> None:
         """References to strings that are loaded and merged, by sections and by symbols."""

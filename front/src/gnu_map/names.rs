@@ -48,7 +48,7 @@ fn place_of(request: &Request<'_>, known: &LinkNames, name: &BString) -> Option<
         Home::Section(number) => number,
         _ => return None,
     };
-    match evaluation.merges.place(definition.object, number, definition.value) {
+    match evaluation.merged_place(definition.object, number, definition.value) {
         Some((source, at)) => Some((section_of(evaluation, source.object, source.section)?, at)),
         None => Some((section_of(evaluation, definition.object, number)?, definition.value)),
     }

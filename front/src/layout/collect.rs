@@ -7,13 +7,17 @@
 use super::evaluation::{Base, InputSection, Origin};
 use super::flags::Flags;
 use super::ids::{NameId, SectionId};
+use super::left_out::is_left_out;
 use super::link::Link;
 use super::names::QuickMap;
 use super::rows::Rows;
 use super::settings::GcSettings;
 use super::symbols::{SymbolKind, SymbolState};
 use super::unwinding::{unwinding_of, Unwinding};
-use crate::objects::{Binding, Home, Object, ObjectIndex, Rank, SectionFlags, SectionIndex, SectionKind, SymbolIndex};
+use crate::objects::{
+    Binding, Home, Object, ObjectIndex, Rank, Section, SectionFlags, SectionIndex, SectionKind, SymbolIndex,
+};
+use crate::quick::QuickSet;
 use crate::script::tree::Name;
 use object::elf;
 use std::collections::HashSet;
@@ -25,8 +29,9 @@ impl Link<'_> {
             None => return,
             Some(settings) => settings,
         };
+        let left_out = self.kept_of_left_out(objects);
         let mut marked = Marked::new(self, objects, rows, settings);
-        marked.mark_roots();
+        marked.mark_roots(&left_out);
         marked.mark_others();
         let is_marked = marked.is_marked;
         for (section, is_marked) in self.sections.iter_mut().zip(is_marked) {
@@ -55,6 +60,9 @@ struct Marked<'a> {
     is_marked: Vec<bool>,
     /// Those whose references were not followed yet.
     waiting: Vec<SectionId>,
+    /// The sections that are reached and are left out with their groups, and those of them that were not followed yet.
+    left_out: QuickSet<(ObjectIndex, SectionIndex)>,
+    waiting_left_out: Vec<(ObjectIndex, SectionIndex)>,
     /// By name: what it leads to.
     names: QuickMap<&'a [u8], Target>,
     /// By object: what its entries of `.eh_frame` refer to, once it was asked for.
@@ -72,6 +80,8 @@ impl<'a> Marked<'a> {
             settings,
             is_marked: vec![false; link.sections.len()],
             waiting: Vec::new(),
+            left_out: QuickSet::default(),
+            waiting_left_out: Vec::new(),
             names: names_of(link, objects, rows, settings),
             unwinding,
         }
@@ -79,7 +89,8 @@ impl<'a> Marked<'a> {
 
     // --- roots ---
 
-    fn mark_roots(&mut self) {
+    /// Marks the roots, of which some are left out with their groups.
+    fn mark_roots(&mut self, left_out: &[(ObjectIndex, SectionIndex)]) {
         self.mark_wanted();
         if self.settings.keeps_exported {
             self.mark_exported();
@@ -95,6 +106,7 @@ impl<'a> Marked<'a> {
                 self.mark_number(ObjectIndex(number as u32), *section);
             }
         }
+        left_out.iter().for_each(|(object, number)| self.mark_number(*object, *number));
         self.follow();
     }
 
@@ -146,11 +158,29 @@ impl<'a> Marked<'a> {
 
     fn mark_number(&mut self, object: ObjectIndex, number: SectionIndex) {
         if let Some(id) = self.rows.find(object, number) {
-            self.mark(id);
+            return self.mark(id);
+        }
+        let section = self.objects.get(object.0 as usize).and_then(|object| object.section(number));
+        if section.as_ref().map_or(false, is_left_out) && self.left_out.insert((object, number)) {
+            self.waiting_left_out.push((object, number));
         }
     }
 
     fn follow(&mut self) {
+        loop {
+            self.follow_linked();
+            let (index, number) = match self.waiting_left_out.pop() {
+                Some(next) => next,
+                None => return,
+            };
+            if let Some(object) = self.objects.get(index.0 as usize) {
+                object.relocations_left_out(number).for_each(|one| self.mark_symbol(index, object, one.symbol));
+                self.mark_group_of(index, object, number, SectionKind::NULL);
+            }
+        }
+    }
+
+    fn follow_linked(&mut self) {
         while let Some(id) = self.waiting.pop() {
             let (index, number) = match self.link.section(id).map(|section| (section.object, section.origin)) {
                 Some((index, Origin::Header(number))) => (index, number),
@@ -207,10 +237,16 @@ impl<'a> Marked<'a> {
     /// The other sections of a section's group.
     fn mark_group(&mut self, index: ObjectIndex, object: &Object, number: SectionIndex) {
         let is_in_group = object.section(number).map_or(false, |section| section.flags.has(SectionFlags::GROUP));
-        if !is_in_group {
-            return;
+        if is_in_group {
+            self.mark_group_of(index, object, number, SectionKind::GROUP);
         }
-        for group in object.sections().filter(|section| section.kind == SectionKind::GROUP) {
+    }
+
+    /// The same by the groups of a type: that of a group that is left out is none.
+    fn mark_group_of(&mut self, index: ObjectIndex, object: &Object, number: SectionIndex, kind: SectionKind) {
+        let is_group =
+            |section: &Section<'_>| section.kind == kind && (kind == SectionKind::GROUP || section.name == ".group");
+        for group in object.sections().filter(is_group) {
             let words = object.contents(group.index).chunks_exact(4).skip(1);
             let members: Vec<SectionIndex> = words
                 .filter_map(|word| word.try_into().ok())
@@ -242,6 +278,11 @@ impl<'a> Marked<'a> {
                 let counts = section.flags.has(Flags::ALLOC) && section.kind != elf::SHT_NOTE;
                 *has_kept |= *is_marked && counts && !section.flags.has(Flags::CREATED);
             }
+        }
+        for (object, number) in &self.left_out {
+            let section = self.objects.get(object.0 as usize).and_then(|object| object.section(*number));
+            let counts = section.map_or(false, |section| section.flags.has(SectionFlags::ALLOC));
+            has_kept.get_mut(object.0 as usize).into_iter().for_each(|has_kept| *has_kept |= counts);
         }
         for (number, section) in self.link.sections.iter().enumerate() {
             let is_special = section.flags.has(Flags::DEBUGGING) || self.is_plain(section);

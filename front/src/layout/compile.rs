@@ -466,15 +466,18 @@ fn constant(program: &Program, id: ExprId) -> Option<u64> {
 pub(crate) fn files_of(program: &Program) -> Vec<(Name, Span)> {
     let mut found: Vec<(Name, Span)> = Vec::new();
     for taking in &program.takings {
-        if let Some(file) = &taking.node.file {
-            let glob = &file.node.glob;
-            if !super::glob::has_wildcard(glob)
-                && glob.find_byte(b':').is_none()
-                && !found.iter().any(|(name, _)| name == glob)
-            {
-                found.push((glob.clone(), file.span));
+        if let (Some(name), Some(file)) = (file_of(taking), &taking.node.file) {
+            if !found.iter().any(|(known, _)| known == name) {
+                found.push((name.clone(), file.span));
             }
         }
     }
     found
+}
+
+/// The file that an input statement names without a wildcard.
+pub(crate) fn file_of(taking: &Taking) -> Option<&Name> {
+    let glob = &taking.node.file.as_ref()?.node.glob;
+    let is_plain = !super::glob::has_wildcard(glob) && glob.find_byte(b':').is_none();
+    is_plain.then_some(glob)
 }

@@ -4,7 +4,7 @@ use super::flags::Flags;
 use super::ids::{NameId, OutputId, RegionId, SectionId, StatementId, SymbolId};
 use super::merging::Merges;
 use super::names::{Names, QuickMap};
-use crate::objects::{ObjectIndex, SectionIndex};
+use crate::objects::{MergeSource, ObjectIndex, SectionIndex};
 use crate::script::tree::{Name, Span};
 use bstr::{BStr, ByteSlice};
 use std::sync::Arc;
@@ -68,16 +68,18 @@ pub struct Evaluation {
     pub relro: Option<(u64, u64)>,
     /// The input sections that no statement takes and that are not empty, in the order in which they were placed.
     pub orphans: Vec<SectionId>,
-    /// What is merged.
+    /// What is merged of sections that are loaded.
     pub merges: Arc<Merges>,
+    /// What is merged of sections that are not loaded, as far as anything goes by their sizes and places.
+    pub merges_beside: Arc<Merges>,
     /// The values that expressions had last, by their spans.
     pub values: QuickMap<Span, Value>,
     /// The statement of a span.
     pub by_span: QuickMap<Span, StatementId>,
     /// The symbol of a name.
     pub by_name: QuickMap<Name, SymbolId>,
-    /// The names that something has named before the objects were read, in that order, and those after.
-    pub named: (Vec<Name>, Vec<Name>),
+    /// The names that something has named, in that order, each with the number of objects that were read before.
+    pub named: Vec<(usize, Name)>,
 }
 
 /// Where the headers of the file are in memory (elf.c, `_bfd_elf_map_sections_to_segments`).
@@ -359,6 +361,9 @@ pub struct Symbol {
     pub section: Option<OutputId>,
     /// Whether the script hides it, by which it is local in the image.
     pub is_local: bool,
+    /// Whether an assignment of it stands in an output section that counts, or outside of all: GNU ld's table of symbols has
+    /// it then, even where it is undefined.
+    pub is_recorded: bool,
     /// The symbols that its assignments name alone: it takes the type of the last one, and the visibilities of all (elflink.c,
     /// `_bfd_elf_copy_link_hash_symbol_type`).
     pub likes: Vec<SymbolId>,
@@ -401,6 +406,12 @@ impl Evaluation {
     /// A symbol that script, command line or GNU ld itself speak of, by its name.
     pub fn symbol(&self, name: &[u8]) -> Option<&Symbol> {
         self.by_name.get(name.as_bstr()).and_then(|id| self.symbols.get(id.index()))
+    }
+
+    /// Where what was at a place of a section of an object is, if the section is merged.
+    pub fn merged_place(&self, object: ObjectIndex, section: SectionIndex, offset: u64) -> Option<(MergeSource, u64)> {
+        let beside = || self.merges_beside.place(object, section, offset);
+        self.merges.place(object, section, offset).or_else(beside)
     }
 
     /// The name of an input section.

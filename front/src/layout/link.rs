@@ -51,8 +51,9 @@ pub(crate) struct Link<'a> {
     pub relro: bool,
     /// The sections with SHF_LINK_ORDER, and those that they belong to.
     pub linked: QuickMap<SectionId, SectionId>,
-    /// What is merged.
+    /// What is merged, and what is of sections that are not loaded.
     pub merges: Arc<Merges>,
+    pub merges_beside: Arc<Merges>,
 }
 
 impl<'a> Link<'a> {
@@ -81,6 +82,7 @@ impl<'a> Link<'a> {
             relro: settings.relro,
             linked: QuickMap::default(),
             merges: Arc::default(),
+            merges_beside: Arc::default(),
         }
     }
 

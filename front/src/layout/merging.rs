@@ -5,7 +5,10 @@ use super::evaluation::InputSection;
 use super::flags::Flags;
 use super::ids::{OutputId, SectionId};
 use super::link::Link;
-use crate::objects::{MergeKind, MergeSource, Merged, Object, ObjectIndex, OwnMerged, SectionIndex, SectionKind};
+use crate::objects::{
+    MergeKind, MergeSource, Merged, MergedPart, Object, ObjectIndex, OwnMerged, Section, SectionFlags, SectionIndex,
+    SectionKind,
+};
 use crate::quick::QuickMap;
 use crate::snapshot::Bytes;
 use std::sync::Arc;
@@ -45,8 +48,13 @@ impl Merges {
 
     /// The bytes that a section of an object has now; `None` where it is not merged.
     pub fn size(&self, object: ObjectIndex, section: SectionIndex) -> Option<u64> {
-        let own = self.own(object, section)?;
-        own.merged.parts().get(own.part as usize).map(|part| part.contents.len() as u64)
+        self.part(object, section).map(|part| part.contents.len() as u64)
+    }
+
+    /// What a section of an object comes to; `None` where it is not merged.
+    pub fn part(&self, object: ObjectIndex, section: SectionIndex) -> Option<&MergedPart> {
+        let (group, part) = *self.numbers.get(&MergeSource { object, section })?;
+        self.groups.get(group as usize)?.merged.parts().get(part as usize)
     }
 
     /// The sections that are merged, by object and number.
@@ -66,8 +74,16 @@ impl Link<'_> {
         if !self.settings.merges {
             return;
         }
+        let mut followed = QuickMap::default();
+        let (loaded, beside) = self.candidates(objects, &mut followed);
+        self.merges = Arc::new(self.merged(loaded, before));
+        self.merges_beside = Arc::new(self.merged(beside, None));
+    }
+
+    /// Merges the sections of groups.
+    fn merged(&mut self, groups: Vec<(MergeKind, Vec<Candidate>)>, before: Option<&Merges>) -> Merges {
         let mut merges = Merges::default();
-        for (kind, candidates) in self.candidates(objects) {
+        for (kind, candidates) in groups {
             let group = group_of(kind, &candidates, before);
             for (part, (candidate, own)) in candidates.iter().zip(group.merged.parts()).enumerate() {
                 merges.numbers.insert(candidate.source, (merges.groups.len() as u32, part as u32));
@@ -84,14 +100,21 @@ impl Link<'_> {
         }
         merges.sources = merges.numbers.keys().copied().collect();
         merges.sources.sort_unstable();
-        self.merges = Arc::new(merges);
+        merges
     }
 
-    /// The sections that are merged, by those that they are merged with.
-    fn candidates(&self, objects: &[Object]) -> Vec<(MergeKind, Vec<Candidate>)> {
-        let mut groups: Vec<(MergeKind, Vec<Candidate>)> = Vec::new();
+    /// The sections that are merged, by those that they are merged with; those that are not loaded apart.
+    fn candidates(&self, objects: &[Object], followed: &mut QuickMap<OutputId, bool>) -> (Groups, Groups) {
+        let (mut loaded, mut beside) = (Groups::new(), Groups::new());
         let mut numbers: QuickMap<(OutputId, MergeKind), usize> = QuickMap::default();
-        for (number, section) in self.sections.iter().enumerate() {
+        let may_merge = |(_, section): &(usize, &InputSection)| section.flags.has(Flags::MERGE);
+        for (number, section) in self.sections.iter().enumerate().filter(may_merge) {
+            let is_loaded = section.output().and_then(|output| self.place(output)).map(|place| place.is_loaded());
+            let groups = match is_loaded {
+                Some(true) => &mut loaded,
+                Some(false) if self.is_merged_beside(section, followed) => &mut beside,
+                _ => continue,
+            };
             if let Some((key, candidate)) = self.candidate(SectionId::new(number), section, objects) {
                 let group = *numbers.entry(key).or_insert(groups.len());
                 match groups.get_mut(group) {
@@ -100,7 +123,18 @@ impl Link<'_> {
                 }
             }
         }
-        groups
+        (loaded, beside)
+    }
+
+    /// Whether a section that is not loaded is merged here: where something goes by its size, or it may have names, as none
+    /// of debug information and of `.comment` has.
+    fn is_merged_beside(&self, section: &InputSection, followed: &mut QuickMap<OutputId, bool>) -> bool {
+        let output = match section.output() {
+            None => return false,
+            Some(output) => output,
+        };
+        let is_plain = section.flags.has(Flags::DEBUGGING) || self.program.names.get(section.name) == ".comment";
+        !is_plain || *followed.entry(output).or_insert_with(|| self.is_followed(output))
     }
 
     /// A section that is merged, and with which others: one that is in the image.
@@ -110,13 +144,13 @@ impl Link<'_> {
         section: &InputSection,
         objects: &[Object],
     ) -> Option<((OutputId, MergeKind), Candidate)> {
-        if !section.flags.has(Flags::MERGE) || section.flags & (Flags::EXCLUDE | Flags::CREATED) != Flags::NONE {
+        if section.flags & (Flags::EXCLUDE | Flags::CREATED) != Flags::NONE {
             return None;
         }
         let output = section.output()?;
-        let is_loaded = self.place(output).map_or(false, |place| place.flags.has(Flags::ALLOC));
-        let object = objects.get(section.object.0 as usize).filter(|_| is_loaded)?;
-        let own = object.section(section.number()?).filter(|own| own.kind != SectionKind::NOBITS)?;
+        let object = objects.get(section.object.0 as usize)?;
+        let is_merged = |own: &Section<'_>| own.kind != SectionKind::NOBITS && !own.flags.has(SectionFlags::COMPRESSED);
+        let own = object.section(section.number()?).filter(is_merged)?;
         let kind = MergeKind::of(&own).filter(|_| !object.has_relocation_table(own.index))?;
         let start = usize::try_from(own.offset).ok()?;
         let contents = object.data().slice(start..start.checked_add(usize::try_from(own.size).ok()?)?)?;
@@ -124,6 +158,9 @@ impl Link<'_> {
         Some(((output, kind), Candidate { id, source, contents }))
     }
 }
+
+/// Sections by what they are merged with.
+type Groups = Vec<(MergeKind, Vec<Candidate>)>;
 
 /// A section that is merged.
 #[derive(Clone, Debug)]

@@ -6,12 +6,17 @@ use crate::quick::QuickSet;
 
 /// The names in the order of GNU ld's table of symbols, which depends on the order in which they were entered.
 pub(crate) fn table_order<'a>(link: &'a Link<'_>, objects: &'a [Object]) -> Vec<&'a [u8]> {
-    let (before, after) = link.program.symbols.named();
-    let of_objects = objects.iter().flat_map(|object| object.globals()).map(|symbol| symbol.name.as_ref());
-    let names = before.into_iter().map(|name| name.as_slice()).chain(of_objects);
+    let mut named = link.program.symbols.named().peekable();
+    let mut names: Vec<&[u8]> = Vec::new();
+    for (number, object) in objects.iter().enumerate() {
+        names
+            .extend(std::iter::from_fn(|| named.next_if(|(read, _)| *read <= number)).map(|(_, name)| name.as_slice()));
+        names.extend(object.globals().map(|symbol| -> &[u8] { symbol.name }));
+    }
+    names.extend(named.map(|(_, name)| name.as_slice()));
     let mut found: Vec<&[u8]> = Vec::new();
     let mut seen: QuickSet<&[u8]> = QuickSet::default();
-    for name in names.chain(after.into_iter().map(|name| name.as_slice())) {
+    for name in names {
         if seen.insert(name) {
             found.push(name);
         }

@@ -37,11 +37,11 @@ pub(crate) fn run(
     link.want_names();
     link.set_regions(false)?;
     if settings.script_first {
-        link.first_values()?;
+        link.first_values(objects, rows)?;
     }
     link.read_objects(objects, rows);
     if !settings.script_first {
-        link.first_values()?;
+        link.first_values(objects, rows)?;
     }
     link.set_regions(true)?;
     link.start_bounds();

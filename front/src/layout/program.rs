@@ -196,6 +196,13 @@ pub(crate) struct Place {
     pub entry_size: u64,
 }
 
+impl Place {
+    /// Whether it is loaded.
+    pub fn is_loaded(&self) -> bool {
+        self.flags.has(Flags::ALLOC)
+    }
+}
+
 /// A region of MEMORY.
 #[derive(Clone, Debug)]
 pub(crate) struct Region {

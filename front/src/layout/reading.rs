@@ -11,7 +11,7 @@ use bstr::ByteSlice;
 const BOUNDS: [&[u8]; 2] = [b"__start_", b"__stop_"];
 
 impl Link<'_> {
-    /// Reads the objects: names that are known so far, and those of bounds, get what the objects say of them.
+    /// Reads objects, the first ones of all: names that are known so far, and those of bounds, get what these say of them.
     pub fn read_objects(&mut self, objects: &[Object], rows: &Rows) {
         let bounds = self
             .program
@@ -22,7 +22,7 @@ impl Link<'_> {
         let own = self.program.symbols.iter().map(|symbol| symbol.name.to_vec());
         let asked: Vec<Vec<u8>> = own.chain(bounds).collect();
         let found = LinkNames::look_up(objects, &asked);
-        self.program.symbols.objects_are_read();
+        self.program.symbols.objects_are_read(objects.len());
         for name in &asked {
             let name = name.as_bstr();
             if found.definition(name).is_some() || found.is_referred(name) {

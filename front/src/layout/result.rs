@@ -23,9 +23,8 @@ impl Link<'_> {
     /// The evaluation, after the last pass.
     pub fn result(mut self) -> Evaluation {
         let entry = self.entry();
-        let hidden = self.hidden_by_script();
-        let named = self.program.symbols.named();
-        let named = (named.0.into_iter().cloned().collect(), named.1.into_iter().cloned().collect());
+        let (recorded, hidden) = self.recorded();
+        let named = self.program.symbols.named().map(|(read, name)| (read, name.clone())).collect();
         let mut found = Evaluation {
             statements: self.program.steps.iter().map(|step| self.statement(step)).collect(),
             outputs: self.outputs(),
@@ -42,6 +41,7 @@ impl Link<'_> {
             relro: self.headers.relro.filter(|_| self.headers.has_relro),
             orphans: std::mem::take(&mut self.orphans),
             merges: std::mem::take(&mut self.merges),
+            merges_beside: std::mem::take(&mut self.merges_beside),
             ..Evaluation::default()
         };
         for expression in self.program.expressions.iter() {
@@ -56,6 +56,7 @@ impl Link<'_> {
         }
         for (number, symbol) in found.symbols.iter_mut().enumerate() {
             symbol.is_local = hidden.contains(&SymbolId::new(number));
+            symbol.is_recorded = recorded.contains(&SymbolId::new(number));
             found.by_name.insert(symbol.name.clone(), SymbolId::new(number));
         }
         found.sections = self.sections;
@@ -118,6 +119,7 @@ impl Link<'_> {
             is_hidden: symbol.is_hidden,
             section: self.section_of(symbol),
             is_local: false,
+            is_recorded: false,
             likes: if symbol.of_script { symbol.likes.clone() } else { Vec::new() },
         }
     }
@@ -137,13 +139,22 @@ impl Link<'_> {
         }
     }
 
-    /// The symbols that the script hides, wherever it gives them a value (ldelf.c, `ldelf_find_exp_assignment`).
-    fn hidden_by_script(&self) -> HashSet<SymbolId> {
-        let hidden = |step: &Step| match step.kind {
-            StepKind::Assign { target, provision: Provision::Hidden | Provision::ProvideHidden, .. } => target,
-            _ => None,
-        };
-        self.program.steps.iter().filter_map(hidden).collect()
+    /// The symbols that the script assigns, wherever it gives them a value, but for output sections that do not count; and
+    /// those that it hides there or by what it assigns (ldelf.c, `ldelf_find_exp_assignment`; ldlang.c,
+    /// `lang_for_each_statement_worker`).
+    fn recorded(&self) -> (HashSet<SymbolId>, HashSet<SymbolId>) {
+        let (mut recorded, mut hidden) = (HashSet::new(), HashSet::new());
+        for step in &self.program.steps {
+            let (target, provision) = match step.kind {
+                StepKind::Assign { target: Some(target), provision, .. } => (target, provision),
+                _ => continue,
+            };
+            let is_recorded = step.output.and_then(|output| self.output(output)).map_or(true, Output::counts);
+            let hides = matches!(provision, Provision::Hidden | Provision::ProvideHidden);
+            recorded.extend(is_recorded.then_some(target));
+            hidden.extend((hides && (is_recorded || step.assigned.is_some())).then_some(target));
+        }
+        (recorded, hidden)
     }
 
     fn statement(&self, step: &Step) -> Statement {

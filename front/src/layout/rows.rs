@@ -176,7 +176,7 @@ fn linked(object: &Object) -> impl Iterator<Item = Section<'_>> + '_ {
     object.sections().filter(|section| section.kind.is_linked())
 }
 
-fn of_object(number: ObjectIndex, object: &Object, section: &Section<'_>, name: NameId) -> InputSection {
+pub(crate) fn of_object(number: ObjectIndex, object: &Object, section: &Section<'_>, name: NameId) -> InputSection {
     let flags = Flags::of_section(section.name, section.kind.0, section.flags.0);
     // ldelf.c, `ldelf_setup_build_id`: the note's section has no SEC_HAS_CONTENTS, by which an orphan finds its place.
     let flags = if object.is_build_note() { flags.without(Flags::CONTENTS) } else { flags };

@@ -62,10 +62,10 @@ impl SymbolState {
 pub(crate) struct Symbols {
     all: Vec<SymbolState>,
     ids: QuickMap<Name, SymbolId>,
-    /// Those that something has named, in the order in which it did.
-    named: Vec<SymbolId>,
-    /// How many of these were named before the objects were read.
-    before_objects: Option<usize>,
+    /// Those that something has named, in the order in which it did, each with the objects that were read before.
+    named: Vec<(usize, SymbolId)>,
+    /// How many objects are read.
+    read: usize,
 }
 
 impl Symbols {
@@ -117,21 +117,24 @@ impl Symbols {
         let symbol = self.all.get_mut(id.index())?;
         if !symbol.is_known {
             symbol.is_known = true;
-            self.named.push(id);
+            self.named.push((self.read, id));
         }
         Some(symbol)
     }
 
-    /// The objects are read now.
-    pub fn objects_are_read(&mut self) {
-        self.before_objects.get_or_insert(self.named.len());
+    /// As many objects are read now.
+    pub fn objects_are_read(&mut self, count: usize) {
+        self.read = self.read.max(count);
     }
 
-    /// The names that something has named before the objects were read, and those after, in that order.
-    pub fn named(&self) -> (Vec<&Name>, Vec<&Name>) {
-        let (before, after) = self.named.split_at(self.before_objects.unwrap_or(self.named.len()));
-        let names = |ids: &[SymbolId]| ids.iter().filter_map(|id| self.get(*id)).map(|symbol| &symbol.name).collect();
-        (names(before), names(after))
+    /// How many objects are read.
+    pub fn read(&self) -> usize {
+        self.read
+    }
+
+    /// The names that something has named, in the order in which it did, each with the number of objects read before.
+    pub fn named(&self) -> impl Iterator<Item = (usize, &Name)> {
+        self.named.iter().filter_map(|(read, id)| Some((*read, &self.get(*id)?.name)))
     }
 
     /// The symbols, by their indices.

@@ -1,5 +1,6 @@
 //! The passes that give symbols their values (ldlang.c, `lang_do_assignments`), and assignments in any pass.
 
+use super::compile::file_of;
 use super::evaluation::Base;
 use super::expression::{Binary, Node, Unary};
 use super::flags::Flags;
@@ -8,9 +9,11 @@ use super::headers::room;
 use super::ids::{ExprId, OutputId, StatementId, SymbolId};
 use super::link::Link;
 use super::program::StepKind;
+use super::rows::Rows;
 use super::standing::Source;
 use super::stop::{refused, RefusedReason, Stop};
 use super::symbols::SymbolKind;
+use crate::objects::Object;
 use crate::script::tree::{BinaryOperator, DataWidth, Name, Provision};
 
 /// The bytes of a data command.
@@ -24,14 +27,16 @@ pub(crate) fn width_of(width: DataWidth) -> u64 {
 }
 
 impl Link<'_> {
-    /// The pass in which files are read: symbols get the values that are known by then.
-    pub fn first_values(&mut self) -> Result<(), Stop> {
+    /// The pass in which files are read: symbols get the values that are known by then (ldlang.c, `open_input_bfds`).
+    pub fn first_values(&mut self, objects: &[Object], rows: &Rows) -> Result<(), Stop> {
         for id in self.program.top.clone() {
             match self.step(id).map(|step| step.kind.clone()) {
                 Some(StepKind::Output(output)) => {
                     for inner in self.body(output) {
-                        if let Some(StepKind::Assign { .. }) = self.step(inner).map(|step| &step.kind) {
-                            self.assign(inner, Base::Absolute, 0)?;
+                        match self.step(inner).map(|step| &step.kind) {
+                            Some(StepKind::Assign { .. }) => drop(self.assign(inner, Base::Absolute, 0)?),
+                            Some(StepKind::Input(taking)) => self.read_named(*taking, objects, rows),
+                            _ => {}
                         }
                     }
                 }
@@ -42,6 +47,17 @@ impl Link<'_> {
             }
         }
         Ok(())
+    }
+
+    /// Reads the file that a statement names without a wildcard, and those in front of it, where they are not read yet: the
+    /// statements that follow know its names (ldlang.c, `lookup_name`).
+    fn read_named(&mut self, taking: usize, objects: &[Object], rows: &Rows) {
+        let file = self.program.takings.get(taking).and_then(file_of);
+        let is_it = |object: &Object| object.origin().archive.is_none() && Some(&object.origin().name) == file;
+        let count = objects.iter().position(is_it).map_or(0, |at| at + 1);
+        if count > self.program.symbols.read() {
+            self.read_objects(objects.get(..count).unwrap_or_default(), rows);
+        }
     }
 
     /// A pass that gives symbols their values.

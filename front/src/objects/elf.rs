@@ -13,6 +13,8 @@ use object::read::elf::FileHeader;
 use object::LittleEndian as Little;
 use std::ops::Range;
 
+/// The bytes of an entry of a table of relocations.
+const RELOCATION: u64 = std::mem::size_of::<Rela64<Little>>() as u64;
 const BITCODE: &[u8] = b"BC\xc0\xde";
 const MAGIC: &[u8] = b"\x7fELF";
 /// How the name of a section begins of which GNU ld links the first alone.
@@ -227,18 +229,18 @@ impl Elf {
 
     /// The relocations of a section, in the order of its tables.
     pub fn relocations(&self, section: SectionIndex) -> impl Iterator<Item = Relocation> + '_ {
-        self.tables_of(section).flat_map(move |table| {
-            let bytes = self.data.get(table.range()).unwrap_or_default();
-            entries::<Rela64<Little>>(bytes).iter().map(|entry| {
-                let info = entry.r_info.get(Little);
-                Relocation {
-                    offset: entry.r_offset.get(Little),
-                    kind: info as u32,
-                    symbol: SymbolIndex((info >> 32) as u32),
-                    addend: entry.r_addend.get(Little),
-                }
-            })
-        })
+        let tables = self.tables_of(section).map(move |table| self.data.get(table.range()).unwrap_or_default());
+        tables.flat_map(|bytes| entries::<Rela64<Little>>(bytes).iter().map(relocation_of))
+    }
+
+    /// The relocations of a section that is left out, as another object has its group: its table is left out with it.
+    pub fn relocations_left_out(&self, section: SectionIndex) -> impl Iterator<Item = Relocation> + '_ {
+        let is_table = move |one: &Section<'_>| {
+            let is_of_section = one.kind == SectionKind::NULL && one.info == section.0;
+            is_of_section && one.link == self.symbols.section.0 && one.entry_size == RELOCATION
+        };
+        let tables = self.sections().filter(is_table).map(move |one| self.contents(one.index));
+        tables.flat_map(|bytes| entries::<Rela64<Little>>(bytes).iter().map(relocation_of))
     }
 
     fn tables_of(&self, section: SectionIndex) -> impl Iterator<Item = Stretch> + '_ {
@@ -334,6 +336,16 @@ fn header_of(data: &[u8]) -> Result<&FileHeader64<Little>, ObjectFault> {
         (_, machine) if machine != elf::EM_X86_64 => Err(ObjectFault::OtherMachine(machine)),
         (elf::ET_REL, _) => Ok(header),
         (kind, _) => Err(ObjectFault::NotRelocatable(kind)),
+    }
+}
+
+fn relocation_of(entry: &Rela64<Little>) -> Relocation {
+    let info = entry.r_info.get(Little);
+    Relocation {
+        offset: entry.r_offset.get(Little),
+        kind: info as u32,
+        symbol: SymbolIndex((info >> 32) as u32),
+        addend: entry.r_addend.get(Little),
     }
 }
 

@@ -7,7 +7,7 @@ use bstr::{BString, ByteSlice};
 use super::expression::children;
 use super::items::{for_each_assignment, for_each_expression};
 use super::profile::{begins_name, is_in_name};
-use crate::script::tree::{AssignOperator, Assignment, Expr, ExprKind, Name, Provision, Script, Span};
+use crate::script::tree::{AssignOperator, Assignment, Expr, ExprKind, Name, Script, Span};
 
 /// One assignment of a symbol.
 #[derive(Clone, Debug)]
@@ -31,17 +31,15 @@ pub(super) struct Versions {
 }
 
 impl Versions {
-    /// Those of a script; `counts` says which give their symbol a value.
-    pub(super) fn of(script: &Script, text: &[u8], counts: &dyn Fn(&Assignment, Span) -> bool) -> Versions {
+    /// Those of a script; `counts` says which give their symbol a value, as the first of its name or after others.
+    pub(super) fn of(script: &Script, text: &[u8], counts: &dyn Fn(&Assignment, Span, bool) -> bool) -> Versions {
         let mut versions = Versions { by_name: HashMap::new(), words: words(text) };
         for_each_assignment(script, &mut |assignment, span| {
             if assignment.target.node == "." {
                 return;
             }
             let found = versions.by_name.entry(assignment.target.node.clone()).or_default();
-            // A second PROVIDE of a name, or one of a name that is assigned, has no effect.
-            let is_provided = matches!(assignment.provision, Provision::Provide | Provision::ProvideHidden);
-            let counts = counts(assignment, span) && !(is_provided && found.iter().any(|one| one.counts));
+            let counts = counts(assignment, span, found.iter().all(|one| !one.counts));
             found.push(Version { at: span.start, emitted: assignment.target.node.clone(), counts, is_used: false });
         });
         versions.mark_used(script);

@@ -116,14 +116,14 @@ impl<'a> Walk<'a> {
     pub(super) fn new(request: Request<'a>) -> Walk<'a> {
         let text = request.source.text();
         let evaluation = request.evaluation;
-        let counts = |assignment: &crate::script::tree::Assignment, span: Span| match evaluation {
+        let counts = |assignment: &crate::script::tree::Assignment, span: Span, is_first: bool| match evaluation {
             Some(evaluation) => match evaluation.statement_at(span).map(|statement| &statement.kind) {
                 Some(StatementKind::Assign { value, .. }) => value.is_some(),
                 _ => false,
             },
             None => {
                 let is_provided = matches!(assignment.provision, Provision::Provide | Provision::ProvideHidden);
-                !is_provided || !(request.defines)(assignment.target.node.as_bstr())
+                !is_provided || is_first && !(request.defines)(assignment.target.node.as_bstr())
             }
         };
         Walk {

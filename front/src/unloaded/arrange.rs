@@ -9,12 +9,15 @@ use super::strings::Strings;
 use super::NotMade;
 use crate::layout::evaluation::{Evaluation, Gap, InputSection, OutputSection, Placed, StatementKind};
 use crate::layout::ids::SectionId;
-use crate::objects::{Object, SectionFlags};
+use crate::objects::{MergedPart, Object, SectionFlags};
 use crate::quick::QuickMap;
 
 /// Names of sections of debug information begin so (bfd/elf.c, `_bfd_elf_make_section_from_shdr`).
 const DEBUGGING: [&[u8]; 7] =
     [b".debug", b".gnu.debuglto_.debug_", b".gnu.linkonce.wi.", b".zdebug", b".line", b".stab", b".gdb_index"];
+
+/// The most zeros that one section without bytes comes to.
+const MOST_ZEROS: usize = 1 << 30;
 
 /// The bytes of an output section.
 pub(super) struct Arranged<'a> {
@@ -143,7 +146,8 @@ impl<'a> Making<'a> {
             self.strips_debugging && DEBUGGING.iter().any(|front| name.starts_with(front))
         };
         let is_here = |id: &SectionId| {
-            let section = self.section(*id).filter(|section| section.size > 0 && section.number().is_some());
+            let has_bytes = |section: &&InputSection| section.size > 0 || self.part(section).is_some();
+            let section = self.section(*id).filter(|section| has_bytes(section) && section.number().is_some());
             section.map_or(false, |section| section.output().is_some() && !is_left_out(section))
         };
         sections.copied().filter(is_here).collect()
@@ -156,15 +160,30 @@ impl<'a> Making<'a> {
         kinds.any(|kind| matches!(kind, StatementKind::Data { .. } | StatementKind::Dot { gap: Some(_), .. }))
     }
 
+    /// What a section that the layout has merged comes to.
+    fn part(&self, section: &InputSection) -> Option<&'a MergedPart> {
+        self.evaluation.merges_beside.part(section.object, section.number()?)
+    }
+
     fn bytes(&self, section: &InputSection) -> &'a [u8] {
+        if let Some(part) = self.part(section) {
+            return &part.contents;
+        }
         let object = self.objects.get(section.object.0 as usize);
         object.zip(section.number()).map_or(&[], |(object, number)| object.contents(number))
     }
 
-    /// The bytes of a section and its alignment, as they were before they were compressed.
+    /// The bytes of a section and its alignment, as they were before they were compressed; zeros of one that has none, as a
+    /// `.bss` in a section of type INFO.
     fn content(&self, section: &InputSection) -> Result<Content<'a>, NotMade> {
+        let align = section.align.max(1);
+        if section.kind == elf::SHT_NOBITS {
+            let size =
+                usize::try_from(section.size).ok().filter(|size| *size <= MOST_ZEROS).ok_or(NotMade::TooLarge)?;
+            return Ok(Content { bytes: Cow::Owned(vec![0; size]), align });
+        }
         if !is_compressed(section) {
-            return Ok(Content { bytes: Cow::Borrowed(self.bytes(section)), align: section.align.max(1) });
+            return Ok(Content { bytes: Cow::Borrowed(self.bytes(section)), align });
         }
         let name = || self.evaluation.section_name(section).to_owned();
         let (bytes, align) = inflated(self.bytes(section)).ok_or_else(|| NotMade::Compressed(name()))?;
@@ -182,6 +201,7 @@ impl<'a> Making<'a> {
             && section.entry_size == 1
             && content.align == 1
             && !has_relocations
+            && self.part(section).is_none()
     }
 
     /// Input sections one after the other, as large as they are now: strings are merged, in the order of objects.

@@ -24,7 +24,7 @@ use object::elf;
 
 use crate::finish::{LaidOut, Unloaded};
 use crate::layout::ids::{OutputId, SectionId};
-use crate::layout::Evaluation;
+use crate::layout::{Evaluation, Flags};
 use crate::objects::{Binding, LinkNames, Object, Relocation};
 use crate::report::link_map::LinkMap;
 use arrange::{Arrangement, Piece};
@@ -79,7 +79,9 @@ impl Spans {
                 if let Some(id) = piece.section {
                     let address = output.place.address.wrapping_add(piece.at);
                     spans.sections.insert(id, (address, piece.bytes.len() as u64));
-                    if arrangement.is_left_out(id) {
+                    let section = evaluation.section(id);
+                    let is_merged_away = section.map_or(false, |section| section.flags.has(Flags::EXCLUDE));
+                    if is_merged_away || arrangement.is_left_out(id) {
                         spans.left_out.insert(id);
                     }
                     let own = evaluation.section(id).and_then(|section| section.output());

@@ -81,6 +81,9 @@ impl Targets<'_> {
             Some(found) => found,
             None => return Target::Gone,
         };
+        if let Some(address) = self.of_merged(object, number, symbol, addend) {
+            return Target::Address(address);
+        }
         if let Some(spot) = self.arrangement.spot(id) {
             return Target::Address(match (spot.strings, symbol.kind) {
                 (Some(strings), SymbolKind::SECTION) => {
@@ -90,9 +93,6 @@ impl Targets<'_> {
                 (None, _) => spot.address.wrapping_add(symbol.value).wrapping_add(addend),
             });
         }
-        if let Some(address) = self.of_merged(object, number, symbol, addend) {
-            return Target::Address(address);
-        }
         match section.fate {
             Fate::Output(_) => self.places.address(section).map_or(Target::Gone, |address| {
                 Target::Address(address.wrapping_add(symbol.value).wrapping_add(addend))
@@ -101,13 +101,14 @@ impl Targets<'_> {
         }
     }
 
-    /// The address of something in a section that is loaded and was merged.
+    /// The address of something in a section that the layout has merged.
     fn of_merged(&self, object: ObjectIndex, number: SectionIndex, symbol: &Symbol<'_>, addend: u64) -> Option<u64> {
         let is_section = symbol.kind == SymbolKind::SECTION;
         let offset = if is_section { symbol.value.wrapping_add(addend) } else { symbol.value };
-        let (source, at) = self.evaluation.merges.place(object, number, offset)?;
-        let (_, section) = self.places.find(source.object, source.section)?;
-        let address = self.places.address(section)?.wrapping_add(at);
+        let (source, at) = self.evaluation.merged_place(object, number, offset)?;
+        let (id, section) = self.places.find(source.object, source.section)?;
+        let start = self.arrangement.spot(id).map(|spot| spot.address).or_else(|| self.places.address(section))?;
+        let address = start.wrapping_add(at);
         Some(if is_section { address } else { address.wrapping_add(addend) })
     }
 

@@ -87,7 +87,7 @@ pub(super) fn write(
     let (mut globals, mut locals) = (Vec::with_capacity(names.own.len()), Vec::new());
     for (number, one) in names.linked.iter().enumerate() {
         let is_used = used.and_then(|used| used.get(number)) == Some(&true);
-        let found = names.entry_of(number, one).filter(|_| is_used || !names.options.strips(&one.name));
+        let found = names.entry_of(number, one, is_used).filter(|_| is_used || !names.options.strips(&one.name));
         match found.or_else(|| is_used.then(|| (undefined(one), false))) {
             Some((entry, true)) => locals.push((number, one, entry)),
             Some((entry, false)) => globals.push((number, one, entry)),
@@ -121,7 +121,7 @@ pub(super) struct Names<'a> {
     outputs: &'a Outputs,
     own: &'a ImageNames<'a>,
     options: &'a SymbolOptions,
-    /// The symbols from which others take theirs: the visibility that objects say, and the type in the image.
+    /// The symbols from which others take theirs: the visibility and the type that objects say.
     sources: QuickMap<SymbolId, (u8, Option<u8>)>,
 }
 
@@ -136,24 +136,25 @@ impl<'a> Names<'a> {
         let likes = evaluation.symbols.iter().flat_map(|symbol| &symbol.likes);
         let mut sources: QuickMap<SymbolId, (u8, Option<u8>)> =
             likes.map(|like| (*like, (elf::STV_DEFAULT, None))).collect();
-        for (number, one) in symbols.names.iter().enumerate().filter(|(_, one)| one.is_named) {
+        for one in symbols.names.iter().filter(|one| one.is_named) {
             let id = evaluation.by_name.get(one.name.as_bstr());
             if let Some(source) = id.and_then(|id| sources.get_mut(id)) {
-                *source = (one.visibility, own.get(number).map(|found| found.st_info & 15));
+                *source = (one.visibility, Some(one.kind));
             }
         }
         Names { objects: symbols.objects, places, linked: symbols.names, evaluation, outputs, own, options, sources }
     }
 
-    /// The entry of a name, and whether it is local in the image; `None` where it has no value.
-    fn entry_of(&self, number: usize, one: &LinkedName) -> Option<(Entry, bool)> {
+    /// The entry of a name, and whether it is local in the image; `None` where it has no value, and no relocation in the
+    /// file uses it.
+    fn entry_of(&self, number: usize, one: &LinkedName, is_used: bool) -> Option<(Entry, bool)> {
         let found = match self.own.get(number) {
             Some(found) => found,
             None => return self.unloaded(one).map(|entry| (entry, false)),
         };
         let known = self.known(one);
-        if known.map_or(false, is_nowhere) {
-            return None;
+        if let Some(nowhere) = known.filter(|known| is_nowhere(known)) {
+            return self.nowhere(one, nowhere, is_used);
         }
         let is_table = one.name == GLOBAL_OFFSET_TABLE;
         let is_local = is_table || known.map_or(false, |known| known.is_local);
@@ -175,6 +176,25 @@ impl<'a> Names<'a> {
             size: one.size,
         };
         Some((entry, is_local))
+    }
+
+    /// The entry of a symbol that counts from an output section that is never made: undefined, with its value. It is left
+    /// out where it is local, where objects refer to it and all do so weakly, and where nothing but that section assigns it
+    /// (`elf_link_output_extsym`; `mark` is by `bfd_elf_record_link_assignment`).
+    fn nowhere(&self, one: &LinkedName, known: &Symbol, is_used: bool) -> Option<(Entry, bool)> {
+        let binding = match (known.is_local, one.is_referred && !one.is_needed) {
+            (true, _) => elf::STB_LOCAL,
+            (false, true) => elf::STB_WEAK,
+            (false, false) => elf::STB_GLOBAL,
+        };
+        let entry = Entry {
+            info: binding << 4 | self.kind_of(one, Some(known)),
+            other: if known.is_local { elf::STV_DEFAULT } else { self.visibility_of(one, Some(known)) },
+            section: elf::SHN_UNDEF,
+            value: known.value.map_or(0, |value| value.address),
+            size: one.size,
+        };
+        (is_used || binding == elf::STB_GLOBAL && known.is_recorded).then_some((entry, known.is_local))
     }
 
     /// What the layout says of a name.
@@ -256,7 +276,7 @@ fn constrained(one: u8, other: u8) -> u8 {
     one.wrapping_sub(1).min(other.wrapping_sub(1)).wrapping_add(1)
 }
 
-/// Whether a symbol was assigned in an output section that is never made: GNU ld has it undefined.
+/// Whether a symbol counts from an output section that is never made.
 fn is_nowhere(symbol: &Symbol) -> bool {
     is_of_script(symbol) && symbol.value.map_or(false, |value| value.base == Base::Nowhere)
 }

@@ -22,7 +22,7 @@ pub struct LinkedNames {
     names: Vec<LinkedName>,
     /// The objects that they are of, and the names of the script.
     objects: Vec<Object>,
-    of_script: (Vec<Name>, Vec<Name>),
+    of_script: Vec<(usize, Name)>,
     /// By object: where its names begin in `mentions`, which has their places.
     first: Vec<usize>,
     mentions: Vec<u32>,
@@ -46,7 +46,8 @@ pub(super) struct LinkedName {
     pub(super) defined_by: Option<(usize, SymbolIndex)>,
     /// How good it is.
     rank: Option<Rank>,
-    /// Whether an object has it undefined, and not as a weak symbol.
+    /// Whether an object has it undefined, or as a common block; and whether one does, and not as a weak symbol.
+    pub(super) is_referred: bool,
     pub(super) is_needed: bool,
     /// Whether its definition has the binding STB_GNU_UNIQUE.
     pub(super) is_unique: bool,
@@ -62,9 +63,11 @@ impl LinkedNames {
             return before;
         }
         let mut found = Found::default();
-        found.enter_all(&evaluation.named.0);
+        let mut named = evaluation.named.iter().peekable();
         let (mut first, mut mentions) = (Vec::with_capacity(objects.len()), Vec::new());
         for (number, object) in objects.iter().enumerate() {
+            std::iter::from_fn(|| named.next_if(|(read, _)| *read <= number))
+                .for_each(|(_, name)| found.speak_of(name));
             first.push(mentions.len());
             let is_left_out = is_own_object(object);
             mentions.extend(object.globals().map(|symbol| match is_left_out || is_own(symbol.name) {
@@ -72,8 +75,8 @@ impl LinkedNames {
                 false => found.take(number, &symbol, object.unique().binary_search(&symbol.index).is_ok()),
             }));
         }
-        found.enter_all(&evaluation.named.1);
-        found.enter_all(&[GLOBAL_OFFSET_TABLE.into()]);
+        named.for_each(|(_, name)| found.speak_of(name));
+        found.speak_of(GLOBAL_OFFSET_TABLE.as_bytes());
         let (names, places) = in_order(found.names);
         for mention in &mut mentions {
             *mention = places.get(*mention as usize).copied().unwrap_or(NOWHERE);
@@ -194,12 +197,10 @@ impl Found {
         place
     }
 
-    /// Enters names.
-    fn enter_all(&mut self, names: &[Name]) {
-        for name in names {
-            let place = self.enter(name);
-            self.names.get_mut(place).into_iter().for_each(|one| one.is_named = true);
-        }
+    /// Enters a name that script, command line or GNU ld itself speak of.
+    fn speak_of(&mut self, name: &[u8]) {
+        let place = self.enter(name);
+        self.names.get_mut(place).into_iter().for_each(|one| one.is_named = true);
     }
 
     /// Takes what an object says of a name; gives the number of the name.
@@ -223,7 +224,9 @@ impl LinkedName {
         let (own, other) = (self.visibility.wrapping_sub(1), symbol.visibility.number().wrapping_sub(1));
         self.visibility = own.min(other).wrapping_add(1);
         let rank = symbol.rank();
-        self.is_needed |= rank.is_none() && symbol.binding != Binding::Weak;
+        let is_reference = matches!(rank, None | Some(Rank::Common));
+        self.is_referred |= is_reference;
+        self.is_needed |= is_reference && symbol.binding != Binding::Weak;
         let is_skipped = rank == Some(Rank::Weak) && matches!(self.rank, Some(Rank::Weak | Rank::Strong));
         if is_skipped {
             return;

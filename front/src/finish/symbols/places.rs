@@ -36,8 +36,8 @@ pub(super) struct Places {
     sections: Vec<Option<Place>>,
     /// The objects in the order in which their local symbols are written.
     order: Vec<usize>,
-    /// What is merged.
-    merges: Arc<Merges>,
+    /// What is merged, of sections that are loaded and of others.
+    merges: [Arc<Merges>; 2],
     /// Whether the map does not say where some section is.
     has_lost: bool,
 }
@@ -49,7 +49,7 @@ impl Places {
             first: Vec::with_capacity(symbols.objects.len()),
             sections: Vec::new(),
             order: Vec::new(),
-            merges: Arc::clone(&symbols.evaluation.merges),
+            merges: [Arc::clone(&symbols.evaluation.merges), Arc::clone(&symbols.evaluation.merges_beside)],
             has_lost: false,
         };
         let mut count = 0;
@@ -75,7 +75,8 @@ impl Places {
 
     /// The section in which what was at a place of a section of an object is, and the place in it.
     pub(super) fn get_at(&self, object: usize, section: SectionIndex, offset: u64) -> Option<(Place, u64)> {
-        match self.merges.place(ObjectIndex(object as u32), section, offset) {
+        let mut merges = self.merges.iter();
+        match merges.find_map(|merges| merges.place(ObjectIndex(object as u32), section, offset)) {
             Some((now, offset)) => Some((self.get(now.object.0 as usize, now.section)?, offset)),
             None => Some((self.get(object, section)?, offset)),
         }
@@ -127,7 +128,8 @@ impl Places {
         for (number, object) in objects.iter().enumerate() {
             let own = pieces.remove(object.name()).unwrap_or_default();
             let size_of = |section: &Section<'_>| {
-                let merged = self.merges.size(ObjectIndex(number as u32), section.index);
+                let mut merges = self.merges.iter();
+                let merged = merges.find_map(|merges| merges.size(ObjectIndex(number as u32), section.index));
                 self.get(number, section.index).map(|_| merged.unwrap_or(section.size))
             };
             let found = found_in(object, &own, &size_of);
