@@ -6,6 +6,8 @@ import struct
 
 from tests.images import read_image
 from tests.linking import LinkTest, needs
+from tests.programs import OutsideTest
+from tests.symbol_table import read_relocations, read_table
 
 KERNEL = """OUTPUT_FORMAT("elf64-x86-64")
 jiffies = jiffies_64;
@@ -64,6 +66,74 @@ long later[2] __attribute__((section(".later"))) = {4, 5};
 const long fixed[4] = {6};
 long start(void) { return zeros[1] + words[1] + later[1] + fixed[1]; }
 """
+SMP = """OUTPUT_FORMAT("elf64-x86-64")
+ENTRY(phys_start)
+PHDRS { text PT_LOAD FLAGS(5); data PT_LOAD FLAGS(6); percpu PT_LOAD FLAGS(6); init PT_LOAD FLAGS(7); }
+SECTIONS {
+  . = 0xffffffff81000000;
+  phys_start = ABSOLUTE(start - 0xffffffff80000000);
+  .text : AT(ADDR(.text) - 0xffffffff80000000) {
+    *(.text)
+    . = ALIGN(1 << 14);
+    *(.text.untrain)
+    . = untrain | (1 << 2) | (1 << 8) | (1 << 13);
+    *(.text.safe)
+    . = ALIGN(1 << 14);
+    KEEP(*(.text.table))
+  } :text = 0xcccc
+  .restore : { *(.restore) } :text
+  .data : AT(ADDR(.data) - 0xffffffff80000000) { *(.data) } :data
+  . = ALIGN(1 << 12);
+  load = .;
+  .data..percpu 0 : AT(load - 0xffffffff80000000) {
+    percpu_start = .; *(.data..percpu..first) . = ALIGN(1 << 6); *(.data..percpu) percpu_end = .;
+  } :percpu
+  . = load + SIZEOF(.data..percpu);
+  ASSERT(SIZEOF(.data..percpu) < 0x1000000, "per-CPU data too large")
+  . = ALIGN(1 << 12);
+  .init.text : AT(ADDR(.init.text) - 0xffffffff80000000) { *(.init.text) } :init
+  .bss : AT(ADDR(.bss) - 0xffffffff80000000) { *(.bss) }
+  end = .;
+  .got : { *(.got) *(.igot.*) }
+  ASSERT(SIZEOF(.got) == 0, "GOT entries")
+  .rela.dyn : { *(.rela.*) *(.rela_*) }
+  /DISCARD/ : { *(.note.*) }
+}
+. = ASSERT(end - 0xffffffff80000000 <= 0x40000000, "kernel image bigger than KERNEL_IMAGE_SIZE");
+init_table = ABSOLUTE(table) + load;
+. = ASSERT(first == 0, "first is not at start of per-cpu area");
+. = ASSERT(((ABSOLUTE(untrain) | safe) - (ABSOLUTE(untrain) & safe)) == ((1 << 2) | (1 << 8) | (1 << 13)), "no alias");
+"""
+SMP_SOURCE = """.text
+.globl start, untrain, safe, first, table
+start: call safe
+call untrain
+movq %gs:counter(%rip), %rax
+leaq init_table(%rip), %rax
+movq $table, %rax
+.fill {size}, 1, 0x90
+.section .text.untrain, "ax"
+untrain: ret
+.section .text.safe, "ax"
+safe: ret
+.section .text.table, "ax"
+.quad start, counter
+.section .data..percpu..first, "aw"
+first: .zero 48
+.section .data..percpu, "aw"
+counter: .quad start, table
+.balign 64
+table: .zero {size}
+.data
+.quad counter, safe
+.section .init.text, "ax"
+call start
+.bss
+.zero 0x2345
+.section .note.GNU-stack, "", @progbits
+"""
+HEADER = re.compile(r"\] (\S+) +(?!STRTAB)([A-Z_]+) +([0-9a-f]{16}) [0-9a-f]+ ([0-9a-f]+)")
+"""Name, type, address and size of a section, as readelf prints them."""
 
 
 class KernelTest(LinkTest):
@@ -149,6 +219,31 @@ class KernelTest(LinkTest):
         self.assertEqual(self._symbols("plain"), self._symbols("large"))
         self.assertEqual(self.run_tool("objdump", "-d", "plain").split("\n")[3:],
                          self.run_tool("objdump", "-d", "large").split("\n")[3:])
+
+
+@needs("ld.bfd")
+class SmpTest(OutsideTest):
+    """The script of a kernel for several processors: data at address 0, and a place by the bits of an object's symbol."""
+
+    def _same(self) -> None:
+        """Section headers, program headers, bytes, symbols and relocations are those of GNU ld's file."""
+        own, gnu = self.read("own"), self.read("gnu")
+        for read in (read_table, read_relocations, lambda data: read_image(data).segments,
+                     lambda data: read_image(data).places()):
+            self.assertEqual(read(own), read(gnu))
+        self.assertEqual(*(HEADER.findall(self.must("readelf", "-SW", name)) for name in ("own", "gnu")))
+
+    def test_links(self) -> None:
+        """A first link, and a later one after an object with other sizes, by which the places move."""
+        words = "-q", "-z", "max-page-size=0x200000", "-T", "smp.ld", "a.o"
+        self.write("smp.ld", SMP)
+        for size in (0x30, 0x4100, 0x30):
+            self.compile("a.s", SMP_SOURCE.replace("{size}", str(size)))
+            self.serves(*words, "-o", "own", env={"LDI_FALLBACK": "none"})
+            self.must("ld.bfd", "--no-warn-rwx-segments", *words, "-o", "gnu")
+            with self.subTest(size):
+                self._same()
+        self.assertEqual(self.calls(), 2)
 
 
 class ProgramHeaderTest(LinkTest):

@@ -221,6 +221,11 @@ impl FilePlan {
     /// Takes sections out that none before them refers to.
     fn remove(&mut self, numbers: &[usize]) {
         self.names_in -= numbers.iter().filter(|number| **number < self.names_in).count();
+        self.take_out(numbers);
+    }
+
+    /// Takes section headers out; what refers to sections has their new numbers already.
+    pub(super) fn take_out(&mut self, numbers: &[usize]) {
         let mut number = 0;
         self.sections.retain(|_| {
             number += 1;

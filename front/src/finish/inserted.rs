@@ -1,12 +1,12 @@
 //! Sections that are put among those of an image: relocations behind the section that they are of (`--emit-relocs`), and
-//! output sections without bytes that GNU ld's file has.
+//! output sections without bytes that GNU ld's file has; those that it has not are taken out.
 
 use bstr::BString;
 use object::elf;
 
 use super::file_image::{plan_or_unchanged, FilePlan};
 use super::image::{Image, NotAnImage, Section};
-use super::symbols::{EmptySection, RelocationTable, SymbolTable};
+use super::symbols::{EmptySection, OtherSections, RelocationTable, SymbolTable};
 use crate::snapshot::Bytes;
 
 /// The bytes of an entry of a table of relocations, and of one of symbols.
@@ -27,16 +27,12 @@ struct Inserted {
     content: Bytes,
 }
 
-/// Puts the sections into a file, whose section headers get other numbers by that.
-pub(super) fn insert(
-    data: &[u8],
-    relocations: Vec<RelocationTable>,
-    missing: Vec<EmptySection>,
-    plan: &mut Option<FilePlan>,
-) -> Result<(), NotAnImage> {
-    if relocations.is_empty() && missing.is_empty() {
+/// Gives a file these sections, by which its section headers get other numbers.
+pub(super) fn insert(data: &[u8], sections: OtherSections, plan: &mut Option<FilePlan>) -> Result<(), NotAnImage> {
+    if sections.is_empty() {
         return Ok(());
     }
+    let OtherSections { relocations, missing, dropped } = sections;
     let image = Image::read(data)?;
     let mut changed = plan_or_unchanged(data, plan.take())?;
     let mut names = changed.names_of(&image)?;
@@ -49,8 +45,9 @@ pub(super) fn insert(
     inserted.extend(missing.into_iter().map(of_nothing));
     // Stable, so that relocations follow their section at once.
     inserted.sort_by_key(|one| one.after);
-    let numbers = Numbers::of(changed.sections.len(), &inserted);
+    let numbers = Numbers::of(changed.sections.len(), &inserted, &dropped);
     changed.renumber(&|number| numbers.get(number));
+    changed.take_out(&dropped);
     if let Some(Some(symbols)) = &mut changed.symbols {
         renumber_homes(symbols, &numbers);
     }
@@ -79,13 +76,13 @@ struct Numbers {
 }
 
 impl Numbers {
-    fn of(count: usize, inserted: &[Inserted]) -> Numbers {
+    fn of(count: usize, inserted: &[Inserted], dropped: &[usize]) -> Numbers {
         let mut found = Numbers { numbers: Vec::with_capacity(count), inserted: Vec::new(), referred: Vec::new() };
         let mut rest = inserted.iter().peekable();
         let mut next = 0;
         for number in 0..count {
             found.numbers.push(next);
-            next += 1;
+            next += usize::from(dropped.binary_search(&number).is_err());
             while let Some(one) = rest.next_if(|one| one.after == number) {
                 found.inserted.push(next);
                 found.referred.extend(one.number.map(|own| (own, next)));
@@ -169,5 +166,19 @@ impl FilePlan {
     fn put(&mut self, number: usize, header: Section, content: Bytes) {
         self.sections.insert(number.min(self.sections.len()), header);
         self.contents.insert(number, content);
+    }
+}
+
+#[cfg(test)]
+mod tests {
+    use super::*;
+
+    /// ldlang.c, `strip_excluded_output_sections`: what stands behind a section that goes has a number less.
+    #[test]
+    fn numbers_of_sections_that_stay() {
+        let inserted = [of_relocations(RelocationTable { section: 1, entries: vec![0; 24] }, b".text")];
+        let numbers = Numbers::of(5, &inserted, &[2, 3]);
+        assert_eq!(numbers.inserted, [2]);
+        assert_eq!([0, 1, 4].map(|number| numbers.get(number)), [0, 1, 3]);
     }
 }

@@ -28,7 +28,7 @@ pub use loaded::Differs;
 pub use pages::TooFar;
 pub use program_headers::{NotWritten, WantedSegment};
 pub use rights::Rights;
-use symbols::{EmptySection, RelocationTable};
+use symbols::OtherSections;
 pub use symbols::{LaidOut, LinkedNames, NoTable, Strip, SymbolOptions, Symbols};
 pub use unloaded::Unloaded;
 
@@ -142,9 +142,9 @@ pub fn finish(
         (None, None) => pages::with_pages(&image, form.page, false)?,
     };
     names::rename(&image, &form.names, &mut plan)?;
-    let (relocations, missing) = put_symbols(&image, form, symbols, &unloaded, &mut plan)?;
+    let sections = put_symbols(&image, form, symbols, &unloaded, &mut plan)?;
     unloaded::add(&image, unloaded, &mut plan)?;
-    inserted::insert(&image, relocations, missing, &mut plan)?;
+    inserted::insert(&image, sections, &mut plan)?;
     let (segments, file) = match plan {
         None => return Ok(Finished { file: FileImage::whole(image), notes }),
         Some(plan) => (plan.segments.clone(), plan.file(image)),
@@ -160,31 +160,29 @@ pub fn finish(
     Ok(Finished { file, notes })
 }
 
-/// The sections that are put among those of an image.
-type More = (Vec<RelocationTable>, Vec<EmptySection>);
-
-/// Gives the file its table of symbols, or takes that of the image away; gives the sections that go with it.
+/// Gives the file its table of symbols, or takes that of the image away; gives how its sections differ.
 fn put_symbols(
     data: &[u8],
     form: &Form,
     symbols: Option<&Symbols<'_>>,
     unloaded: &[Unloaded],
     plan: &mut Option<file_image::FilePlan>,
-) -> Result<More, FinishError> {
+) -> Result<OtherSections, FinishError> {
     let image = image::Image::read(data)?;
-    let (table, more) = match symbols.filter(|_| form.symbols.has_table()) {
-        Some(symbols) => {
+    let (table, sections) = match symbols {
+        Some(symbols) if form.symbols.has_table() => {
             let found = symbols::table_of(&image, symbols, &form.symbols, &form.names, unloaded)?;
-            (Some(found.symbols), (found.relocations, found.missing))
+            (Some(found.symbols), found.sections)
         }
+        Some(symbols) => (None, symbols::sections_of(&image, symbols, &form.names, unloaded)?),
         None if form.symbols.emits_relocations => return Err(NoTable::Layout.into()),
-        None if form.symbols.has_table() => return Ok(More::default()),
-        None => (None, More::default()),
+        None if form.symbols.has_table() => return Ok(OtherSections::default()),
+        None => (None, OtherSections::default()),
     };
     let mut changed = file_image::plan_or_unchanged(data, plan.take())?;
     changed.symbols = Some(table);
     *plan = Some(changed);
-    Ok(more)
+    Ok(sections)
 }
 
 /// The file with the program headers of PHDRS, else with those of `ldi`, and a note of why.

@@ -141,10 +141,26 @@ impl SymbolOptions {
 pub(super) struct Tables {
     /// The symbol table.
     pub(super) symbols: SymbolTable,
-    /// The relocations.
+    /// The sections that go with it.
+    pub(super) sections: OtherSections,
+}
+
+/// How the sections of a file differ from those of the image of `ldi`, but for what is not loaded.
+#[derive(Default)]
+pub(super) struct OtherSections {
+    /// The relocations, sections of their own.
     pub(super) relocations: Vec<RelocationTable>,
-    /// The sections without bytes to which symbols refer and that the image has not.
+    /// The sections without bytes that GNU ld's file has and the image has not.
     pub(super) missing: Vec<EmptySection>,
+    /// The numbers, ascending, of the sections without bytes that the image has and GNU ld's file has not.
+    pub(super) dropped: Vec<usize>,
+}
+
+impl OtherSections {
+    /// Whether the sections are those of the image.
+    pub(super) fn is_empty(&self) -> bool {
+        self.relocations.is_empty() && self.missing.is_empty() && self.dropped.is_empty()
+    }
 }
 
 /// The symbol table for an image, and relocations where these are asked for.
@@ -172,5 +188,21 @@ pub(super) fn table_of(
     let names = Names::of(symbols, (&outputs, &places), &own, options);
     globals::write(&mut writer, &names, used.as_deref(), has_files, numbers.as_mut());
     let relocations = numbers.map_or_else(Vec::new, |numbers| relocations::tables(symbols, &places, &numbers));
-    Ok(Tables { symbols: writer.finish(), relocations, missing: outputs.into_missing() })
+    let table = writer.finish();
+    let mut sections = outputs.into_sections(relocations);
+    if !sections.dropped.is_empty() {
+        let homes = table.homes();
+        sections.dropped.retain(|number| homes.get(*number) == Some(&false));
+    }
+    Ok(Tables { symbols: table, sections })
+}
+
+/// The sections of the file of an image, where it has no symbol table.
+pub(super) fn sections_of(
+    image: &Image<'_>,
+    symbols: &Symbols<'_>,
+    renamed: &[(BString, BString)],
+    unloaded: &[Unloaded],
+) -> Result<OtherSections, NotAnImage> {
+    Ok(Outputs::of(image, symbols, renamed, unloaded)?.into_sections(Vec::new()))
 }

@@ -6,7 +6,7 @@ use bstr::{BStr, BString, ByteSlice};
 
 use super::super::image::{Image, NotAnImage, Section};
 use super::super::unloaded::Unloaded;
-use super::Symbols;
+use super::{OtherSections, RelocationTable, Symbols};
 use crate::layout::evaluation::{OutputSection, Placed};
 use crate::layout::ids::OutputId;
 use crate::layout::Evaluation;
@@ -18,6 +18,8 @@ pub(super) struct Outputs {
     instead: HashMap<u16, u16>,
     /// Those of GNU ld's file that the image has not.
     missing: Vec<EmptySection>,
+    /// The numbers of those of the image that GNU ld's file has not.
+    dropped: Vec<usize>,
 }
 
 /// An output section without bytes that GNU ld's file has and the image has not.
@@ -67,6 +69,7 @@ impl Outputs {
             numbers: vec![None; symbols.evaluation.outputs.len()],
             instead: HashMap::new(),
             missing: Vec::new(),
+            dropped: Vec::new(),
         };
         let mut wanted: Vec<Wanted<'_>> = Vec::new();
         for id in &symbols.evaluation.order {
@@ -87,6 +90,10 @@ impl Outputs {
         outputs.take_unloaded(&others, unloaded, first_unloaded(image));
         outputs.make_missing(symbols.evaluation, image.sections.len() + unloaded.len());
         outputs.find_instead(&headers, symbols);
+        if symbols.map.is_none() {
+            let empty = headers.iter().filter(|header| header.size == 0);
+            outputs.dropped = empty.map(|header| usize::from(header.output.number)).collect();
+        }
         Ok(outputs)
     }
 
@@ -126,9 +133,9 @@ impl Outputs {
         }
     }
 
-    /// The output sections of GNU ld's file that the image has not.
-    pub(super) fn into_missing(self) -> Vec<EmptySection> {
-        self.missing
+    /// How the sections of the file differ from those of the image (ldlang.c, `strip_excluded_output_sections`).
+    pub(super) fn into_sections(self, relocations: Vec<RelocationTable>) -> OtherSections {
+        OtherSections { relocations, missing: self.missing, dropped: self.dropped }
     }
 
     /// Gives sections that are not loaded their numbers, from the first one on: some of them, in their order.

@@ -23,6 +23,21 @@ pub(in crate::finish) struct SymbolTable {
     pub(in crate::finish) is_of_gnu: bool,
 }
 
+impl SymbolTable {
+    /// By the number of a section, whether a symbol is in it.
+    pub(super) fn homes(&self) -> Vec<bool> {
+        let mut homes = vec![false; usize::from(u16::MAX) + 1];
+        for entry in self.entries.chunks_exact(ENTRY) {
+            if let [_, _, _, _, _, _, low, high, ..] = entry {
+                if let Some(home) = homes.get_mut(usize::from(u16::from_le_bytes([*low, *high]))) {
+                    *home = true;
+                }
+            }
+        }
+        homes
+    }
+}
+
 /// An entry, but for its name.
 #[derive(Clone, Copy, PartialEq, Eq, Debug, Default)]
 pub(super) struct Entry {
@@ -127,6 +142,8 @@ mod tests {
         let entry = &table.entries[48..];
         assert_eq!(entry[..8], [1, 0, 0, 0, 2, 1, 3, 0]);
         assert_eq!((entry[8..16].to_vec(), entry[16]), (0x1000_u64.to_le_bytes().to_vec(), 7));
+        let homes = table.homes();
+        assert!(homes[3] && !homes[2]);
     }
 
     /// elflink.c, `elf_link_output_symstrtab`: `-z unique-symbol`.
