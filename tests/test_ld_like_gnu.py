@@ -164,6 +164,48 @@ class ScriptTest(BesideTest):
                 self.assertFalse((self.folder / "bad").exists())
 
 
+HEADS = """.section .interp,"a"
+.asciz "/lib/interpreter"
+.section .note.one,"a",@note
+.balign 4
+.long 4, 0, 1
+.asciz "one"
+.section .note.two,"a",@note
+.balign 4
+.long 4, 0, 2
+.asciz "two"
+.section .note.wide,"a",@note
+.balign 8
+.long 8, 0, 3
+.asciz "wide..."
+.section .data.rel.ro,"aw"
+.quad _start
+.data
+.quad 5
+.section .note.GNU-stack,"",@progbits
+"""
+
+
+@needs("ld.bfd")
+class ProgramHeadersTest(BesideTest):
+    """Program headers beside those of what is loaded, where the headers of the file are in memory."""
+
+    def test_default_script(self) -> None:
+        """PT_PHDR, PT_INTERP, PT_NOTE, PT_GNU_STACK, PT_GNU_RELRO, as GNU ld writes them."""
+        self.compile("heads.s", START + HEADS)
+        self.compile("plain.s", START + HEADS[HEADS.index(".section .data"):])
+        self.compile("image.s", ".globl more\nmore: .long 1\n")
+        self.must("ld.bfd", "-e", "0", "image.o", "-o", "image")
+        for words in (("heads.o",), ("plain.o",), ("heads.o", "-z", "norelro"), ("heads.o", "-z", "execstack"),
+                      ("-R", "image", "heads.o"), ("plain.o", "image.o")):
+            heads = [[(one.kind, one.rights, one.address, one.load, one.file_size, one.memory_size, one.alignment)
+                      for one in image.segments] for image in self.both(*words)]
+            self.assertEqual(*heads, words)
+        own, gnu = self.both("heads.o", "-z", "noseparate-code")
+        self.assertLess({one.kind for one in own.segments}, {one.kind for one in gnu.segments})
+        self.assertEqual([one[:5] for one in own.segments[:2]], [one[:5] for one in gnu.segments[:2]])
+
+
 @needs("ld.bfd")
 class CrossReferenceTest(OutsideTest):
     """NOCROSSREFS and NOCROSSREFS_TO."""

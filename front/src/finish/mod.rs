@@ -22,7 +22,7 @@ use bstr::BString;
 pub use build_id::{hash_of, place_of_note, HashKind};
 pub use file_image::FileImage;
 pub use flat::NoFlatImage;
-pub use headers::LoadedHeaders;
+pub use headers::{LoadedHeaders, PT_GNU_PROPERTY};
 pub use image::NotAnImage;
 pub use loaded::Differs;
 pub use pages::TooFar;
@@ -136,7 +136,7 @@ pub fn finish(
     }
     rights::write(&mut image, &form.rights)?;
     let mut notes = Vec::new();
-    let mut plan = match (&form.segments, form.headers) {
+    let mut plan = match (&form.segments, &form.headers) {
         (Some(segments), _) => with_segments(&image, form, segments, &mut notes)?,
         (None, Some(headers)) => Some(with_headers(&image, form, headers)?),
         (None, None) => pages::with_pages(&image, form.page, false)?,
@@ -207,7 +207,7 @@ fn with_segments(
 }
 
 /// The file with the program headers of `ldi`, and its own headers in memory.
-fn with_headers(image: &[u8], form: &Form, headers: LoadedHeaders) -> Result<file_image::FilePlan, FinishError> {
+fn with_headers(image: &[u8], form: &Form, headers: &LoadedHeaders) -> Result<file_image::FilePlan, FinishError> {
     let wanted = headers::wanted(image, headers)?;
     program_headers::write(image, &wanted, form.page).map_err(|fault| match fault {
         NotWritten::NotAnImage(fault) => fault.into(),

@@ -34,6 +34,10 @@ pub struct WantedSegment {
     pub has_program_headers: bool,
     /// Where it begins that has the headers alone, and no sections.
     pub address: Option<u64>,
+    /// Its alignment where it is no PT_LOAD; else that of its sections.
+    pub align: Option<u64>,
+    /// Where it ends in memory, past its sections.
+    pub end: Option<u64>,
     /// The names of its sections in the image, in their order.
     pub sections: Vec<BString>,
 }
@@ -197,7 +201,7 @@ fn entries_of<'a>(parts: &[Part<'_>], wanted: &'a [WantedSegment], page: u64) ->
         if mine.is_empty() && wanted.kind != elf::PT_LOAD {
             mine.extend(found.first());
         }
-        let mut most = mine.iter().map(align).max().unwrap_or(WORD);
+        let mut most = wanted.align.unwrap_or_else(|| mine.iter().map(align).max().unwrap_or(WORD));
         if wanted.kind == elf::PT_LOAD {
             most = most.max(page);
         }
@@ -344,8 +348,19 @@ impl Writer<'_> {
             segment.file_size = end.saturating_sub(segment.offset);
             segment.memory_size =
                 parts().map(|part| part.header.end()).max().unwrap_or(0).wrapping_sub(segment.address);
+            if let Some(end) = entry.wanted.end {
+                segment.memory_size = end.wrapping_sub(segment.address);
+                segment.file_size = segment.memory_size.min(self.file_room(segment.address));
+            }
         }
         segment
+    }
+
+    /// How many bytes the PT_LOAD of an address has in the file from there on.
+    fn file_room(&self, address: u64) -> u64 {
+        let loads = self.entries.iter().filter(|entry| entry.is_load()).map(|entry| self.written(entry));
+        let mut at = loads.filter_map(|load| Some((address.checked_sub(load.address)?, load)));
+        at.find(|(at, load)| *at < load.memory_size).map_or(0, |(at, load)| load.file_size.saturating_sub(at))
     }
 
     /// Lets the first PT_LOAD begin with the headers.
@@ -377,16 +392,22 @@ impl Writer<'_> {
             return Err(NotWritten::OtherHeaders(name()));
         }
         let mut loads = self.entries.iter().filter(|one| one.is_load() && one.wanted.has_program_headers);
-        let first = loads.next().and_then(|load| self.part(*load.parts.first()?));
-        let first = first.ok_or_else(|| NotWritten::NotLoaded(name()))?;
-        let before = first.place.unwrap_or(0).wrapping_sub(ELF_HEADER);
+        let load = loads.next().ok_or_else(|| NotWritten::NotLoaded(name()))?;
+        let (address, load) = match (load.parts.first().and_then(|at| self.part(*at)), load.wanted.address) {
+            (Some(first), _) => {
+                let before = first.place.unwrap_or(0).wrapping_sub(ELF_HEADER);
+                (first.header.address.wrapping_sub(before), first.load.wrapping_sub(before))
+            }
+            (None, Some(start)) => (start.wrapping_add(ELF_HEADER), start.wrapping_add(ELF_HEADER)),
+            (None, None) => return Err(NotWritten::NotLoaded(name())),
+        };
         let size = PROGRAM_HEADER * self.entries.len() as u64;
         Ok(Segment {
             kind: elf::PT_PHDR,
             flags,
             offset: ELF_HEADER,
-            address: first.header.address.wrapping_sub(before),
-            load: first.load.wrapping_sub(before),
+            address,
+            load,
             file_size: size,
             memory_size: size,
             align: WORD,

@@ -59,11 +59,20 @@ impl Link<'_> {
     /// How many GNU ld counts with before it knows (elf.c, `get_program_header_size`).
     fn guess_headers(&self) -> u64 {
         let has_tls = self.places().any(|(_, place)| place.flags.has(Flags::TLS));
-        2 + u64::from(self.headers.has_relro)
+        2 + 2 * u64::from(self.has_interpreter())
+            + u64::from(self.headers.has_relro)
             + u64::from(self.headers.has_stack)
             + u64::from(self.has_properties())
             + self.note_headers(false)
             + u64::from(has_tls)
+    }
+
+    /// Whether there is something for PT_INTERP, with which there is PT_PHDR too.
+    fn has_interpreter(&self) -> bool {
+        self.places().any(|(id, place)| {
+            let is_it = |output: &super::program::Output| self.program.names.get(output.name) == ".interp";
+            place.size != 0 && place.flags.has(Flags::LOAD) && self.output(id).map_or(false, is_it)
+        })
     }
 
     fn has_properties(&self) -> bool {
@@ -108,7 +117,7 @@ impl Link<'_> {
             return count;
         }
         let loads = Loads::new(self);
-        let mut count = loads.count(self) + self.note_headers(true);
+        let mut count = loads.count(self) + 2 * u64::from(self.has_interpreter()) + self.note_headers(true);
         count += u64::from(self.places().any(|(_, place)| place.flags.has(Flags::TLS)));
         count += u64::from(self.has_properties()) + u64::from(self.headers.has_stack);
         if let (true, Some((low, high))) = (self.headers.has_relro, self.headers.relro) {

@@ -190,6 +190,20 @@ fn words_of(text: &[u8]) -> Option<Vec<OsString>> {
     quote.is_none().then(|| words.into_iter().map(OsString::from_vec).collect())
 }
 
+/// The words without those that `ld.ldi` alone knows.
+fn of_others(words: &[OsString]) -> Vec<&OsStr> {
+    let (mut found, mut words) = (Vec::with_capacity(words.len()), words.iter());
+    while let Some(word) = words.next() {
+        match word.as_bytes().strip_prefix(b"-").map(|rest| rest.strip_prefix(b"-").unwrap_or(rest)) {
+            Some(b"no-server") => {}
+            Some(b"Map-format") => drop(words.next()),
+            Some(name) if name.starts_with(b"Map-format=") => {}
+            _ => found.push(word.as_os_str()),
+        }
+    }
+    found
+}
+
 /// Runs the other linker in place of this process, with the same words; gives a status where there is none.
 ///
 /// That it does is said once a build for reasons of one kind, and always if `is_verbose`.
@@ -223,7 +237,7 @@ pub(super) fn hand_over(
     }
     // What leads back here ends here.
     let mut process = Process::new(&path);
-    process.arg0(&name).args(program.get(1..).unwrap_or_default()).args(words).env(VARIABLE, NONE);
+    process.arg0(&name).args(program.get(1..).unwrap_or_default()).args(of_others(words)).env(VARIABLE, NONE);
     let fault = process.exec();
     let why = fault.to_string();
     let why = why.split(" (os error").next().unwrap_or_default();
@@ -251,6 +265,12 @@ mod tests {
         assert_eq!(words("").unwrap(), Vec::<OsString>::new());
         assert_eq!(words("''").unwrap(), [""]);
         assert_eq!(words("'a"), None);
+    }
+
+    #[test]
+    fn own_words_are_not_passed_on() {
+        let words = ["-r", "--no-server", "-no-server", "a.o", "--Map-format", "ldi", "--Map-format=gnu", "-Map=m"];
+        assert_eq!(of_others(&words.map(OsString::from)), ["-r", "a.o", "-Map=m"]);
     }
 
     #[test]

@@ -126,8 +126,7 @@ fn header_of(walk: &Walk<'_>, header: &Spanned<ProgramHeader>) -> Result<WantedS
         load: node.load_address.as_ref().map(|e| value(e, "AT")).transpose()?,
         has_file_header: node.has_file_header,
         has_program_headers: node.has_program_headers,
-        address: None,
-        sections: Vec::new(),
+        ..WantedSegment::default()
     })
 }
 
