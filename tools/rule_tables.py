@@ -164,7 +164,7 @@ def front(rules: Rules) -> str:
               *_texts("OBJECTS", _sentences(rules, "object"),
                       "What docs/objects.md says of each number, for where `readobj` cannot be had."),
               *_texts("SCRIPTS", _sentences(rules, "script"),
-                      "What docs/scripts.md says of each number, for where `readscript` cannot be had."),
+                      "What docs/scripts.md says of each number."),
               "/// The words that scripts of the profile keep for themselves.", "#[rustfmt::skip]",
               "pub const RESERVED: &[&str] = &["]
     words = textwrap.wrap(" ".join(f'"{row.word}",' for row in rules.reserved), LONGEST - 4)

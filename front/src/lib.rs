@@ -36,6 +36,7 @@ pub mod mirror;
 pub mod objects;
 mod parallel;
 pub mod place;
+pub mod profile;
 mod quick;
 pub mod report;
 pub mod residual;

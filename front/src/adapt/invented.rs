@@ -9,7 +9,8 @@ use object::elf;
 
 use crate::layout::{evaluate, Evaluation, Settings, Stop};
 use crate::objects::{Object, Origin};
-use crate::residual::{for_each_assignment, for_each_expression, is_of_linker, is_unloaded_name, matches_word};
+use crate::profile::words::matches as matches_word;
+use crate::residual::{for_each_assignment, for_each_expression, is_of_linker, is_unloaded_name};
 use crate::script::tree::{
     ExprKind, InputStatement, Name, Provision, Script, SectionStatement, SectionsStatement, Statement,
 };

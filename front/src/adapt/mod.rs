@@ -67,7 +67,21 @@ fn file_fault(path: &Path, error: &std::io::Error) -> AdaptFault {
 fn run(words: &[OsString], environment: &Environment) -> Result<u8, AdaptFault> {
     let call = Call::read(words)?;
     let objects = call.objects.as_ref().map(|paths| read_objects(paths)).transpose()?;
-    let reading = read_script(&call)?;
+    let text = std::fs::read(&call.script).map_err(|error| file_fault(&call.script, &error))?;
+    if call.is_check {
+        let refused = refusal::of_given(&call, &text, environment);
+        refused.iter().for_each(|line| eprintln!("{line}"));
+        if !refused.is_empty() {
+            return Ok(2);
+        }
+    }
+    let reading = match read_script(&call, text) {
+        Err(AdaptFault::Script(error)) if call.is_check => {
+            eprintln!("{}: changed: ldi takes it, and GNU ld refuses it: {}", error.place(), error.kind());
+            return Ok(1);
+        }
+        read => read?,
+    };
     let (result, evaluation) = writing::adapted(&reading, objects.as_deref());
     for note in &result.notes {
         eprintln!("{note}");
@@ -84,6 +98,7 @@ fn run(words: &[OsString], environment: &Environment) -> Result<u8, AdaptFault> 
         status = 2;
     }
     match &call.out {
+        _ if call.is_check => {}
         Some(path) => write_file(path, &[&result.text], TEXT, PipeReader::IsWaitedFor)
             .map_err(|fault| AdaptFault::File(path.display().to_string(), plain(&fault.fault)))?,
         None => std::io::stdout()
@@ -123,12 +138,9 @@ fn read_objects(paths: &[PathBuf]) -> Result<Vec<Object>, AdaptFault> {
 }
 
 /// Reads the script with what it includes, after the assignments of `--defsym`.
-fn read_script(call: &Call) -> Result<Reading, AdaptFault> {
-    let text = std::fs::read(&call.script).map_err(|error| file_fault(&call.script, &error))?;
-    let mut folders = call.folders.clone();
-    folders.push(call.script.parent().map_or_else(PathBuf::new, Path::to_owned));
+fn read_script(call: &Call, text: Vec<u8>) -> Result<Reading, AdaptFault> {
     let mut files = Disk;
-    let mut reader = Reader::new(&mut files, folders);
+    let mut reader = Reader::new(&mut files, call.all_folders());
     for defsym in &call.defsyms {
         reader.defsym(defsym)?;
     }

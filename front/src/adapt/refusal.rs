@@ -1,4 +1,4 @@
-//! Where `readscript` refuses an adapted script, if it can be had.
+//! Where `readscript` refuses a script, if it can be had: a given one, or the adapted one.
 
 use std::os::unix::ffi::OsStrExt;
 use std::path::Path;
@@ -6,17 +6,20 @@ use std::process::{Command, Stdio};
 
 use bstr::ByteSlice;
 
+use super::words::Call;
 use crate::mirror::Refusal;
 use crate::plan::{find_program, Environment};
-use crate::report::rules::NOT_A_SCRIPT;
+use crate::profile::{objections, refused_for};
+use crate::report::rules::{NOT_A_SCRIPT, SCRIPTS};
 use crate::report::{refusals_of_script, RefusedInput};
 use crate::residual::Residual;
+use crate::script::Disk;
 
 /// The places and sentences of what is refused, in the words of the script that was adapted.
 pub(super) fn lines(script: &Path, result: &Residual, environment: &Environment) -> Vec<String> {
-    let inner = match refused(&result.text, environment) {
-        Some(inner) => inner,
-        None => return Vec::new(),
+    let inner = match judged(&result.text, environment) {
+        Some(Judgement::Refused(inner)) => inner,
+        _ => return Vec::new(),
     };
     let ldi = find_program("ldi", environment);
     let input = RefusedInput {
@@ -31,15 +34,44 @@ pub(super) fn lines(script: &Path, result: &Residual, environment: &Environment)
     found.into_iter().map(|one| format!("{}: {}", at(one.line), one.sentence)).collect()
 }
 
-/// The number of the refusal, as `readscript` says it.
-fn refused(text: &[u8], environment: &Environment) -> Option<u32> {
+/// The places and sentences for which a given script is refused; none where it is not. Where `readscript` cannot be had,
+/// all that the profile has not counts.
+pub(super) fn of_given(call: &Call, text: &[u8], environment: &Environment) -> Vec<String> {
+    let judgement = judged(text, environment);
+    if judgement == Some(Judgement::Accepted) {
+        return Vec::new();
+    }
+    let mut found = objections(&call.script, text, &mut Disk, call.all_folders());
+    let mut lines = Vec::new();
+    if let Some(Judgement::Refused(number)) = judgement {
+        found = refused_for(found, number);
+        let sentence = SCRIPTS.iter().find(|(own, _)| *own == number).map_or("", |(_, sentence)| *sentence);
+        lines.push(format!("{}: refused 5 {number}: {sentence}", call.script.display()));
+    }
+    lines.extend(found.into_iter().map(|one| format!("{}: refused: {}", one.place, one.sentence)));
+    lines
+}
+
+/// What `readscript` says of a text.
+#[derive(Clone, Copy, PartialEq, Eq, Debug)]
+enum Judgement {
+    Accepted,
+    Refused(u32),
+}
+
+fn judged(text: &[u8], environment: &Environment) -> Option<Judgement> {
     let path = std::env::temp_dir().join(format!("ldi-adapt-{}", std::process::id()));
     std::fs::write(&path, text).ok()?;
     let done = Command::new(find_program("readscript", environment)).arg(&path).stdin(Stdio::null()).output();
     // The file is in a folder that the system clears where it cannot be removed.
     let _ = std::fs::remove_file(&path);
-    let done = done.ok().filter(|done| done.status.code() == Some(1))?;
+    let done = done.ok()?;
+    match done.status.code()? {
+        0 => return Some(Judgement::Accepted),
+        1 => {}
+        _ => return None,
+    }
     let said = done.stdout.find(b": refused 5 ").and_then(|at| done.stdout.get(at + b": refused 5 ".len()..))?;
     let digits: String = said.iter().map(|byte| char::from(*byte)).take_while(char::is_ascii_digit).collect();
-    digits.parse().ok()
+    digits.parse().ok().map(Judgement::Refused)
 }

@@ -2,18 +2,19 @@
 
 use std::ffi::{OsStr, OsString};
 use std::os::unix::ffi::OsStrExt;
-use std::path::PathBuf;
+use std::path::{Path, PathBuf};
 
 use bstr::ByteSlice;
 
 /// What is printed for `--help`.
 pub(super) const USAGE: &str = "\
-usage: ldi-adapt SCRIPT [-o OUT] [-L DIR].. [--defsym SYMBOL=EXPRESSION].. [--objects OBJECT.. | @LIST]
+usage: ldi-adapt SCRIPT [-o OUT | --check] [-L DIR].. [--defsym SYMBOL=EXPRESSION].. [--objects OBJECT.. | @LIST]
 
 Rewrites a linker script of GNU ld into the profile of ldi, and reports on standard error what it did:
 dropped, rewritten, changed, left. Status 0: nothing is changed or left; 1: changed; 2: left, or no parse.
 
   -o OUT                      the file to write; without it standard output
+  --check                     no script is written: why ldi refuses SCRIPT (status 2), or else the report alone
   -L DIR                      where INCLUDE looks, after the current folder
   --defsym SYMBOL=EXPRESSION  an assignment before the script's
   --objects OBJECT..          the objects of the link: all words that follow, up to the next option
@@ -33,6 +34,8 @@ pub(super) enum WordsRefused {
     TooMany(String),
     #[error("{0} has no value")]
     NoValue(String),
+    #[error("--check writes no script, and -o names one")]
+    NoOut,
     #[error("--defsym {0}: SYMBOL=EXPRESSION is expected")]
     Defsym(String),
     #[error("{0}: {1}")]
@@ -44,12 +47,20 @@ pub(super) enum WordsRefused {
 pub(super) struct Call {
     pub(super) script: PathBuf,
     pub(super) out: Option<PathBuf>,
+    /// Whether the script is looked at alone.
+    pub(super) is_check: bool,
     pub(super) folders: Vec<PathBuf>,
     pub(super) defsyms: Vec<Vec<u8>>,
     pub(super) objects: Option<Vec<PathBuf>>,
 }
 
 impl Call {
+    /// Where INCLUDE looks after the current folder: those of -L, and the script's own.
+    pub(super) fn all_folders(&self) -> Vec<PathBuf> {
+        let own = self.script.parent().map_or_else(PathBuf::new, Path::to_owned);
+        self.folders.iter().cloned().chain(std::iter::once(own)).collect()
+    }
+
     /// Reads the words.
     pub(super) fn read(words: &[OsString]) -> Result<Call, WordsRefused> {
         let mut call = Call::default();
@@ -60,6 +71,7 @@ impl Call {
             let mut value = || rest.next().ok_or_else(|| WordsRefused::NoValue(shown()));
             match bytes {
                 b"-o" => call.out = Some(value()?.into()),
+                b"--check" => call.is_check = true,
                 b"-L" => call.folders.push(value()?.into()),
                 b"--defsym" => call.defsyms.push(defsym(value()?.as_bytes())?),
                 b"--objects" => {
@@ -81,6 +93,7 @@ impl Call {
         }
         match call.script.as_os_str().is_empty() {
             true => Err(WordsRefused::NoScript),
+            false if call.is_check && call.out.is_some() => Err(WordsRefused::NoOut),
             false => Ok(call),
         }
     }
@@ -130,6 +143,8 @@ mod tests {
         assert_eq!(read(&["a", "b"]), Err(WordsRefused::TooMany("b".into())));
         assert_eq!(read(&["a", "--none"]), Err(WordsRefused::NoOption("--none".into())));
         assert_eq!(read(&["a", "-o"]), Err(WordsRefused::NoValue("-o".into())));
+        assert_eq!(read(&["a", "--check", "-o", "b"]), Err(WordsRefused::NoOut));
+        assert!(read(&["--check", "a"]).unwrap().is_check);
         assert_eq!(read(&["a", "--defsym", "x"]), Err(WordsRefused::Defsym("x".into())));
     }
 }

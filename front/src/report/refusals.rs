@@ -1,5 +1,5 @@
 //! Messages of refused edits (docs/manual.md, 'Refusals'): for an object the section, symbol or relocation that is to
-//! blame, else what `readobj` and `readscript` say.
+//! blame, else what `readobj` says; for a script the places that its profile has not.
 
 use std::collections::HashSet;
 use std::ffi::{OsStr, OsString};
@@ -22,9 +22,10 @@ use super::rules::{EDITS, LIMIT, NOT_AN_OBJECT, NOT_A_SCRIPT, OBJECTS, RELOCATIO
 use super::Diagnostic;
 use crate::mirror::{Refusal, GREATEST_NAME, GREATEST_PAYLOAD};
 use crate::objects::{Object, Relocation, Section, SectionFlags, SymbolKind};
+use crate::profile::{objections, refused_for, Objection};
 use crate::script::Place;
 
-/// How long `readobj` or `readscript` may take.
+/// How long `readobj` may take.
 const PATIENCE: Duration = Duration::from_secs(10);
 /// The places of a refusal that are said.
 const MOST_PLACES: usize = 20;
@@ -51,7 +52,7 @@ pub struct RefusedInput<'a> {
     pub refusal: Refusal,
     /// What was sent, if it is there.
     pub data: Option<&'a [u8]>,
-    /// The program `ldi`: `readobj` and `readscript` are looked for beside it.
+    /// The program `ldi`: `readobj` is looked for beside it.
     pub ldi: &'a OsStr,
 }
 
@@ -65,7 +66,7 @@ pub fn refusals_of_object(input: &RefusedInput<'_>, object: Option<&Object>) -> 
     if !places.is_empty() {
         return places.into_iter().map(|diagnostic| finished(diagnostic, input)).collect();
     }
-    let mut reasons = reasons("readobj", input);
+    let mut reasons = reasons_of_object(input);
     if reasons.is_empty() {
         reasons.push(sentence_of(OBJECTS, input.refusal.inner).unwrap_or_else(|| edit_sentence(NOT_AN_OBJECT)));
     }
@@ -87,21 +88,22 @@ pub fn refusals_of_script(input: &RefusedInput<'_>, origin_of: &dyn Fn(u32) -> O
     if input.refusal.number != NOT_A_SCRIPT {
         return vec![finished(of_edit(input), input)];
     }
-    let mut reasons = reasons("readscript", input);
-    if reasons.is_empty() {
-        reasons.push(sentence_of(SCRIPTS, input.refusal.inner).unwrap_or_else(|| edit_sentence(NOT_A_SCRIPT)));
-    }
-    let lines = Lines::new(input.data.unwrap_or_default());
-    let at_line = |reason: String| match of_line(&reason) {
-        Some((line, reason)) => {
-            let place = origin(Path::new(OsStr::from_bytes(input.name)), origin_of, line);
-            let mut diagnostic = Diagnostic::error(reason).at(&place);
-            diagnostic.excerpt = lines.excerpt(line);
-            diagnostic
-        }
-        None => Diagnostic::error(reason),
+    let path = Path::new(OsStr::from_bytes(input.name));
+    let data = input.data.unwrap_or_default();
+    let found = objections(path, data, &mut |_: &Path| Ok(Vec::new()), Vec::new());
+    let lines = Lines::new(data);
+    let at_line = |one: Objection| {
+        let mut diagnostic = Diagnostic::error(one.sentence).at(&origin(path, origin_of, one.place.line));
+        diagnostic.excerpt = lines.excerpt(one.place.line);
+        diagnostic
     };
-    reasons.into_iter().map(|reason| finished(at_line(reason), input)).collect()
+    let found = refused_for(found, input.refusal.inner).into_iter().take(MOST_PLACES);
+    let mut said: Vec<Diagnostic> = found.map(at_line).collect();
+    if said.is_empty() {
+        let sentence = sentence_of(SCRIPTS, input.refusal.inner).unwrap_or_else(|| edit_sentence(NOT_A_SCRIPT));
+        said.push(Diagnostic::error(sentence));
+    }
+    said.into_iter().map(|one| finished(one, input)).collect()
 }
 
 /// The first of several messages, which says how many there are beside it.
@@ -151,12 +153,6 @@ fn of_edit(input: &RefusedInput<'_>) -> Diagnostic {
         }
         None => Diagnostic::error(edit_sentence(LIMIT)),
     }
-}
-
-/// `line N: reason`
-fn of_line(reason: &str) -> Option<(u32, String)> {
-    let (number, reason) = reason.strip_prefix("line ")?.split_once(": ")?;
-    Some((number.parse().ok()?, reason.to_owned()))
 }
 
 // What an object has that is not linked
@@ -247,11 +243,11 @@ fn of_relocations(object: &Object, is_meant: &dyn Fn(Need) -> bool) -> Vec<Diagn
     found
 }
 
-// What `readobj` and `readscript` say
+// What `readobj` says
 
-/// What a program says of refused bytes, a reason for each place; none where it cannot be asked, or says another number.
-fn reasons(program: &str, input: &RefusedInput<'_>) -> Vec<String> {
-    let output = input.data.and_then(|data| ask(&beside(input.ldi, program), data)).unwrap_or_default();
+/// What `readobj` says of refused bytes, a reason for each place; none where it cannot be asked, or says another number.
+fn reasons_of_object(input: &RefusedInput<'_>) -> Vec<String> {
+    let output = input.data.and_then(|data| ask(&beside(input.ldi, "readobj"), data)).unwrap_or_default();
     let mut lines = output.lines();
     let Refusal { number, inner } = input.refusal;
     let is_same = lines.next().map_or(false, |line| line.ends_with_str(format!(": refused {number} {inner}")));

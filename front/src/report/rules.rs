@@ -170,7 +170,7 @@ pub const OBJECTS: &[(u32, &str)] = &[
     (13, "the fields of two relocations share a byte"),
 ];
 
-/// What docs/scripts.md says of each number, for where `readscript` cannot be had.
+/// What docs/scripts.md says of each number.
 #[rustfmt::skip]
 pub const SCRIPTS: &[(u32, &str)] = &[
     (1, "somewhere no token begins, or a comment or string has no end"),

@@ -138,7 +138,7 @@ impl<'a> Walk<'a> {
             let symbol = self.request.evaluation.and_then(|evaluation| evaluation.symbol(&name));
             let symbol = symbol.filter(|symbol| symbol.definer == Definer::Linker);
             let value = symbol.and_then(|symbol| symbol.value).map(|value| value.address);
-            if value != Some(wanted) || !super::profile::is_name(&name) {
+            if value != Some(wanted) || !crate::profile::words::is_name(&name) {
                 return String::new();
             }
             let text = format!("PROVIDE({name} = .)");
@@ -378,7 +378,7 @@ impl<'a> Walk<'a> {
             let name = evaluation.section_name(one);
             let key = (one.object, one.name, needs_keep);
             if before != Some(key) {
-                match (super::profile::word_of_name(object), super::profile::word_of_name(name)) {
+                match (crate::profile::words::word_of_name(object), crate::profile::words::word_of_name(name)) {
                     (Some(object), Some(name)) => {
                         let own = format!("{}({})", object.to_str_lossy(), name.to_str_lossy());
                         text.push(if is_kept || needs_keep { format!("KEEP({own})") } else { own });
@@ -433,7 +433,7 @@ impl<'a> Walk<'a> {
             None => {
                 let plain = body.name.to_str_lossy().trim_start_matches('.').to_owned();
                 let wish = format!("ldi.start.{plain}");
-                let wish = if super::profile::is_name(wish.as_bytes()) { wish } else { "ldi.start".into() };
+                let wish = if crate::profile::words::is_name(wish.as_bytes()) { wish } else { "ldi.start".into() };
                 let name = self.versions.fresh(&wish);
                 body.start_symbol = Some((name.clone(), false));
                 name

@@ -2,7 +2,7 @@
 
 use bstr::ByteSlice;
 
-use super::profile::{begins_name, is_in_name};
+use crate::profile::words::{begins_name, is_in_name};
 use crate::script::tree::{BinaryOperator, Expr, ExprKind, Function, Name, Query, Span, UnaryOperator};
 
 /// An expression of more signs than this is shortened; the profile's limit is 64 in a run.

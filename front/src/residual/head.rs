@@ -6,12 +6,12 @@ use object::elf;
 use super::body::Body;
 use super::expression::{binary, children, made, number, says, uses_dot};
 use super::note::{NoteKind, Topic};
-use super::profile::is_name;
 use super::rules::Reasons;
 use super::top::whole_value;
 use super::walk::{At, Done, Memory, Settled, Walk};
 use crate::layout::evaluation::{InputSection, OutputSection as Output, Placed, StatementKind};
 use crate::layout::Flags;
+use crate::profile::words::is_name;
 use crate::script::tree::{
     Assignment, BinaryOperator, Expr, ExprKind, Fill, Function, Name, OutputSection, Query, SectionStatement,
     SectionType, Span,

@@ -9,12 +9,12 @@ use object::elf;
 use super::head::is_linked;
 use super::inserted::ranks;
 use super::note::NoteKind;
-use super::profile::{is_word, matches, word_of, word_of_name};
 use super::walk::Walk;
 use crate::layout::evaluation::StatementKind;
 use crate::layout::has_wildcard;
 use crate::layout::ids::{SectionId, StatementId};
 use crate::layout::settings::SectionSort;
+use crate::profile::words::{is_word, matches, word_of, word_of_name};
 use crate::script::tree::{InputStatement, Name, Pattern, Sort, Span, Spanned};
 
 /// The sorts of the profile.

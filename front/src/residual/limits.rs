@@ -1,59 +1,12 @@
-//! The limits of the profile on a run of signs (docs/limits.md, 'Scripts'), and comments of `#`.
+//! The limits of the profile on a run of signs (docs/limits.md, 'Scripts').
 
 use super::edits::Rendered;
+use crate::profile::text::{pieces, Piece};
 
 /// The signs of a run after which a `;` parts statements; the profile's limit is 64.
 const MOST: usize = 40;
 /// The statements after which a `;` may stand, that need none.
 const PARTED: [&[u8]; 3] = [b"ASSERT", b"PROVIDE", b"ENTRY"];
-
-/// A piece of a text.
-#[derive(Clone, Copy, PartialEq, Eq, Debug)]
-enum Piece {
-    Comment,
-    Text,
-    Word,
-    Other(u8),
-}
-
-/// The pieces of a text with their places; white space is none.
-fn pieces(text: &[u8]) -> impl Iterator<Item = (usize, usize, Piece)> + '_ {
-    let mut at = 0;
-    std::iter::from_fn(move || {
-        while text.get(at)?.is_ascii_whitespace() {
-            at += 1;
-        }
-        let start = at;
-        let rest = text.get(at..)?;
-        let first = *rest.first()?;
-        let is_in_word = |byte: &u8| byte.is_ascii_alphanumeric() || b"_.$".contains(byte);
-        let (length, piece) = match first {
-            b'/' if rest.starts_with(b"/*") => {
-                let end = memchr::memmem::find(rest.get(2..)?, b"*/").map_or(rest.len(), |end| end + 4);
-                (end, Piece::Comment)
-            }
-            b'"' => (memchr::memchr(b'"', rest.get(1..)?).map_or(rest.len(), |end| end + 2), Piece::Text),
-            byte if is_in_word(&byte) => (rest.iter().take_while(|byte| is_in_word(byte)).count(), Piece::Word),
-            byte => (1, Piece::Other(byte)),
-        };
-        at += length;
-        Some((start, at, piece))
-    })
-}
-
-/// The comments of `#`, which the profile has not: from the sign to before the end of the line.
-pub(super) fn hash_comments(text: &[u8]) -> Vec<(usize, usize)> {
-    let mut found = Vec::new();
-    let mut after = 0;
-    for (start, _, piece) in pieces(text) {
-        if piece == Piece::Other(b'#') && start >= after {
-            let rest = text.get(start..).unwrap_or_default();
-            after = start + memchr::memchr(b'\n', rest).unwrap_or(rest.len());
-            found.push((start, after));
-        }
-    }
-    found
-}
 
 /// The text with a `;` between statements of long runs.
 pub(super) fn parted(rendered: Rendered) -> Rendered {
@@ -94,12 +47,6 @@ pub(super) fn parted(rendered: Rendered) -> Rendered {
 #[cfg(test)]
 mod tests {
     use super::*;
-
-    #[test]
-    fn a_comment_of_a_line() {
-        assert_eq!(hash_comments(b"a = 1; # one # two\nb /* # */ \"#\""), [(7, 18)]);
-        assert_eq!(hash_comments(b"# all"), [(0, 5)]);
-    }
 
     #[test]
     fn long_runs_are_parted() {

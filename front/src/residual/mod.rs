@@ -16,7 +16,6 @@ mod items;
 mod limits;
 mod note;
 mod orphans;
-mod profile;
 mod relative;
 mod rules;
 mod segments;
@@ -39,7 +38,6 @@ pub use aliases::Alias;
 pub(crate) use head::{is_of_linker, is_unloaded as is_unloaded_name};
 pub(crate) use items::{for_each_assignment, for_each_expression};
 pub use note::{Note, NoteKind, Topic};
-pub(crate) use profile::{is_name as is_profile_name, matches as matches_word};
 
 /// The entry symbol of an image whose entry no name has.
 pub const NUMBER_ENTRY: &str = "ld.ldi.entry";

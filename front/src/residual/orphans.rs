@@ -201,7 +201,7 @@ impl<'a> Walk<'a> {
             end = one.offset.wrapping_add(one.size);
             has_bytes |= one.size > 0 && super::head::has_bytes(one);
         }
-        let word = super::profile::word_of_name(evaluation.names.get(name))?;
+        let word = crate::profile::words::word_of_name(evaluation.names.get(name))?;
         Some((format!("*({})", String::from_utf8_lossy(&word)), end, has_bytes))
     }
 }

@@ -5,12 +5,12 @@ use bstr::{BStr, ByteSlice};
 use super::expression::{any, made, says, uses_dot, with_dot, written};
 use super::note::{NoteKind, Topic};
 use super::orphans::{Extent, Orphans};
-use super::profile::is_name;
 use super::relative::Inside;
 use super::rules::updated;
 use super::walk::{At, Memory, Settled, Waiting, Walk};
 use super::NUMBER_ENTRY;
 use crate::layout::evaluation::{Definer, StatementKind};
+use crate::profile::words::is_name;
 use crate::script::tree::{
     Assertion, AssignOperator, Assignment, BinaryOperator, Expr, ExprKind, MemoryRegion, Name, Provision, Query,
     SectionsStatement, Setting, Span, Spanned, Statement,

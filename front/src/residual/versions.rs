@@ -6,7 +6,7 @@ use bstr::{BString, ByteSlice};
 
 use super::expression::children;
 use super::items::{for_each_assignment, for_each_expression};
-use super::profile::{begins_name, is_in_name};
+use crate::profile::words::{begins_name, is_in_name};
 use crate::script::tree::{AssignOperator, Assignment, Expr, ExprKind, Name, Script, Span};
 
 /// One assignment of a symbol.

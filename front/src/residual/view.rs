@@ -2,9 +2,9 @@
 
 use super::expression::Known;
 use super::items::for_each_assignment;
-use super::profile::is_name;
 use super::rules::Around;
 use super::walk::{At, Walk};
+use crate::profile::words::is_name;
 use crate::script::tree::{Expr, ExprKind, Name, Provision, Query, Statement};
 use bstr::ByteSlice;
 

@@ -6,7 +6,7 @@ use bstr::{BStr, BString, ByteSlice};
 
 use super::edits::Edits;
 use super::expression::{any, is_short, number, says, value, write};
-use super::limits::{hash_comments, parted};
+use super::limits::parted;
 use super::note::{Note, NoteKind, Topic};
 use super::orphans::{Extent, Orphans};
 use super::relative::Inside;
@@ -17,6 +17,7 @@ use super::{segments, Request, Residual};
 use crate::layout::evaluation::{Definer, InputSection, Statement, StatementKind};
 use crate::layout::ids::{OutputId, SectionId};
 use crate::layout::Evaluation;
+use crate::profile::text::hash_comments;
 use crate::script::tree::{Assignment, Expr, ExprKind, Name, Provision, Query, Script, Span};
 
 /// An output section that is complete, as the profile has it.
@@ -188,7 +189,7 @@ impl<'a> Walk<'a> {
         };
         let end = u32::try_from(self.text.len()).unwrap_or(u32::MAX);
         for symbol in evaluation.symbols.iter().filter(|symbol| symbol.definer == Definer::Linker) {
-            let value = symbol.value.filter(|_| symbol.is_in_objects && super::profile::is_name(&symbol.name));
+            let value = symbol.value.filter(|_| symbol.is_in_objects && crate::profile::words::is_name(&symbol.name));
             if let (Some(value), false) = (value, self.symbols.contains_key(&symbol.name)) {
                 self.edits.insert(end, i32::MAX - 2, format!(" {} = {:#x};", symbol.name, value.address));
             }
@@ -275,7 +276,7 @@ impl<'a> Walk<'a> {
         let asserts: Vec<String> = self
             .foreign
             .iter()
-            .filter(|(name, _)| super::profile::is_name(name))
+            .filter(|(name, _)| crate::profile::words::is_name(name))
             .map(|(name, value)| format!("ASSERT({name} == {value:#x}, \"{name} moved\")\n"))
             .collect();
         if !asserts.is_empty() {

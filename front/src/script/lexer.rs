@@ -5,6 +5,7 @@ use std::path::PathBuf;
 
 use bstr::{BString, ByteSlice};
 
+use super::dialect::{self, Dialect};
 use super::error::{ErrorKind, ScriptError, Warning, WarningKind};
 use super::source::Source;
 use super::tree::Span;
@@ -96,6 +97,8 @@ pub(super) struct Lexer {
     pub warnings: Vec<Warning>,
     /// Whether a character that begins nothing is an error: the text may be no script at all.
     pub is_strict: bool,
+    /// How names are told from marks.
+    pub dialect: Dialect,
     frames: Vec<Frame>,
     seen: Option<(State, Token)>,
     /// The length of the text with all of the files that are open.
@@ -257,7 +260,11 @@ impl Lexer {
                 Err(open) => return Err(self.error_in(file, base, open, ErrorKind::OpenComment)),
             };
             let rest = text.get(start..).unwrap_or_default();
-            let found = if rest.is_empty() { Some((Kind::End, 0)) } else { scan(state, rest) };
+            let found = match self.dialect {
+                _ if rest.is_empty() => Some((Kind::End, 0)),
+                Dialect::Gnu => scan(state, rest),
+                Dialect::Profile => dialect::scan(state, rest),
+            };
             let invalid = rest.first().copied().unwrap_or(0);
             match found {
                 Some((kind, length)) => {
@@ -329,7 +336,7 @@ pub(super) fn scan(state: State, rest: &[u8]) -> Option<(Kind, usize)> {
     best
 }
 
-fn run(text: &[u8], is_in: impl Fn(u8) -> bool) -> usize {
+pub(super) fn run(text: &[u8], is_in: impl Fn(u8) -> bool) -> usize {
     text.iter().position(|byte| !is_in(*byte)).unwrap_or(text.len())
 }
 
@@ -337,15 +344,15 @@ fn is_symbol_byte(byte: u8) -> bool {
     matches!(byte, b'_' | b'a'..=b'z' | b'A'..=b'Z' | b'0'..=b'9' | b'/' | b'.' | b'\\' | b'$' | b'~')
 }
 
-fn is_file_byte(byte: u8) -> bool {
+pub(super) fn is_file_byte(byte: u8) -> bool {
     is_symbol_byte(byte) || matches!(byte, b'-' | b'+' | b':' | b'[' | b']' | b',' | b'=')
 }
 
-fn is_wild_byte(byte: u8) -> bool {
+pub(super) fn is_wild_byte(byte: u8) -> bool {
     is_file_byte(byte) || matches!(byte, b'?' | b'*' | b'^' | b'!')
 }
 
-fn is_file_start(byte: u8) -> bool {
+pub(super) fn is_file_start(byte: u8) -> bool {
     is_symbol_byte(byte) && !byte.is_ascii_digit()
 }
 
@@ -397,7 +404,7 @@ fn library(state: State, rest: &[u8]) -> Option<(Kind, usize)> {
     (length > 0).then_some((Kind::Library, 2 + length))
 }
 
-fn quoted(state: State, rest: &[u8]) -> Option<(Kind, usize)> {
+pub(super) fn quoted(state: State, rest: &[u8]) -> Option<(Kind, usize)> {
     if matches!(state, State::VersionStart | State::VersionScript) {
         return None;
     }
@@ -416,7 +423,7 @@ const EXPRESSION_MARKS: &[&str] = &[
 const WILD_MARKS: &[&str] =
     &["<<=", ">>=", "+=", "-=", "*=", "/=", "&=", "|=", "]", "[", "&", "=", "}", "{", ")", "(", ";"];
 
-fn mark(state: State, rest: &[u8]) -> Option<(Kind, usize)> {
+pub(super) fn mark(state: State, rest: &[u8]) -> Option<(Kind, usize)> {
     let marks: &[&str] = match state {
         State::Script => SCRIPT_MARKS,
         State::Expression => EXPRESSION_MARKS,

@@ -3,6 +3,7 @@
 //! A `Reader` reads the scripts of a command line in their order, with what they include; a `Reading` is their tree, the
 //! text with its places, and what was passed over. Texts that stand alone are read by `parse` and `expression`.
 
+mod dialect;
 mod error;
 mod lexer;
 mod parser;
@@ -19,6 +20,7 @@ use std::path::{Path, PathBuf};
 pub use error::{ErrorKind, ScriptError, Warning, WarningKind};
 pub use source::{Place, ScriptFiles, Source};
 
+use dialect::Dialect;
 use lexer::State;
 use parser::Parser;
 use tree::{Expr, Name, Script, VersionNode};
@@ -45,6 +47,14 @@ impl<'a> Reader<'a> {
     /// `folders` (those of -L).
     pub fn new(files: &'a mut dyn ScriptFiles, folders: Vec<PathBuf>) -> Reader<'a> {
         Reader { parser: Parser::new(files, folders), script: Script::default() }
+    }
+
+    /// Tells names from marks as `ldi` does, takes what its profile has and GNU ld has not, and goes on after errors: to
+    /// look at a text that `ldi` refuses.
+    #[must_use]
+    pub fn in_profile(mut self) -> Reader<'a> {
+        self.parser.lexer.dialect = Dialect::Profile;
+        self
     }
 
     /// Reads a script that an option names (`-T`), as it stands or in a folder of the search. Gives the indices of its
@@ -102,6 +112,11 @@ impl<'a> Reader<'a> {
         })
     }
 
+    /// The errors after which it went on.
+    pub(crate) fn take_errors(&mut self) -> Vec<ScriptError> {
+        std::mem::take(&mut self.parser.errors)
+    }
+
     /// Whether a part of the statements has INSERT.
     #[must_use]
     pub fn has_insert(&self, part: &Range<usize>) -> bool {
@@ -129,7 +144,9 @@ impl<'a> Reader<'a> {
         match result {
             Ok(()) => Ok(first..self.script.statements.len()),
             Err(error) => {
-                self.script.statements.truncate(first);
+                if self.parser.lexer.dialect == Dialect::Gnu {
+                    self.script.statements.truncate(first);
+                }
                 Err(error)
             }
         }

@@ -52,7 +52,7 @@ fn without_programs_the_tables_speak() {
         assert_eq!(texts(&found), [format!("a: {sentence} [a: refused 4 {inner}]")]);
     }
     for (inner, sentence) in SCRIPTS {
-        let found = refusals_of_script(&input("a", 5, *inner, Some(b"x")), &|_| None);
+        let found = refusals_of_script(&input("a", 5, *inner, Some(b"")), &|_| None);
         assert_eq!(texts(&found), [format!("a: {sentence} [a: refused 5 {inner}]")]);
     }
 }
@@ -107,33 +107,18 @@ fn tls_is_called_tls() {
     assert_eq!(found, [symbol, relocation].map(|what| format!("{what}; {tls} [a.o: refused 4 9]")));
 }
 
-/// A program in place of `readscript`, which says several places, and lines that go on with the one above.
 #[test]
-fn a_message_for_each_place_that_a_program_says() {
-    use std::os::unix::fs::PermissionsExt;
-    let folder = std::env::temp_dir().join(format!("ldi-front-places-{}", std::process::id()));
-    let program = folder.join("readscript");
-    let said = "f: refused 5 2\n  line 2: first\n    and so\n  line 1: second\n  all of it\n";
-    let write = || -> std::io::Result<()> {
-        std::fs::create_dir_all(&folder)?;
-        std::fs::write(&program, format!("#!/bin/sh\ncat << 'E'\n{said}E\n"))?;
-        std::fs::set_permissions(&program, std::fs::Permissions::from_mode(0o755))
-    };
-    write().unwrap_or_else(|error| panic!("{error}"));
-    let ldi = folder.join("ldi").into_os_string();
-    let refused = RefusedInput { ldi: &ldi, ..input("image.ld", 5, 2, Some(b"a\nb")) };
+fn a_message_for_each_place_of_a_script() {
+    let text = b"x = MAX(1, 2);\ny = .; z = 4k;";
+    let refused = input("image.ld", 5, 2, Some(text));
     let origin = |line: u32| (line == 1).then(|| Place { path: PathBuf::from(Path::new("b.ld")), line: 9, column: 1 });
     let found = refusals_of_script(&refused, &origin);
-    let other = refusals_of_script(&RefusedInput { refusal: Refusal { number: 5, inner: 3 }, ..refused }, &origin);
-    let _ = std::fs::remove_dir_all(&folder);
     let rule = "[image.ld: refused 5 2]";
-    let wanted = [
-        format!("image.ld:2: first; and so: b {rule}"),
-        format!("b.ld:9: second: a {rule}"),
-        format!("image.ld: all of it {rule}"),
-    ];
-    assert_eq!(texts(&found), wanted);
-    let first = first_of(&found).map(|first| first.to_string());
-    assert_eq!(first, Some(format!("image.ld:2: first; and so; and 2 more places: b {rule}")));
-    assert!(texts(&other)[0].contains("something is given twice"), "another number is not believed");
+    let first = "b.ld:9: MAX is not in the profile: write `(a > b ? a : b)`";
+    let second = "image.ld:2: `.` may not stand outside of SECTIONS: write the statement as the last one in SECTIONS";
+    assert_eq!(texts(&found), [format!("{first}: x = MAX(1, 2); {rule}"), format!("{second}: y = .; z = 4k; {rule}")]);
+    let told = first_of(&found).map(|first| first.to_string());
+    assert_eq!(told, Some(format!("{first}; and 1 more place: x = MAX(1, 2); {rule}")));
+    let other = refusals_of_script(&RefusedInput { refusal: Refusal { number: 5, inner: 3 }, ..refused }, &|_| None);
+    assert!(texts(&other)[0].starts_with("image.ld:2: `.` may not stand"), "the number excludes MAX and 4k");
 }

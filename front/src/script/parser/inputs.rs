@@ -1,6 +1,7 @@
 //! Input section statements and their patterns.
 
 use super::{Parsed, Parser};
+use crate::script::dialect::Dialect;
 use crate::script::error::ErrorKind;
 use crate::script::lexer::{Kind, State, Token};
 use crate::script::tree::{InputStatement, Name, Pattern, SectionStatement, Sort, Spanned};
@@ -119,6 +120,10 @@ impl Parser<'_> {
         let token = self.peek(Wild)?;
         self.name(Wild, "a name")?;
         let pattern = self.plain_pattern(token);
+        // The profile sorts several patterns as one; the first stands for all.
+        while self.lexer.dialect == Dialect::Profile && !sorts.is_empty() && self.peek(Wild)?.is_name() {
+            self.take(Wild)?;
+        }
         for _ in &sorts {
             self.demand(Wild, ")")?;
         }

@@ -15,6 +15,7 @@ use std::path::{Path, PathBuf};
 
 use bstr::{BString, ByteSlice};
 
+use super::dialect::Dialect;
 use super::error::{quoted, ErrorKind, ScriptError};
 use super::lexer::{Kind, Lexer, State, Token};
 use super::source::ScriptFiles;
@@ -26,6 +27,9 @@ pub(super) type Parsed<T> = Result<T, ScriptError>;
 /// How deep statements, parentheses and operators can nest in the text.
 const MAX_NESTING: usize = 200;
 
+/// After how many errors no more are looked for.
+const MAX_ERRORS: usize = 20;
+
 /// A parser over texts, one after the other.
 pub(super) struct Parser<'a> {
     pub lexer: Lexer,
@@ -34,6 +38,8 @@ pub(super) struct Parser<'a> {
     pub folders: Vec<PathBuf>,
     /// The scripts that were named for themselves; INCLUDE cannot name them again.
     pub scripts: Vec<Name>,
+    /// The errors after which it went on.
+    pub errors: Vec<ScriptError>,
     nesting: usize,
     /// The last number as it was written.
     last_number: BString,
@@ -42,7 +48,7 @@ pub(super) struct Parser<'a> {
 impl<'a> Parser<'a> {
     pub fn new(files: &'a mut dyn ScriptFiles, folders: Vec<PathBuf>) -> Parser<'a> {
         let (lexer, last_number) = (Lexer::default(), BString::default());
-        Parser { lexer, files, folders, scripts: Vec::new(), nesting: 0, last_number }
+        Parser { lexer, files, folders, scripts: Vec::new(), errors: Vec::new(), nesting: 0, last_number }
     }
 
     fn peek(&mut self, state: State) -> Parsed<Token> {
@@ -119,6 +125,31 @@ impl<'a> Parser<'a> {
         self.lexer.error(opening, ErrorKind::Open { of })
     }
 
+    /// Goes on after the statement that has an error, where a text is only looked at: to a `;`, past the braces that it
+    /// opens, or to one that closes what is around it.
+    fn recover(&mut self, state: State, error: ScriptError) -> Parsed<()> {
+        if self.lexer.dialect == Dialect::Gnu || self.errors.len() >= MAX_ERRORS {
+            return Err(error);
+        }
+        let mut depth = 0_usize;
+        loop {
+            let token = self.peek(state)?;
+            match token.kind {
+                Kind::End => return Err(error),
+                Kind::Mark("}") if depth == 0 => break,
+                Kind::Mark("{") => depth += 1,
+                Kind::Mark("}") => depth -= 1,
+                _ => {}
+            }
+            self.take(state)?;
+            if depth == 0 && (token.is(";") || token.is("}")) {
+                break;
+            }
+        }
+        self.errors.push(error);
+        Ok(())
+    }
+
     /// Goes one level deeper into what nests.
     fn nested<T>(&mut self, too_deep: ErrorKind, read: impl FnOnce(&mut Self) -> Parsed<T>) -> Parsed<T> {
         if self.nesting >= MAX_NESTING {
@@ -139,6 +170,8 @@ impl<'a> Parser<'a> {
         }
         let (path, text) = match self.find(&name) {
             Ok(found) => found,
+            // A text that is only looked at says enough by the statement itself.
+            Err(_) if self.lexer.dialect == Dialect::Profile => (name.to_string().into(), Vec::new()),
             Err(_) => return Err(self.lexer.error(word, ErrorKind::MissingInclude(name.to_string()))),
         };
         self.lexer.include(word, path, text)?;

@@ -45,32 +45,35 @@ impl Parser<'_> {
     fn sections_statements(&mut self, into: &mut SectionsList) -> Parsed<()> {
         loop {
             let token = self.peek(Script)?;
-            let statement = match token.kind {
+            match token.kind {
                 Kind::End | Kind::Mark("}") => return Ok(()),
-                Kind::Word("INCLUDE") => {
-                    self.include(Script, |parser| parser.sections_statements(into))?;
-                    continue;
-                }
+                Kind::Word("INCLUDE") => self.include(Script, |parser| parser.sections_statements(into))?,
                 Kind::Word("GROUP") => {
                     self.nested(ErrorKind::StatementDepth, |parser| parser.group_of_sections(into))?;
-                    continue;
                 }
                 Kind::Mark(";") => {
                     self.take(Script)?;
                     self.lexer.warn(token, WarningKind::Separator);
-                    continue;
                 }
-                Kind::Word("ENTRY") => SectionsStatement::Entry(self.entry()?),
-                Kind::Word("ASSERT") => SectionsStatement::Assert(self.assertion(Script)?),
-                Kind::Word("HIDDEN" | "PROVIDE" | "PROVIDE_HIDDEN") => {
-                    SectionsStatement::Assign(self.provision_statement(Script)?)
-                }
-                Kind::Word("OVERLAY") => SectionsStatement::Overlay(Box::new(self.overlay()?)),
-                Kind::Name | Kind::Quoted => self.section_or_assignment(token)?,
-                _ => return Err(self.no_statement(token)),
-            };
-            into.push(Spanned::new(statement, self.since(token.span)));
+                _ => match self.sections_statement(token) {
+                    Ok(statement) => into.push(Spanned::new(statement, self.since(token.span))),
+                    Err(error) => self.recover(Script, error)?,
+                },
+            }
         }
+    }
+
+    fn sections_statement(&mut self, token: Token) -> Parsed<SectionsStatement> {
+        Ok(match token.kind {
+            Kind::Word("ENTRY") => SectionsStatement::Entry(self.entry()?),
+            Kind::Word("ASSERT") => SectionsStatement::Assert(self.assertion(Script)?),
+            Kind::Word("HIDDEN" | "PROVIDE" | "PROVIDE_HIDDEN") => {
+                SectionsStatement::Assign(self.provision_statement(Script)?)
+            }
+            Kind::Word("OVERLAY") => SectionsStatement::Overlay(Box::new(self.overlay()?)),
+            Kind::Name | Kind::Quoted => self.section_or_assignment(token)?,
+            _ => return Err(self.no_statement(token)),
+        })
     }
 
     fn section_or_assignment(&mut self, token: Token) -> Parsed<SectionsStatement> {
@@ -307,10 +310,10 @@ impl Parser<'_> {
                 Kind::End | Kind::Mark("}") => return Ok(()),
                 Kind::Mark(";") => drop(self.take(Wild)?),
                 Kind::Word("INCLUDE") => self.include(Wild, |parser| parser.section_statements(into))?,
-                _ => {
-                    let statement = self.section_statement(token)?;
-                    into.push(Spanned::new(statement, self.since(token.span)));
-                }
+                _ => match self.section_statement(token) {
+                    Ok(statement) => into.push(Spanned::new(statement, self.since(token.span))),
+                    Err(error) => self.recover(Wild, error)?,
+                },
             }
         }
     }
@@ -334,7 +337,7 @@ impl Parser<'_> {
             "ASCII" | "ASCIZ" => self.text_statement(word),
             "ASSERT" => {
                 let assertion = self.assertion(Wild)?;
-                self.separator(Expression)?;
+                self.separator_after_parenthesis(Expression)?;
                 Ok(SectionStatement::Assert(assertion))
             }
             "HIDDEN" | "PROVIDE" | "PROVIDE_HIDDEN" => self.provision_statement(Wild).map(SectionStatement::Assign),

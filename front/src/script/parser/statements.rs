@@ -5,6 +5,7 @@ use std::os::unix::ffi::OsStrExt;
 use std::path::PathBuf;
 
 use super::{Parsed, Parser};
+use crate::script::dialect::Dialect;
 use crate::script::error::ErrorKind;
 use crate::script::lexer::{Kind, State, Token};
 use crate::script::tree::{
@@ -23,10 +24,13 @@ impl Parser<'_> {
                 Kind::End => return Ok(()),
                 Kind::Mark(";") => drop(self.take(Script)?),
                 Kind::Word("INCLUDE") => self.include(Script, |parser| parser.statements(into))?,
-                _ => {
-                    let statement = self.statement(token)?;
-                    into.push(Spanned::new(statement, self.since(token.span)));
-                }
+                _ => match self.statement(token) {
+                    Ok(statement) => into.push(Spanned::new(statement, self.since(token.span))),
+                    Err(error) => {
+                        self.recover(Script, error)?;
+                        self.accept(Script, "}")?;
+                    }
+                },
             }
         }
     }
@@ -59,7 +63,9 @@ impl Parser<'_> {
         };
         if let Some(read) = single(word) {
             self.take(Script)?;
-            let name = self.name_in_parentheses(Script, "a name")?;
+            // `i386:x86-64` is a name, which the profile's tokens part at its `:`.
+            let is_parted = self.lexer.dialect == Dialect::Profile && word != "ENTRY";
+            let name = self.name_in_parentheses(if is_parted { InputList } else { Script }, "a name")?;
             if word == "SEARCH_DIR" {
                 self.folders.push(PathBuf::from(OsStr::from_bytes(name.strip_prefix(b"=").unwrap_or(&name))));
             }
@@ -121,7 +127,7 @@ impl Parser<'_> {
     /// PROVIDE and its like, with its separator, which is read in the state around it.
     pub(super) fn provision_statement(&mut self, state: State) -> Parsed<Assignment> {
         let assignment = self.provision(state)?;
-        self.separator(state)?;
+        self.separator_after_parenthesis(state)?;
         Ok(assignment)
     }
 
@@ -147,6 +153,15 @@ impl Parser<'_> {
             return self.take(state).map(drop);
         }
         Err(self.unexpected(token, "`;`".to_owned()))
+    }
+
+    /// `;` or `,` after PROVIDE or ASSERT: the profile needs none.
+    pub(super) fn separator_after_parenthesis(&mut self, state: State) -> Parsed<()> {
+        let token = self.peek(state)?;
+        if self.lexer.dialect == Dialect::Profile && !token.is(";") && !token.is(",") {
+            return Ok(());
+        }
+        self.separator(state)
     }
 
     /// `ASSERT(expression, message)`; a separator after it is not read.

@@ -3,56 +3,23 @@
 use std::borrow::Cow;
 use std::collections::BTreeSet;
 
+use crate::report::rules::RESERVED;
+
 /// The bytes that a NAME or a WORD has at most.
-const GREATEST_NAME: usize = 255;
+pub(crate) const GREATEST_NAME: usize = 255;
 
-/// The words that can be no NAME and no WORD; sorted.
-const RESERVED: &[&str] = &[
-    "ADDR",
-    "ALIGN",
-    "ASSERT",
-    "AT",
-    "BYTE",
-    "CONSTANT",
-    "DEFINED",
-    "ENTRY",
-    "EXCLUDE_FILE",
-    "FILL",
-    "HIDDEN",
-    "INPUT_SECTION_FLAGS",
-    "KEEP",
-    "LENGTH",
-    "LOADADDR",
-    "LONG",
-    "MAX",
-    "MEMORY",
-    "MIN",
-    "NOLOAD",
-    "ORIGIN",
-    "PROVIDE",
-    "PROVIDE_HIDDEN",
-    "QUAD",
-    "SECTIONS",
-    "SHORT",
-    "SIZEOF",
-    "SIZEOF_HEADERS",
-    "SORT",
-    "SORT_BY_ALIGNMENT",
-    "SORT_BY_NAME",
-    "SQUAD",
-];
-
-fn is_reserved(text: &[u8]) -> bool {
+/// Whether a text can be no NAME and no WORD.
+pub(crate) fn is_reserved(text: &[u8]) -> bool {
     RESERVED.binary_search_by(|word| word.as_bytes().cmp(text)).is_ok()
 }
 
 /// Whether a NAME may begin with the byte.
-pub(super) fn begins_name(byte: u8) -> bool {
+pub(crate) fn begins_name(byte: u8) -> bool {
     byte.is_ascii_alphabetic() || byte == b'_' || byte == b'.'
 }
 
 /// Whether a NAME may go on with the byte.
-pub(super) fn is_in_name(byte: u8) -> bool {
+pub(crate) fn is_in_name(byte: u8) -> bool {
     byte.is_ascii_alphanumeric() || matches!(byte, b'_' | b'.' | b'$' | b'-')
 }
 
@@ -78,7 +45,7 @@ fn is_in_set(byte: u8) -> bool {
 }
 
 /// Whether a text is a WORD that is a pattern and not reserved.
-pub(super) fn is_word(text: &[u8]) -> bool {
+pub(crate) fn is_word(text: &[u8]) -> bool {
     if text.is_empty() || text.len() > GREATEST_NAME || text.starts_with(b"/*") || is_reserved(text) {
         return false;
     }
@@ -106,7 +73,7 @@ fn ends_set(text: &[u8], left: usize) -> bool {
 }
 
 /// The WORD that matches a name alone; `None` where there is none.
-pub(super) fn word_of_name(name: &[u8]) -> Option<Vec<u8>> {
+pub(crate) fn word_of_name(name: &[u8]) -> Option<Vec<u8>> {
     let mut word = Vec::with_capacity(name.len());
     for byte in name {
         if !is_plain(*byte) {
@@ -122,7 +89,7 @@ pub(super) fn word_of_name(name: &[u8]) -> Option<Vec<u8>> {
 }
 
 /// The WORD that matches what a pattern of GNU ld matches, and whether it is exactly that.
-pub(super) fn word_of(pattern: &[u8]) -> (Cow<'_, [u8]>, bool) {
+pub(crate) fn word_of(pattern: &[u8]) -> (Cow<'_, [u8]>, bool) {
     if is_word(pattern) {
         return (Cow::Borrowed(pattern), true);
     }
