@@ -184,6 +184,17 @@ class OptionTest(SymbolTest):
                    self.compile("b.s", ".text\n.quad asked\n.section .note.GNU-stack\n")]
         self.same("-e", "start", "-T", "t.ld", *objects)
 
+    def test_order_of_orphans(self) -> None:
+        """Local symbols are in the order of GNU ld's list of sections, in which orphans stand by their kinds."""
+        self.write("t.ld", "SECTIONS { . = 0x1000; .rodata : { *(.nothing) } .code : { *(.text .data .bss) } }")
+        note = ',"a",@note\n.long 4, 4, 1, 0, 0'
+        parts = (".text\n.globl start\nstart: nop", '.section .rodata.b,"a"', '.section .rodata,"a"', ".data",
+                 '.section .rodata.d,"a"', f".section .note.e{note}", f".section .note.f{note}", '.section .fast,"ax"')
+        objects = [self.compile(f"{name}.s", f"{part}\nlocal_{name}: .byte 1\n.section .note.GNU-stack\n")
+                   for name, part in zip("abcdefgh", parts)]
+        for order in (objects, objects[::-1], [*objects[3:], *objects[:3]]):
+            self.same("-e", "start", "-T", "t.ld", *order)
+
     def test_script_after_objects(self) -> None:
         """The order of names where the objects are read before the script."""
         self.same(*self.objects(), "-T", "t.ld")

@@ -134,5 +134,6 @@ fn adapted_over(
         kept: &[],
         keeps_more: false,
         collects_start_stop: false,
+        without_entries: &[],
     })
 }

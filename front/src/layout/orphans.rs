@@ -24,6 +24,39 @@ struct Hold {
     output: Option<OutputId>,
     /// The last one that was put there.
     last: Option<OutputId>,
+    /// Where the first one goes in GNU ld's list, once that is known.
+    front: Option<Front>,
+}
+
+/// Where the first output section of a sort goes in GNU ld's list of output sections.
+#[derive(Clone, Copy, Debug)]
+enum Front {
+    /// In front of all.
+    OfAll,
+    /// Behind this one.
+    Behind(OutputId),
+}
+
+impl Hold {
+    /// The output section in front of which one goes in GNU ld's list (`orphan_save`); `None`: behind all.
+    fn next_listed(&mut self, link: &Link<'_>, own: OutputId, after: Option<OutputId>) -> Option<OutputId> {
+        let front = self.last.map(Front::Behind).or(self.front).unwrap_or_else(|| {
+            let behind = after.and_then(|after| made_until(link, after)).filter(|behind| *behind != own);
+            behind.map_or(Front::OfAll, Front::Behind)
+        });
+        self.front = Some(front);
+        match front {
+            Front::OfAll => link.program.made.first().copied(),
+            Front::Behind(other) => link.program.made.iter().copied().skip_while(|id| *id != other).nth(1),
+        }
+    }
+}
+
+/// The last output section up to one that is made (ldlang.c, `output_prev_sec_find`).
+fn made_until(link: &Link<'_>, id: OutputId) -> Option<OutputId> {
+    let at = link.program.order.iter().position(|other| *other == id)?;
+    let counts = |id: &&OutputId| link.output(**id).map_or(false, |output| output.counts() && output.place.is_some());
+    link.program.order.get(..=at)?.iter().rev().find(counts).copied()
 }
 
 /// The sorts.
@@ -43,7 +76,7 @@ const SORTS: usize = 8;
 
 fn holds() -> [Hold; SORTS] {
     let data = Flags::CONTENTS | Flags::ALLOC | Flags::LOAD | Flags::DATA;
-    let hold = |name: &'static [u8], flags| Hold { name, flags, output: None, last: None };
+    let hold = |name: &'static [u8], flags| Hold { name, flags, output: None, last: None, front: None };
     [
         hold(b".text", data.without(Flags::DATA) | Flags::READONLY | Flags::CODE),
         hold(b".rodata", data | Flags::READONLY),
@@ -218,17 +251,19 @@ impl Orphans {
         match sort.and_then(|sort| self.holds.get_mut(sort as usize)) {
             None => append(link, own),
             Some(hold) => {
-                let found = if is_note_section(link, id) {
-                    let found = place_of_note(link, id);
-                    self.has_notes = found.is_some();
-                    found
-                } else if self.has_notes {
-                    place_behind_notes(link, hold.last.or(after))
-                } else {
-                    None
+                let next = hold.next_listed(link, own, after);
+                let beside = match next {
+                    Some(_) if is_note_section(link, id) => {
+                        let beside = beside_of_note(link, own, id);
+                        self.has_notes = beside.is_some();
+                        beside
+                    }
+                    Some(next) if self.has_notes && is_note(link, next) => Some(last_note(link, next)),
+                    _ => None,
                 };
-                let (after, is_apart) = match found {
-                    Some(after) => (after, true),
+                list(link, own, next, beside);
+                let (after, is_apart) = match beside {
+                    Some(beside) => (beside.after(link), true),
                     None => (after, hold.last.is_none()),
                 };
                 if is_apart {
@@ -409,43 +444,58 @@ fn is_note(link: &Link<'_>, id: OutputId) -> bool {
     link.place(id).map_or(false, |place| place.flags.has(Flags::LOAD) && place.kind == elf::SHT_NOTE)
 }
 
-/// The output sections that are made, in their order.
-fn made(link: &Link<'_>) -> Vec<OutputId> {
-    link.program.order.iter().copied().filter(|id| link.place(*id).is_some()).collect()
+/// A note in GNU ld's list beside which another output section goes.
+#[derive(Clone, Copy, Debug)]
+struct BesideNote {
+    note: OutputId,
+    /// Whether it goes behind it.
+    is_behind: bool,
 }
 
-/// The output section behind which a note goes, if there are others: they stay together, those of greater alignments
-/// first; the inner `None` is in front of all.
-#[allow(clippy::option_option)]
-fn place_of_note(link: &Link<'_>, id: SectionId) -> Option<Option<OutputId>> {
-    let align = link.section(id)?.align;
-    let order = made(link);
-    let first = order.iter().position(|id| is_note(link, *id))?;
-    let group = order.get(first..)?.iter().take_while(|id| is_note(link, **id));
-    let last = group.filter(|id| link.place(**id).map_or(false, |place| place.align >= align)).last().copied();
-    let before = || {
-        let at = link.program.order.iter().position(|id| Some(id) == order.get(first))?;
-        link.program.order.get(at.checked_sub(1)?).copied()
-    };
-    Some(last.or_else(before))
-}
-
-/// The output section behind which another goes that would be put in front of notes.
-#[allow(clippy::option_option)]
-fn place_behind_notes(link: &Link<'_>, after: Option<OutputId>) -> Option<Option<OutputId>> {
-    let order = made(link);
-    let at = match after {
-        None => 0,
-        Some(after) => {
-            let place = link.program.order.iter().position(|id| *id == after)?;
-            link.program.order.get(..=place)?.iter().filter(|id| link.place(**id).is_some()).count()
+impl BesideNote {
+    /// The output section behind whose statements the other one's stands; `None`: in front of all.
+    fn after(self, link: &Link<'_>) -> Option<OutputId> {
+        if self.is_behind {
+            return Some(self.note);
         }
-    };
-    let rest = order.get(at..)?;
-    if !rest.first().map_or(false, |id| is_note(link, *id)) {
-        return None;
+        let at = link.program.order.iter().position(|id| *id == self.note)?;
+        link.program.order.get(at.checked_sub(1)?).copied()
     }
-    Some(rest.iter().rev().find(|id| is_note(link, **id)).copied())
+}
+
+/// Beside which note another one goes, if there are others: they stay together, those of greater alignments first.
+fn beside_of_note(link: &Link<'_>, own: OutputId, id: SectionId) -> Option<BesideNote> {
+    let align = link.section(id)?.align;
+    let is_other = |id: &&OutputId| **id != own && is_note(link, **id);
+    let first = link.program.made.iter().position(|id| is_other(&id))?;
+    let group = link.program.made.get(first..)?;
+    let is_aligned = |id: &&OutputId| link.place(**id).map_or(false, |place| place.align >= align);
+    match group.iter().take_while(is_other).filter(is_aligned).last() {
+        Some(note) => Some(BesideNote { note: *note, is_behind: true }),
+        None => group.first().map(|note| BesideNote { note: *note, is_behind: false }),
+    }
+}
+
+/// The last note from one on.
+fn last_note(link: &Link<'_>, first: OutputId) -> BesideNote {
+    let rest = link.program.made.iter().skip_while(|id| **id != first);
+    let note = rest.filter(|id| is_note(link, **id)).last().copied().unwrap_or(first);
+    BesideNote { note, is_behind: true }
+}
+
+/// Puts an output section that is made in its place in GNU ld's list: beside a note, or in front of `next`.
+fn list(link: &mut Link<'_>, own: OutputId, next: Option<OutputId>, beside: Option<BesideNote>) {
+    if beside.is_none() && next == Some(own) {
+        return;
+    }
+    let made = &mut link.program.made;
+    made.retain(|id| *id != own);
+    let place = |id: OutputId| made.iter().position(|other| *other == id);
+    let at = match (beside, next) {
+        (Some(beside), _) => place(beside.note).map(|at| at + usize::from(beside.is_behind)),
+        (None, next) => next.and_then(place),
+    };
+    made.insert(at.unwrap_or(made.len()), own);
 }
 
 /// At the end of all.

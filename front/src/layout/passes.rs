@@ -46,6 +46,7 @@ pub(crate) fn run(
     link.set_regions(true)?;
     link.start_bounds();
     link.values(Phase::Mark)?;
+    link.program.symbols.keep_first_values();
     link.phase = Phase::First;
     link.place_commons(objects, rows);
     link.pass += 1;

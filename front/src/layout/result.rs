@@ -32,7 +32,7 @@ impl Link<'_> {
             named,
             regions: self.program.regions.iter().map(region_result).collect(),
             order: self.program.order.clone(),
-            listed: self.listed(),
+            listed: self.program.made.clone(),
             top: self.program.top.clone(),
             entry,
             header_count: self.headers.count.unwrap_or_else(|| self.found_headers()),
@@ -58,6 +58,9 @@ impl Link<'_> {
             symbol.is_local = hidden.contains(&SymbolId::new(number));
             symbol.is_recorded = recorded.contains(&SymbolId::new(number));
             found.by_name.insert(symbol.name.clone(), SymbolId::new(number));
+        }
+        for (id, ..) in &self.bounds {
+            found.symbols.get_mut(id.index()).into_iter().for_each(|symbol| symbol.is_bound = true);
         }
         found.sections = self.sections;
         found.names = self.program.names;
@@ -120,6 +123,8 @@ impl Link<'_> {
             section: self.section_of(symbol),
             is_local: false,
             is_recorded: false,
+            is_bound: false,
+            first_value: symbol.first_value,
             likes: if symbol.of_script { symbol.likes.clone() } else { Vec::new() },
         }
     }

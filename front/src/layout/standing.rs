@@ -72,25 +72,10 @@ impl Standing {
 impl Link<'_> {
     /// A pass begins.
     pub fn stand_at_beginning(&mut self) {
-        let all = self.listed();
+        let all = self.program.made.clone();
         let mut standing = std::mem::take(&mut self.standing);
         standing.begin(&all, &|id| self.place(id).map_or(false, |place| !place.is_gone && takes_memory(place)));
         self.standing = standing;
-    }
-
-    /// The output sections as GNU ld lists them: as they were made, those of orphans after the ones before them.
-    pub fn listed(&self) -> Vec<OutputId> {
-        let is_orphan = |id: &OutputId| self.output(*id).map_or(false, |output| output.is_orphan);
-        let mut listed: Vec<OutputId> = self.program.made.iter().copied().filter(|id| !is_orphan(id)).collect();
-        let mut before = None;
-        for id in self.program.order.iter().filter(|id| self.place(**id).is_some()) {
-            if is_orphan(id) {
-                let at = before.and_then(|before| listed.iter().position(|other| *other == before));
-                listed.insert(at.map_or(0, |at| at + 1), *id);
-            }
-            before = Some(*id);
-        }
-        listed
     }
 
     /// A statement is next.
@@ -156,7 +141,7 @@ impl Link<'_> {
 
     /// The section that takes the symbols of one that is not in the image (linker.c, `_bfd_nearby_section`).
     pub fn nearby(&self, id: OutputId, address: u64) -> Option<OutputId> {
-        let listed = self.listed();
+        let listed = &self.program.made;
         let at = listed.iter().position(|other| *other == id)?;
         let kept = |id: &OutputId| Some((*id, self.place(*id).filter(|place| !place.is_gone)?));
         let before = listed.iter().take(at).rev().find_map(kept);

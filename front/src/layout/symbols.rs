@@ -30,6 +30,8 @@ pub(crate) struct SymbolState {
     pub of_script: bool,
     /// Whether an object had it before the script.
     pub by_object: bool,
+    /// Its value before sections have places, if the script assigns it.
+    pub first_value: Option<u64>,
     /// The last pass that assigned it.
     pub pass: u32,
     /// The last assignment.
@@ -85,6 +87,7 @@ impl Symbols {
             section: None,
             of_script: false,
             by_object: false,
+            first_value: None,
             pass: u32::MAX,
             statement: None,
             is_in_objects: false,
@@ -135,6 +138,13 @@ impl Symbols {
     /// The names that something has named, in the order in which it did, each with the number of objects read before.
     pub fn named(&self) -> impl Iterator<Item = (usize, &Name)> {
         self.named.iter().filter_map(|(read, id)| Some((*read, &self.get(*id)?.name)))
+    }
+
+    /// The values that those of the script have now are their first ones (ldlang.c, `lang_check_relocs` is next).
+    pub fn keep_first_values(&mut self) {
+        for symbol in self.all.iter_mut().filter(|symbol| symbol.of_script && symbol.kind == SymbolKind::Defined) {
+            symbol.first_value = Some(symbol.value);
+        }
     }
 
     /// The symbols, by their indices.

@@ -10,6 +10,7 @@ mod build_id;
 mod collecting;
 mod commons;
 mod crossrefs;
+mod first_values;
 mod frame_table;
 mod loaded;
 mod merged;
@@ -372,6 +373,8 @@ fn written(command: &Command, inputs: &Inputs, evaluation: Option<&Evaluation>) 
         }
         None => (Vec::new(), false),
     };
+    let of = |evaluation| first_values::kept_by_first_values(inputs.objects(), evaluation);
+    let without_entries = evaluation.map_or_else(Vec::new, of);
     residual(Request {
         script: &inputs.scripts.reading.script,
         source: &inputs.scripts.reading.source,
@@ -389,6 +392,7 @@ fn written(command: &Command, inputs: &Inputs, evaluation: Option<&Evaluation>) 
         kept: &kept,
         keeps_more,
         collects_start_stop: command.collects_sections && command.collects_start_stop,
+        without_entries: &without_entries,
     })
 }
 

@@ -79,6 +79,8 @@ pub struct Request<'a> {
     pub keeps_more: bool,
     /// `-z start-stop-gc` with `--gc-sections`: `__start_NAME` keeps no section.
     pub collects_start_stop: bool,
+    /// Names for which GNU ld has entries in a global offset table, and the link of `ldi` none.
+    pub without_entries: &'a [BString],
 }
 
 /// A script of the profile.

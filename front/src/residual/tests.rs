@@ -30,6 +30,7 @@ fn adapted(script: &str) -> Residual {
         kept: &[],
         keeps_more: false,
         collects_start_stop: false,
+        without_entries: &[],
     })
 }
 
@@ -212,6 +213,7 @@ fn an_entry_that_nothing_defines_is_written_as_an_address() {
         kept: &[],
         keeps_more: false,
         collects_start_stop: false,
+        without_entries: &[],
     });
     let text = done.text.to_str().unwrap();
     assert!(text.contains("ENTRY(ld.ldi.entry)") && text.ends_with("ld.ldi.entry = ADDR(.text);"), "{text}");
@@ -272,6 +274,7 @@ fn of_any(statements: &str, after: &str) -> String {
         kept: &[],
         keeps_more: false,
         collects_start_stop: false,
+        without_entries: &[],
     });
     let text = done.text.to_str_lossy();
     text.split("*(.text)").nth(1).unwrap().trim_end_matches('}').split_whitespace().collect::<Vec<_>>().join(" ")

@@ -205,6 +205,7 @@ impl<'a> Walk<'a> {
             self.note_of(NoteKind::Rewritten, Topic::Beside, end, format!("--gc-sections: {list}: {why}"));
         }
         self.say_provided_bounds(end);
+        self.say_entries(end);
         let evaluation = match self.request.evaluation.filter(|_| !self.request.kept.is_empty()) {
             Some(evaluation) => evaluation,
             None => return,
@@ -239,6 +240,16 @@ impl<'a> Walk<'a> {
         if !names.is_empty() {
             let why = "GNU ld goes by it where no section of that name stays";
             let what = format!("--gc-sections: -z start-stop-gc: PROVIDE of {}: {why}", names.join(", "));
+            self.note_of(NoteKind::Changed, Topic::Beside, at, what);
+        }
+    }
+
+    /// Says that GNU ld goes by the values that symbols have before sections have places.
+    fn say_entries(&mut self, at: u32) {
+        let names: Vec<String> = self.request.without_entries.iter().map(|name| name.to_string()).collect();
+        if !names.is_empty() {
+            let why = "GNU ld has entries of .got for what they are before sections have places";
+            let what = format!("references by a global offset table to {}: {why}", names.join(", "));
             self.note_of(NoteKind::Changed, Topic::Beside, at, what);
         }
     }

@@ -88,7 +88,7 @@ pub(super) fn write(
     for (number, one) in names.linked.iter().enumerate() {
         let is_used = used.and_then(|used| used.get(number)) == Some(&true);
         let found = names.entry_of(number, one, is_used).filter(|_| is_used || !names.options.strips(&one.name));
-        match found.or_else(|| is_used.then(|| (undefined(one), false))) {
+        match found.or_else(|| is_used.then(|| (names.undefined(one), false))) {
             Some((entry, true)) => locals.push((number, one, entry)),
             Some((entry, false)) => globals.push((number, one, entry)),
             None => {}
@@ -104,12 +104,6 @@ pub(super) fn write(
     locals.into_iter().for_each(|one| add(writer, one));
     writer.end_locals();
     globals.into_iter().for_each(|one| add(writer, one));
-}
-
-/// The entry of a name that nothing defines.
-fn undefined(one: &LinkedName) -> Entry {
-    let binding = if one.is_needed { elf::STB_GLOBAL } else { elf::STB_WEAK };
-    Entry { info: binding << 4 | one.kind, other: one.visibility, ..Entry::default() }
 }
 
 /// What is known of names.
@@ -197,6 +191,13 @@ impl<'a> Names<'a> {
         (is_used || binding == elf::STB_GLOBAL && known.is_recorded).then_some((entry, known.is_local))
     }
 
+    /// The entry of a name that nothing defines.
+    fn undefined(&self, one: &LinkedName) -> Entry {
+        let binding = if one.is_needed { elf::STB_GLOBAL } else { elf::STB_WEAK };
+        let other = self.visibility_of(one, self.known(one));
+        Entry { info: binding << 4 | one.kind, other, ..Entry::default() }
+    }
+
     /// What the layout says of a name.
     fn known(&self, one: &LinkedName) -> Option<&'a Symbol> {
         if one.is_named {
@@ -232,9 +233,9 @@ impl<'a> Names<'a> {
     }
 
     /// The visibility of a name: starts and ends of sections that GNU ld gives itself have one of their own (elflink.c,
-    /// `bfd_elf_define_start_stop`).
+    /// `bfd_elf_define_start_stop`), which stays where it takes them back (ldlang.c, `undef_start_stop`).
     fn visibility_of(&self, one: &LinkedName, known: Option<&Symbol>) -> u8 {
-        let is_bound = known.map_or(false, |known| known.definer == Definer::Linker);
+        let is_bound = known.map_or(false, |known| known.is_bound);
         let of_sources = known.map_or(elf::STV_DEFAULT, |known| self.visibility_of_sources(known, 0));
         match constrained(one.visibility, of_sources) {
             elf::STV_DEFAULT if is_bound => self.options.of_bounds.number(),

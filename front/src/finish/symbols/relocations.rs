@@ -20,18 +20,18 @@ pub(in crate::finish) struct RelocationTable {
     pub(in crate::finish) entries: Vec<u8>,
 }
 
-/// Goes over the relocations of an object's sections that are loaded, in the order of its headers.
+/// Goes over the relocations of an object's sections that are in the file, in the order of its headers.
 pub(super) fn relocated<'a>(
     number: usize,
     object: &'a Object,
     places: &'a Places,
 ) -> impl Iterator<Item = (Place, Relocation)> + 'a {
-    let place = move |index: SectionIndex| places.get(number, index).filter(|place| place.is_loaded);
+    let place = move |index: SectionIndex| places.get(number, index);
     let placed = object.sections().filter_map(move |section| Some((section.index, place(section.index)?)));
     placed.flat_map(move |(index, place)| object.relocations(index).map(move |one| (place, one)))
 }
 
-/// By name: whether a relocation that is in the file refers to it.
+/// By name: whether a relocation that is in GNU ld's file refers to it, also one of what is not loaded.
 pub(super) fn names_in_use(symbols: &Symbols<'_>, places: &Places) -> Vec<bool> {
     let mut used = vec![false; symbols.names.iter().count()];
     for (number, object) in symbols.objects.iter().enumerate().filter(|(_, object)| !is_own_object(object)) {
