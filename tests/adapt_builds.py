@@ -125,11 +125,11 @@ def _unmerged(word: str, root: str, folder: Path) -> str:
         _write(copy, _without_merge(data))
     elif data.startswith(b"!<thin>"):
         members = subprocess.run(["ar", "t", word], cwd=root, capture_output=True, text=True, check=True,
-                                 timeout=60).stdout.split()
+                                 timeout=180).stdout.split()
         copies = [_unmerged(member, root, folder) for member in members]
         copy.parent.mkdir(parents=True, exist_ok=True)
         copy.unlink(missing_ok=True)
-        subprocess.run(["ar", "cDPrsT", copy, *copies], check=True, timeout=60, capture_output=True)
+        subprocess.run(["ar", "cDPrsT", copy, *copies], check=True, timeout=180, capture_output=True)
     else:
         return word
     return str(copy)

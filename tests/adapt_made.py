@@ -55,7 +55,7 @@ def outline(text: bytes, folder: str) -> list[list[str]]:
     with tempfile.NamedTemporaryFile(suffix=".ld") as file:
         file.write(text)
         file.flush()
-        done = subprocess.run([OUTLINE, file.name, folder], capture_output=True, check=True, timeout=60)
+        done = subprocess.run([OUTLINE, file.name, folder], capture_output=True, check=True, timeout=180)
     return [line.split("\t") for line in done.stdout.decode("latin-1").splitlines()]
 
 
@@ -116,7 +116,7 @@ class Made:
             full = os.path.join(folder, path)
             os.makedirs(os.path.dirname(full) or ".", exist_ok=True)
             subprocess.run(["as", "-o", full, "-"], input=self._text(path, sections, count), text=True, check=True,
-                           timeout=60, capture_output=True)
+                           timeout=180, capture_output=True)
             paths.append(path)
         return paths
 

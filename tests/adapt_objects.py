@@ -79,6 +79,6 @@ def make(folder: str) -> list[str]:
     paths: list[str] = []
     for name, text in SOURCES.items():
         path = os.path.join(folder, name[:-2] + ".o")
-        subprocess.run(["as", "-o", path, "-"], input=text, text=True, check=True, timeout=60)
+        subprocess.run(["as", "-o", path, "-"], input=text, text=True, check=True, timeout=180)
         paths.append(path)
     return paths

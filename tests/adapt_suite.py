@@ -42,7 +42,7 @@ def assembled(test: Test, folder: Path) -> list[str] | None:
     for number, words in enumerate(test.sources):
         objects.append(str(folder / f"{test.path.parent.name}-{test.path.stem}.{number}.o"))
         done = subprocess.run(["as", "--64", *words, "-o", objects[-1]], cwd=test.path.parent, capture_output=True,
-                              timeout=60, check=False)
+                              timeout=180, check=False)
         if done.returncode:
             return None
     return objects

@@ -44,5 +44,5 @@ class Adapted:
 def adapt(*words: str | os.PathLike[str], cwd: str | os.PathLike[str] = ".") -> Adapted:
     """Calls `ldi-adapt` in a folder."""
     done = subprocess.run([LDI_ADAPT, *words], cwd=cwd, env={**os.environ, "LDI": LDI}, capture_output=True,
-                          timeout=60, check=False)
+                          timeout=180, check=False)
     return Adapted(done.returncode, done.stdout, done.stderr.decode("utf-8", "replace"))

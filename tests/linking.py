@@ -9,12 +9,10 @@ import unittest
 from collections.abc import Mapping
 from pathlib import Path
 
-from tests.programs import LD_LDI, ROOT
+from tests.programs import LD_LDI, LIMIT, ROOT
 
 EXAMPLE = ROOT / "examples" / "linux"
 FLAGS = ("-O2", "-ffreestanding", "-fno-pic", "-fno-stack-protector", "-ffunction-sections", "-fdata-sections")
-LIMIT = 120.0
-"""Seconds after which a program that a test runs is ended."""
 
 
 class LinkTest(unittest.TestCase):

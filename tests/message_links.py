@@ -12,7 +12,7 @@ from functools import cache
 from pathlib import Path
 from typing import Any
 
-from tests.programs import LDI_WATCH
+from tests.programs import LDI_WATCH, LIMIT
 
 SCRIPT = "SECTIONS { . = 0x401000; .text : { *(.text) } }"
 
@@ -35,7 +35,7 @@ def built(command: tuple[str, ...], prefix_map: str, source: str, suffix: str) -
         with open(os.path.join(folder, "text" + suffix), "w", encoding="ascii") as file:
             file.write(source + "\n")
         words = [*command, f"{prefix_map}={folder}=/project", "-o", "text.o", "text" + suffix]
-        subprocess.run(words, cwd=folder, check=True, timeout=60)
+        subprocess.run(words, cwd=folder, check=True, timeout=LIMIT)
         with open(os.path.join(folder, "text.o"), "rb") as file:
             return file.read()
 
@@ -72,7 +72,7 @@ class LinkTest(unittest.TestCase):
         for name, data in objects.items():
             (self.folder / name).write_bytes(data)
         words = [LDI_WATCH, "--once", "--json", "-T", "image.ld", "-o", "image", *options, "--", *objects]
-        done = subprocess.run(words, cwd=self.folder, capture_output=True, text=True, timeout=60, check=False)
+        done = subprocess.run(words, cwd=self.folder, capture_output=True, text=True, timeout=LIMIT, check=False)
         self.assertEqual((len(done.stdout.splitlines()), done.stderr), (1, ""), done.stdout)
         return json.loads(done.stdout)
 

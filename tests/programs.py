@@ -30,8 +30,12 @@ LDI_GDB = program("LDI_GDB", BIN / "ldi-gdb")
 LDI = program("LDI", ROOT / "crates" / "ldi" / "out" / "ldi")
 os.environ["LDI"] = LDI  # for the programs that a test starts with the environment of its own process
 
-LIMIT = 60.0
-"""Seconds after which a program that a test runs is ended, and the test fails."""
+LIMIT = 180.0
+"""Seconds after which a program that a test runs is ended, and the test fails, also on a slow machine."""
+PATIENCE = 60.0
+"""Seconds after which a test gives up waiting for what is to happen."""
+ANSWER = "20"
+"""The seconds that a call waits for an answer of its server, where the machine may be busy with other things."""
 
 FLAGS = ("-O2", "-ffreestanding", "-fno-pic", "-fno-stack-protector", "-fno-asynchronous-unwind-tables")
 CLEARED = ("CI", "container", "LDI_FALLBACK", "LDI_SERVER_IDLE", "LDI_SERVER_MEMORY")
@@ -113,7 +117,7 @@ class OutsideTest(unittest.TestCase):
 
     def serving(self, **more: str) -> dict[str, str]:
         """The environment of calls that use a server, which has time to answer on a busy machine."""
-        return {"LDI_SERVER": "1", "LDI_SERVER_ANSWER": "5", **more}
+        return {"LDI_SERVER": "1", "LDI_SERVER_ANSWER": ANSWER, **more}
 
     def serve(self, *words: str, env: Mapping[str, str] | None = None, **how: object) -> Done:
         """Runs `ld.ldi` with a server."""
@@ -133,6 +137,17 @@ class OutsideTest(unittest.TestCase):
         """The processes of the servers that answer."""
         return [int(pid) for pid in re.findall(r": process (\d+) in", self.status())]
 
+    def one_server(self) -> int:
+        """The process of the one server. On a busy machine it may not answer in time, so that it is asked again."""
+        found: list[int] = []
+
+        def is_one() -> bool:
+            found[:] = self.servers()
+            return len(found) == 1
+
+        self.wait(is_one, "there is not one server")
+        return found[0]
+
     def calls(self) -> int:
         """The links that the servers made in all."""
         return sum(int(count) for count in re.findall(r"(\d+) calls", self.status()))
@@ -145,7 +160,7 @@ class OutsideTest(unittest.TestCase):
 
     # waiting
 
-    def wait(self, holds: Callable[[], bool], what: str, limit: float = 20.0) -> None:
+    def wait(self, holds: Callable[[], bool], what: str, limit: float = PATIENCE) -> None:
         """Waits until something holds."""
         end = time.monotonic() + limit
         while not holds():

@@ -9,8 +9,9 @@ import time
 from collections.abc import Callable, Mapping
 from pathlib import Path
 
+from tests.between import hold, is_held
 from tests.linking import LIMIT, LinkTest
-from tests.programs import LD_LDI
+from tests.programs import ANSWER, LD_LDI, PATIENCE
 
 SCRIPT = """ENTRY(_start)
 SECTIONS {
@@ -30,8 +31,6 @@ SOURCES = {
     "b.c": "int other = 5; int b(int x) { return x + 1; }",
     "c.c": "int unused; const char text[] = \"some text\";",
 }
-ANSWER = "5"
-"""The seconds that a call waits for an answer here, where the machine may be busy with other tests."""
 WORDS = ("-T", "t.ld", "-o", "image", "a.o", "b.o", "c.o")
 Done = subprocess.CompletedProcess[str]
 
@@ -112,16 +111,19 @@ class ServerTest(LinkTest):
         """The process of the session of the one server."""
         return session_of(self.server())
 
-    def wait(self, holds: Callable[[], bool], what: str, limit: float = 20.0) -> None:
+    def wait(self, holds: Callable[[], bool], what: str, limit: float = PATIENCE) -> None:
         """Waits until something holds."""
         end = time.monotonic() + limit
         while not holds():
             self.assertLess(time.monotonic(), end, what)
             time.sleep(0.02)
 
-    def wait_for_link(self) -> None:
-        """Waits until the server is busy with a link."""
-        self.wait(lambda: ", busy" in self.status(), "the server is not busy")
+    def begin_held(self, *words: str, env: Mapping[str, str] | None = None) -> subprocess.Popen[str]:
+        """Starts a call whose link waits before its image until `let_go`; the session is that of `session_between`."""
+        hold(self.folder)
+        call = self.begin(*words, env=env)
+        self.wait(lambda: is_held(self.folder), "the server does not link")
+        return call
 
     def begin(self, *words: str, env: Mapping[str, str] | None = None) -> subprocess.Popen[str]:
         """Starts a call, and does not wait for it."""

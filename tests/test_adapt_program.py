@@ -102,7 +102,7 @@ class AdaptTest(unittest.TestCase):
         names = ("a.o", "b.o", "c.o")
         for name, function in zip(names, ("f", "g", "f")):
             text = f'.section .gnu.linkonce.t.{function},"ax"\nret'
-            subprocess.run(["as", "-o", self.folder / name, "-"], input=text, text=True, check=True, timeout=60)
+            subprocess.run(["as", "-o", self.folder / name, "-"], input=text, text=True, check=True, timeout=180)
         result = self.adapted("SECTIONS { .text : { *(.text .gnu.linkonce.t.*) } }", "--objects", *names)
         wanted = (".gnu.linkonce.t.f of a.o and 1 more: GNU ld takes the first section of a name; here all are in the "
                   "image")
@@ -154,7 +154,7 @@ class ProgramTest(unittest.TestCase):
     def test_default_script(self) -> None:
         """GNU ld's default script: nothing of it is left, and what the objects may change is said."""
         text = subprocess.run(["ld.bfd", "--verbose", "-static"], capture_output=True, text=True, check=True,
-                              timeout=60).stdout.split("=" * 50)[1]
+                              timeout=180).stdout.split("=" * 50)[1]
         status, out, report = self.run_program("s.ld", text=text)
         self.assertEqual(status, 1, report)
         self.assertNotIn(" left: ", report)
@@ -182,7 +182,7 @@ class ProgramTest(unittest.TestCase):
             for name in ("d.o", "e.o"):
                 text = ".text\n.cfi_startproc\nret\n.cfi_endproc\n"
                 paths.append(os.path.join(folder, name))
-                subprocess.run(["as", "-o", paths[-1], "-"], input=text, text=True, check=True, timeout=60)
+                subprocess.run(["as", "-o", paths[-1], "-"], input=text, text=True, check=True, timeout=180)
             script = f"SECTIONS {{ .eh_frame : {{ *(.eh_frame) }} {rest} }}"
             status, _, report = self.run_program("s.ld", "--objects", *paths, text=script)
         self.assertEqual(status, 1, report)

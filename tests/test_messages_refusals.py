@@ -7,7 +7,7 @@ from collections import Counter
 from collections.abc import Iterator
 
 from tests.message_links import SCRIPT, LinkTest
-from tests.programs import ROOT, beside_ldi
+from tests.programs import LIMIT, ROOT, beside_ldi
 
 REFUSALS = 13
 """The numbers of refusals of an object (docs/objects.md, 'Refusals')."""
@@ -36,7 +36,7 @@ class RefusalTest(LinkTest):
         A line that is indented deeper than a place goes on with the one above.
         """
         done = subprocess.run([beside_ldi("readobj"), name], cwd=self.folder, capture_output=True, text=True,
-                              check=False, timeout=60)
+                              check=False, timeout=LIMIT)
         return re.sub(r"\n {3,}", "; ", done.stdout).replace("\n  ", "\n").splitlines()
 
     def test_objects(self) -> None:

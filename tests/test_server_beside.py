@@ -10,7 +10,7 @@ import time
 import unittest
 from pathlib import Path
 
-from tests.programs import LD_LDI, WORDS, ProjectTest, needs, needs_root
+from tests.programs import LD_LDI, LIMIT, WORDS, ProjectTest, needs, needs_root
 
 RENAMES = "inject=/^rename:delay_enter={}:when=1"
 NOBODY = 65534
@@ -24,6 +24,12 @@ def made(trace: str, folder: Path) -> list[tuple[str, str]]:
     calls += [(name, "O_CREAT|O_EXCL") for name in named]
     return [(name, flags) for name, flags in calls
             if "O_CREAT" in flags and (not name.startswith("/") or name.startswith(f"{folder}/"))]
+
+
+def are_traced(pid: int) -> bool:
+    """Whether all threads of a process are traced."""
+    threads = Path(f"/proc/{pid}/task").iterdir()
+    return not any("\nTracerPid:\t0\n" in (thread / "status").read_text(encoding="utf-8") for thread in threads)
 
 
 @needs("strace")
@@ -41,13 +47,12 @@ class TracedTest(ProjectTest):
             self.assertEqual(done.returncode, 0, done.stderr)
         else:
             tracer = self.begin(*command, "-p", str(pid))
-            self.wait(lambda: trace.exists() or tracer.poll() is not None, "nothing is traced")
-            time.sleep(0.3)
+            self.wait(lambda: are_traced(pid) or tracer.poll() is not None, "nothing is traced")
             if tracer.poll() is not None:
                 self.skip_without_tracing(tracer.communicate()[1])
             self.call()
             tracer.terminate()
-            tracer.communicate(timeout=10)
+            tracer.communicate(timeout=LIMIT)
         return made(trace.read_text(errors="replace"), self.folder / "p")
 
     def skip_without_tracing(self, errors: str) -> None:
@@ -66,7 +71,7 @@ class TracedTest(ProjectTest):
     def test_by_server(self) -> None:
         """Files that a server writes."""
         self.call()
-        pid, = self.servers()
+        pid = self.one_server()
         seen = []
         for number in (2, 3):
             self.put("p/b.o", number)
@@ -87,7 +92,7 @@ class SharedTest(ProjectTest):
         super().setUp()
         (self.folder / "p").chmod(0o1777)
         self.call()
-        self.server, = self.servers()
+        self.server = self.one_server()
         self.seen: set[str] = set()
 
     def watch_names(self, rounds: int) -> None:
@@ -114,7 +119,7 @@ class SharedTest(ProjectTest):
     def call_after(self, number: int) -> None:
         """A call after a new object."""
         self.put("p/b.o", number)
-        done = self.serve(*WORDS, cwd="p", limit=20)
+        done = self.serve(*WORDS, cwd="p")
         self.assertEqual((done.returncode, self.number()), (0, number), done.stderr)
         self.assertFalse((self.folder / "p" / "image").is_symlink())
 
@@ -187,7 +192,7 @@ class HeldUpTest(ProjectTest):
 
     def assert_ends(self, call: subprocess.Popen[str], number: int) -> None:
         """The call that was held up ends well, and the image is not the one that it had made before."""
-        _, errors = call.communicate(timeout=30)
+        _, errors = call.communicate(timeout=LIMIT)
         self.assertEqual((call.returncode, self.number()), (0, number), errors)
 
     def test_another_call(self) -> None:
@@ -204,7 +209,7 @@ class HeldUpTest(ProjectTest):
     def test_server_has_ended(self) -> None:
         """The server is killed while the call waits."""
         self.call()
-        pid, = self.servers()
+        pid = self.one_server()
         self.put("p/b.o", 2)
         call = self.held_up(2)
         os.kill(pid, 9)
@@ -216,7 +221,7 @@ class HeldUpTest(ProjectTest):
     def test_server_is_stopped(self) -> None:
         """The server is stopped while the call waits, so that another takes its place."""
         self.call()
-        pid, = self.servers()
+        pid = self.one_server()
         self.put("p/b.o", 2)
         call = self.held_up(3)
         os.kill(pid, 19)

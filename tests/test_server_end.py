@@ -43,7 +43,7 @@ class SocketTest(ProjectTest):
     def test_dead_server(self) -> None:
         """Its socket is said to be nothing, and is removed."""
         self.call()
-        pid, = self.servers()
+        pid = self.one_server()
         os.kill(pid, signal.SIGKILL)
         self.wait(lambda: not is_running(pid), "the server stays")
         for word in ("--server-status", "--server-stop"):
@@ -55,7 +55,7 @@ class SocketTest(ProjectTest):
     def test_live_server(self) -> None:
         """That of a server that works stays."""
         self.call()
-        self.assertEqual(len(self.servers()), 1)
+        self.one_server()
         self.put("p/b.o", 2)
         self.call()
         self.assertEqual((self.calls(), self.number()), (1, 2))
@@ -71,14 +71,14 @@ class MemoryTest(ProjectTest):
     def test_all_together(self) -> None:
         """The oldest servers end where all hold more than LDI_SERVER_MEMORY."""
         self.call()
-        self.wait(lambda: len(self.memory()) == 1, "the call left no server", 10)
+        self.wait(lambda: len(self.memory()) == 1, "the call left no server")
         one, = self.memory()
         limit = 3 * one + one // 2
-        first, = self.servers()
+        first = self.one_server()
         for number in range(6):
             words = [f"image{number}" if word == "image" else word for word in WORDS]
             self.call(*words, env={"LDI_SERVER_MEMORY": f"{limit}M"})
-        self.wait(lambda: sum(self.memory()) <= limit, f"they hold more than {limit} MB: {self.memory()}", 10)
+        self.wait(lambda: sum(self.memory()) <= limit, f"they hold more than {limit} MB: {self.memory()}")
         self.assertFalse(is_running(first) and len(self.servers()) > 3)
         self.assertIn(str(self.folder / "p" / "image5"), self.status())
         self.assertNotIn(f"{Path(self.folder, 'p', 'image')}:", self.status())

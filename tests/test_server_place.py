@@ -6,7 +6,7 @@ import shutil
 import subprocess
 import unittest
 
-from tests.programs import LD_LDI, WORDS, ProjectTest, needs, needs_root
+from tests.programs import LD_LDI, LIMIT, WORDS, ProjectTest, needs, needs_root
 
 
 class FolderTest(ProjectTest):
@@ -68,7 +68,7 @@ class MountTest(ProjectTest):
     def shell(self, text: str, *words: str) -> None:
         """Runs a shell's text in a mount namespace of its own; `"$@"` is a call with these words."""
         done = subprocess.run(["unshare", "-m", "sh", "-ec", text, "sh", LD_LDI, *(words or WORDS)], cwd=self.folder,
-                              env=self.env(**self.serving()), capture_output=True, text=True, timeout=60, check=False,
+                              env=self.env(**self.serving()), capture_output=True, text=True, timeout=LIMIT, check=False,
                               stdin=subprocess.DEVNULL)
         if "unshare" in done.stderr or "mount:" in done.stderr:
             raise unittest.SkipTest(done.stderr.strip())

@@ -12,6 +12,7 @@ import time
 import unittest
 from pathlib import Path
 
+from tests.between import let_go, session_between
 from tests.linking import LIMIT
 from tests.programs import LD_LDI
 from tests.serving import WORDS, ServerTest, is_running, session_of, signal_to
@@ -23,7 +24,20 @@ $(OUTPUTS): a.o b.o c.o
 """
 
 
-class KilledTest(ServerTest):
+class HeldTest(ServerTest):
+    """Calls whose link can be held up."""
+
+    def setUp(self) -> None:
+        """Makes the session that is held up."""
+        super().setUp()
+        self.ldi = session_between(self.folder)
+
+    def env(self, **more: str) -> dict[str, str]:
+        """The environment of a call, with that session."""
+        return super().env(**{"LDI": self.ldi, **more})
+
+
+class KilledTest(HeldTest):
     """What is killed, and when."""
 
     def change(self, number: int) -> None:
@@ -47,9 +61,7 @@ class KilledTest(ServerTest):
         pid = self.start()
         self.change(1)
         self.write(f".image.{pid}.0.new", "half an image")
-        signal_to(self.session(), signal.SIGSTOP)
-        call = self.begin()
-        self.wait_for_link()
+        call = self.begin_held()
         self.assertIsNone(call.poll())
         session = session_of(pid)
         signal_to(pid, signal.SIGKILL)
@@ -68,9 +80,7 @@ class KilledTest(ServerTest):
         self.assertEqual(self.image(), self.expected())
         self.change(2)
         session = self.session()
-        signal_to(session, signal.SIGSTOP)
-        call = self.begin()
-        self.wait_for_link()
+        call = self.begin_held()
         signal_to(session, signal.SIGKILL)
         self.ends(call)
         self.assertEqual(self.image(), self.expected())
@@ -82,14 +92,11 @@ class KilledTest(ServerTest):
         for number in range(3):
             before = self.image()
             self.change(number + 7)
-            session = self.session()
-            signal_to(session, signal.SIGSTOP)
-            call = self.begin()
-            self.wait_for_link()
+            call = self.begin_held()
             call.send_signal((signal.SIGKILL, signal.SIGTERM, signal.SIGINT)[number])
             call.communicate(timeout=LIMIT)
             self.assertEqual(call.returncode, (-signal.SIGKILL, 128 + 15, 128 + 2)[number])
-            signal_to(session, signal.SIGCONT)
+            let_go(self.folder)
             self.assertEqual(self.image(), before)
             self.wait(lambda: not self.beside(), "something is left beside the image")
             self.wait(lambda: "busy" not in self.status(), "it stays busy")
@@ -98,7 +105,7 @@ class KilledTest(ServerTest):
         self.assertEqual(self.server(), pid)
 
 
-class StoppedTest(ServerTest):
+class StoppedTest(HeldTest):
     """A server that gives no answer, or none to this call."""
 
     def test_stopped(self) -> None:
@@ -121,18 +128,15 @@ class StoppedTest(ServerTest):
         """A server that is stopped while it links, and goes on after others have linked, writes over nothing."""
         pid = self.start()
         self.compile("b.c", "int other = 5; int b(int x) { return x + 9; }")
-        session = self.session()
-        os.kill(session, signal.SIGSTOP)
-        call = self.begin(env=self.env(LDI_SERVER_ANSWER="1"))
-        self.wait_for_link()
+        call = self.begin_held(env=self.env(LDI_SERVER_ANSWER="1"))
         os.kill(pid, signal.SIGSTOP)
         self.ends(call)
         self.compile("b.c", "int other = 5; int b(int x) { return x * 9; }")
         self.assertEqual(self.call().returncode, 0)
         image = self.image()
         self.assertEqual(image, self.expected())
-        for number in (session, pid):
-            os.kill(number, signal.SIGCONT)
+        let_go(self.folder)
+        os.kill(pid, signal.SIGCONT)
         self.wait(lambda: not is_running(pid), "the old server stays")
         self.assertEqual(self.image(), image)
         self.assertEqual(self.beside(), [])
@@ -141,17 +145,13 @@ class StoppedTest(ServerTest):
         """A second call for the output is told that the server is busy, and links by itself."""
         self.start()
         self.compile("b.c", "int other = 5; int b(int x) { return x + 9; }")
-        session = self.session()
-        os.kill(session, signal.SIGSTOP)
-        first = self.begin()
-        self.wait_for_link()
-        begun = time.monotonic()
+        first = self.begin_held()
         second = self.call(*WORDS, "--verbose")
-        self.assertLess(time.monotonic() - begun, LIMIT / 2)
         self.assertEqual(second.returncode, 0, second.stderr)
+        self.assertIn("it is busy with another call", second.stderr)
         self.assertEqual(self.image(), self.expected())
         self.assertIsNone(first.poll())
-        os.kill(session, signal.SIGCONT)
+        let_go(self.folder)
         self.ends(first)
         self.assertEqual(self.image(), self.expected())
         self.server()
@@ -169,14 +169,16 @@ class StoppedTest(ServerTest):
         listener = socket.socket(socket.AF_UNIX)
         path = str(self.run_folder / "ldi" / name)
         listener.bind(path)
+        reading, writing = os.pipe()
         child = os.fork()
         if child == 0:
             os.setuid(65534)
             listener.listen(5)
+            os.write(writing, b"l")
             time.sleep(LIMIT)
             os._exit(0)
         try:
-            time.sleep(0.3)
+            self.assertEqual(os.read(reading, 1), b"l")
             done = self.call(*WORDS, "--verbose")
             self.assertEqual(done.returncode, 0, done.stderr)
             self.assertIn("another user", done.stderr)
@@ -185,6 +187,8 @@ class StoppedTest(ServerTest):
             os.kill(child, signal.SIGKILL)
             os.waitpid(child, 0)
             listener.close()
+            os.close(reading)
+            os.close(writing)
 
     def sockets(self) -> list[str]:
         """The names of the sockets."""
@@ -262,8 +266,8 @@ class WantedTest(ServerTest):
         session = self.session()
         os.kill(pid, signal.SIGTERM)
         self.wait(lambda: not is_running(pid) and not is_running(session), "SIGTERM")
-        pid = self.start(env=self.env(LDI_SERVER_IDLE="6"))
-        self.wait(lambda: not is_running(pid), "LDI_SERVER_IDLE", 60)
+        pid = self.start(env=self.env(LDI_SERVER_IDLE="10"))
+        self.wait(lambda: not is_running(pid), "LDI_SERVER_IDLE")
         pid = self.start(env=self.env(LDI_SERVER_MEMORY="1M"))
         self.call(env=self.env(LDI_SERVER_MEMORY="1M"))
         self.wait(lambda: not is_running(pid), "LDI_SERVER_MEMORY")

@@ -2,14 +2,13 @@
 from __future__ import annotations
 
 import os
+import select
 import signal
 import time
 from pathlib import Path
+from typing import BinaryIO
 
-from tests.programs import LD_LDI, SCRIPT, WORDS, ProjectTest, is_running, signal_to
-
-LIMIT = 40.0
-"""Seconds in which each call ends; it takes some only where something is stuck."""
+from tests.programs import LD_LDI, LIMIT, SCRIPT, WORDS, ProjectTest, is_running, signal_to
 
 
 def children(pid: int) -> list[int]:
@@ -34,7 +33,7 @@ class StuckTest(ProjectTest):
         """Makes a server."""
         super().setUp()
         self.call()
-        self.server, = self.servers()
+        self.server = self.one_server()
 
     def stop_session(self) -> int:
         """Stops the session of the server; gives its process."""
@@ -47,28 +46,28 @@ class StuckTest(ProjectTest):
         """The call has its image, and neither server nor session stays."""
         session = self.stop_session()
         self.put("p/b.o", 2)
-        done = self.serve(*WORDS, cwd="p", limit=LIMIT)
+        done = self.serve(*WORDS, cwd="p")
         self.assertEqual((done.returncode, self.number()), (0, 2), done.stderr)
         self.wait(lambda: not is_running(session), "the stopped session stays")
         self.call()
-        self.assertEqual(len(self.servers()), 1)
+        self.one_server()
 
     def test_call_has_gone(self) -> None:
         """The call is ended while it waits for a stopped session: the server ends too."""
         session = self.stop_session()
         self.put("p/b.o", 2)
         call = self.begin(LD_LDI, *WORDS)
-        time.sleep(0.5)
+        self.wait(lambda: ", busy" in self.status() or not is_running(self.server), "the server is not busy")
         call.kill()
         call.communicate()
-        self.wait(lambda: not is_running(self.server), "the server stays", LIMIT)
+        self.wait(lambda: not is_running(self.server), "the server stays")
         self.wait(lambda: not is_running(session), "the stopped session stays")
 
     def test_server_is_stopped(self) -> None:
         """A server that is stopped is replaced, and ends when it goes on."""
         os.kill(self.server, signal.SIGSTOP)
         self.put("p/b.o", 2)
-        done = self.serve(*WORDS, cwd="p", limit=LIMIT, env={"LDI_SERVER_ANSWER": "0.1"})
+        done = self.serve(*WORDS, cwd="p", env={"LDI_SERVER_ANSWER": "0.1"})
         self.assertEqual((done.returncode, self.number()), (0, 2), done.stderr)
         os.kill(self.server, signal.SIGCONT)
         self.wait(lambda: not is_running(self.server), "the server that was replaced stays")
@@ -82,19 +81,24 @@ class FifoTest(ProjectTest):
         (self.folder / "p" / name).unlink(missing_ok=True)
         os.mkfifo(self.folder / "p" / name)
 
+    def write_through(self, fifo: BinaryIO, data: bytes) -> None:
+        """Writes into a FIFO that is open here, and waits until another has read all of it."""
+        fifo.write(data)
+        self.wait(lambda: not select.select([fifo], [], [], 0)[0], "nobody reads it")
+
     def assert_refused(self, name: str, *words: str) -> None:
         """The call ends, without the image of what was there before; the server makes links again."""
         words = words or WORDS
         self.call(*words)
-        pid, = self.servers()
+        pid = self.one_server()
         before = (self.folder / "p" / name).read_bytes()
         (self.folder / "p" / "image").unlink()
         self.fifo(name)
-        done = self.serve(*words, cwd="p", limit=LIMIT)
+        done = self.serve(*words, cwd="p")
         self.assertNotEqual(done.returncode, 0, done.stdout)
         self.assertIn(name, done.stderr)
         self.assertFalse((self.folder / "p" / "image").exists())
-        alone = self.ld(*words, cwd="p", limit=LIMIT)
+        alone = self.ld(*words, cwd="p")
         self.assertEqual((alone.returncode, alone.stderr), (done.returncode, done.stderr))
         (self.folder / "p" / name).unlink()
         self.write(f"p/{name}", before)
@@ -129,9 +133,9 @@ class FifoTest(ProjectTest):
         self.call(*words)
         self.fifo("words")
         self.put("p/b.o", 3)
-        call = self.begin(LD_LDI, *words)
-        with open(self.folder / "p" / "words", "w", encoding="utf-8") as file:
-            file.write("a.o b.o")
+        with open(self.folder / "p" / "words", "r+b", buffering=0) as file:
+            call = self.begin(LD_LDI, *words)
+            self.write_through(file, b"a.o b.o")
         self.assertEqual((call.wait(LIMIT), self.number()), (0, 3))
 
     def test_script_is_written(self) -> None:
@@ -139,12 +143,11 @@ class FifoTest(ProjectTest):
         self.call()
         self.fifo("t.ld")
         self.put("p/b.o", 3)
-        call = self.begin(LD_LDI, *WORDS)
-        with open(self.folder / "p" / "t.ld", "w", encoding="utf-8") as file:
-            file.write(SCRIPT[:40])
-            file.flush()
+        with open(self.folder / "p" / "t.ld", "r+b", buffering=0) as file:
+            call = self.begin(LD_LDI, *WORDS)
+            self.write_through(file, SCRIPT[:40].encode())
             time.sleep(0.5)
-            file.write(SCRIPT[40:])
+            self.write_through(file, SCRIPT[40:].encode())
         self.assertEqual((call.wait(LIMIT), self.number()), (0, 3))
 
     def test_server_stays_free(self) -> None:

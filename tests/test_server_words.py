@@ -6,9 +6,6 @@ import struct
 
 from tests.programs import LD_LDI, SCRIPT, WORDS, ProjectTest
 
-LIMIT = 20.0
-"""Seconds in which each call ends."""
-
 
 class WordsTest(ProjectTest):
     """Two calls, with other files behind the same words."""
@@ -27,7 +24,7 @@ class WordsTest(ProjectTest):
     def by_shell(self, redirected: str, *words: str) -> None:
         """A call with descriptors that the shell opens."""
         done = self.run_program("sh", "-c", f'exec "$@" {redirected}', "sh", LD_LDI, *words, env=self.serving(),
-                                cwd="p", limit=LIMIT)
+                                cwd="p")
         self.assertEqual(done.returncode, 0, f"{redirected}: {done.stdout}{done.stderr}")
 
     def assert_numbers(self, *words: str) -> None:
@@ -51,7 +48,7 @@ class WordsTest(ProjectTest):
     def test_response_file_by_pipe(self) -> None:
         """The same, where it is a pipe."""
         for name, number in (("b.o", 1), ("c.o", 2)):
-            done = self.serve("-T", "t.ld", "-o", "image", "a.o", "@/dev/stdin", cwd="p", stdin=name, limit=LIMIT)
+            done = self.serve("-T", "t.ld", "-o", "image", "a.o", "@/dev/stdin", cwd="p", stdin=name)
             self.assertEqual((done.returncode, self.number()), (0, number), done.stderr)
 
     def test_script(self) -> None:
@@ -66,7 +63,7 @@ class WordsTest(ProjectTest):
         for name, address in (("t.ld", 0x401000), ("u.ld", 0x501000)):
             text = f'{{ sleep 0.3; head -c 50 {name}; sleep 0.3; tail -c +51 {name}; }} | "$@"'
             self.must("sh", "-c", text, "sh", LD_LDI, "-T", "/dev/stdin", "-o", "image", "a.o", "b.o",
-                      env=self.serving(), cwd="p", limit=LIMIT)
+                      env=self.serving(), cwd="p")
             self.assertEqual(self.addresses(), address)
 
     def test_nested(self) -> None:

@@ -57,7 +57,7 @@ class AsLdTest(FolderTest):
     def assert_as_ld(self, *words: str) -> None:
         """The image is that of `ld.ldi`."""
         expected = self.by_ld("-T", "t.ld", *words)
-        self.assertTrue(wait_until(lambda: self.folder.image() == expected, 5))
+        self.assertTrue(wait_until(lambda: self.folder.image() == expected))
 
     def test_scripts(self) -> None:
         """Several -T are one script: an edit of each of them is seen."""
@@ -118,7 +118,7 @@ class AsLdTest(FolderTest):
         self.assertIn("first/libq.a", watching.wait_for("linked")["after"])
         self.assert_as_ld(*words)
         os.unlink(self.folder / "first" / "libq.a")
-        self.assertTrue(wait_until(lambda: self.folder.image() == before, 5))
+        self.assertTrue(wait_until(lambda: self.folder.image() == before))
 
     def test_library_away(self) -> None:
         """A library that goes: it is waited for, and the old image stays."""

@@ -9,6 +9,10 @@ MAKE = "echo run >> log; for name in o0 o1 o2; do cmp -s $name.c $name.o || cp $
 """A command that makes each object, a copy of its source here, that is not the source's."""
 
 
+WAIT = "echo wait >> waits; while [ -e waits ] && [ ! -e go ]; do sleep 0.05; done; rm -f go"
+"""What has a command wait until `let_go`; `waits` says how often it has."""
+
+
 class FolderTest(unittest.TestCase):
     """A test with a folder."""
 
@@ -58,6 +62,16 @@ class MakeTest(FolderTest):
         log = self.folder / "log"
         return len(log.read_text().splitlines()) if log.exists() else 0
 
+    def waits(self) -> int:
+        """How often the command has begun to wait."""
+        waits = self.folder / "waits"
+        return len(waits.read_text().splitlines()) if waits.exists() else 0
+
+    def let_go(self) -> None:
+        """Has the command that waits go on."""
+        (self.folder / "go").touch()
+        self.assertTrue(wait_until(lambda: not (self.folder / "go").exists()))
+
     def test_changes(self) -> None:
         """The command is run at the start, and once after a change of a source; never without one."""
         watching = self.watch("--make", MAKE)
@@ -88,37 +102,41 @@ class MakeTest(FolderTest):
         watching.end()
         self.assertEqual(watching.errors, "broken\n")
 
+    def assert_runs_once(self, watching: Watching) -> None:
+        """A change of a source leads to one run, but for those that come after a pause, which is longer each time."""
+        self.assertTrue(watching.rests(0.6))
+        self.assertLessEqual(self.runs(), 4)
+        for version in range(2, 7):
+            runs = self.runs()
+            self.source(1, version)
+            watching.wait_for("linked")
+            self.assertTrue(watching.rests(0.6))
+            if self.runs() == runs + 1:
+                return
+        self.fail("it leads to more than one")
+
     def test_own_files(self) -> None:
         """What the command itself writes leads to no other run."""
         (self.folder / "other.h").write_text("0")
         watching = self.watch("--make", f"{MAKE}; date +%N > made.h; echo > other.h")
         self.assertEqual(watching.next()["event"], "linked")
-        time.sleep(0.6)
-        self.assertLessEqual(self.runs(), 2)
-        runs = self.runs()
-        self.source(1, 2)
-        self.assertEqual(watching.next()["event"], "linked")
-        time.sleep(0.6)
-        self.assertEqual(self.runs(), runs + 1)
+        self.assert_runs_once(watching)
 
     def test_own_files_that_change(self) -> None:
         """A source that the command writes anew each time is known as its own after some runs."""
         (self.folder / "made.h").write_text("0")
         watching = self.watch("--make", f"{MAKE}; date +%N > made.h")
         self.assertEqual(watching.next()["event"], "linked")
-        time.sleep(0.6)
-        runs = self.runs()
-        self.assertLessEqual(runs, 4)
-        self.source(1, 2)
-        self.assertEqual(watching.next()["event"], "linked")
-        time.sleep(0.4)
-        self.assertEqual(self.runs(), runs + 1)
+        self.assert_runs_once(watching)
 
     def test_saved_meanwhile(self) -> None:
         """A source that is saved while the command runs leads to another run after it, and not at once."""
-        watching = self.watch("--make", f"echo begin >> order; {MAKE}; sleep 0.4; echo end >> order")
-        self.assertTrue(wait_until(lambda: all((self.folder / name).exists() for name in self.folder.names)))
+        watching = self.watch("--make", f"echo begin >> order; {MAKE}; {WAIT}; echo end >> order")
+        self.assertTrue(wait_until(lambda: self.waits() == 1))
         self.source(2, 5)
+        self.let_go()
+        self.assertTrue(wait_until(lambda: self.waits() == 2))
+        self.let_go()
         self.assertEqual(watching.next()["event"], "linked")
         self.assertEqual(self.folder.image(), self.folder.link())
         self.assertEqual((self.folder / "o2.o").read_bytes(), numbered(2, 5, 3))
@@ -126,41 +144,47 @@ class MakeTest(FolderTest):
 
     def test_saved_in_each_run(self) -> None:
         """A source that is saved in each of six runs is built each time, and the last save stands."""
-        watching = self.watch("--make", f"{MAKE}; sleep 0.3")
-        self.assertTrue(wait_until(lambda: self.runs() == 1))
+        watching = self.watch("--make", f"{MAKE}; {WAIT}")
         for version in range(2, 8):
-            before = self.runs()
-            time.sleep(0.1)
+            self.assertTrue(wait_until(lambda run=version - 1: self.waits() == run))
             self.source(1, version)
-            self.assertTrue(wait_until(lambda: self.runs() > before, 15))
+            self.let_go()
+        self.assertTrue(wait_until(lambda: self.waits() == 7))
+        self.let_go()
         said = watching.wait_for("waiting")
-        self.assertEqual(said["reasons"][0]["name"], "o1.c")
+        while said["reasons"][0]["name"] != "o1.c":  # the command that waits may be said to run for long
+            said = watching.wait_for("waiting")
         self.assertIn("--sources '!o1.c'", said["reasons"][0]["why"])
         self.assertTrue(wait_until(lambda: (self.folder / "o1.o").read_bytes() == numbered(1, 7, 3)))
         self.assertTrue(wait_until(lambda: self.folder.image() == self.folder.link()))
 
     def test_saved_and_put_back(self) -> None:
         """A source that has other bytes while the command runs, and its old ones when it ends, is built once more."""
-        watching = self.watch("--make", f"{MAKE}; sleep 0.6")
-        self.assertTrue(wait_until(lambda: self.runs() == 1))
-        time.sleep(0.1)
+        watching = self.watch("--make", f"{MAKE}; {WAIT}")
+        self.assertTrue(wait_until(lambda: self.waits() == 1))
         self.source(1, 2)
-        time.sleep(0.15)
+        time.sleep(2)  # until the watch has read it
         self.source(1, 1)
-        self.assertTrue(wait_until(lambda: self.runs() == 2))
+        self.let_go()
+        self.assertTrue(wait_until(lambda: self.waits() == 2))
+        self.let_go()
         self.assertEqual(watching.next()["event"], "linked")
         self.assertEqual(self.folder.image(), self.folder.link())
 
     def test_back_meanwhile(self) -> None:
         """A source that was removed, and comes again while the command runs, is no file of the command's."""
         (self.folder / "other.h").write_text("1")
-        watching = self.watch("--make", f"{MAKE}; cat other.h >> seen 2> /dev/null; sleep 0.4")
+        watching = self.watch("--make", f"{MAKE}; cat other.h >> seen 2> /dev/null; {WAIT}")
+        self.assertTrue(wait_until(lambda: self.waits() == 1))
+        self.let_go()
         self.assertEqual(watching.next()["event"], "linked")
         os.unlink(self.folder / "other.h")
-        self.assertTrue(wait_until(lambda: self.runs() == 2))
-        time.sleep(0.1)
+        self.assertTrue(wait_until(lambda: self.waits() == 2))
         (self.folder / "other.h").write_text("2")
-        self.assertTrue(wait_until(lambda: (self.folder / "seen").read_text().endswith("2"), 5))
+        self.let_go()
+        self.assertTrue(wait_until(lambda: self.waits() == 3))
+        self.let_go()
+        self.assertTrue((self.folder / "seen").read_text().endswith("2"))
 
     def test_outputs_are_no_sources(self) -> None:
         """What is written of a link is no source, whatever its name."""
@@ -198,7 +222,7 @@ class RunTest(FolderTest):
 
     def test_ended_first(self) -> None:
         """What runs is ended before the next is started; a new image starts it, and nothing else does."""
-        watching = self.watch("--run", "echo $$ >> log; echo begin >> order; trap 'echo end >> order; exit' TERM; "
+        watching = self.watch("--run", "echo $$ >> log; trap 'echo end >> order; exit' TERM; echo begin >> order; "
                                        "while :; do sleep 0.05; done")
         order = self.folder / "order"
         self.assertEqual(watching.next()["event"], "linked")
@@ -219,7 +243,7 @@ class RunTest(FolderTest):
         """What does not end on SIGTERM is killed."""
         watching = self.watch("--run", "trap '' TERM; echo 1 > log; while :; do sleep 1; done")
         self.assertTrue(wait_until((self.folder / "log").exists))
-        child = max(watching.children())
+        child, = set(watching.children()) - {watching.session()}
         self.assertEqual(watching.end(), 0)
         self.assertFalse(os.path.exists(f"/proc/{child}"))
 
@@ -243,7 +267,7 @@ class ListTest(FolderTest):
 
     def listed(self, *names: str) -> None:
         """Writes the list in place."""
-        (self.folder / "list").write_text("".join(f"{name}\n" for name in names))
+        self.folder.put("list", "".join(f"{name}\n" for name in names).encode())
 
     def test_changes(self) -> None:
         """Objects that come, go and move."""
@@ -257,6 +281,9 @@ class ListTest(FolderTest):
             self.listed(*names)
             self.assertEqual(watching.next()["after"][0], "list")
             self.assertEqual(self.folder.image(), self.folder.link(names=names))
+        (self.folder / "list").write_text("o1.o\no0.o\no2.o\n")
+        watching.wait_for("linked")
+        self.assertEqual(self.folder.image(), self.folder.link(names=["o1.o", "o0.o", "o2.o"]))
 
     def test_bad_list(self) -> None:
         """A list with a name that is refused, one that goes, and one with an object that is not there."""

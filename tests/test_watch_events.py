@@ -26,20 +26,14 @@ class EventsTest(FolderTest):
         self.assertEqual(self.folder.image(), self.folder.link())
 
     def test_gathered(self) -> None:
-        """Objects that change within 15 ms lead to one image."""
+        """Objects that change while it does something else lead to one image."""
         watching = self.opened()
-        for version in range(2, 12):
-            begins = time.monotonic()
-            names = [self.folder.renew(number, version) for number in range(3)]
-            took = time.monotonic() - begins
-            said = watching.next()
-            self.assertEqual(said["event"], "linked")
-            if took < 0.01:
-                self.assertEqual(sorted(said["after"]), names)
-                self.assertTrue(watching.is_silent(0.1))
-                break
-            while not watching.is_silent(0.3):
-                pass  # the machine has other work
+        os.kill(watching.process.pid, signal.SIGSTOP)
+        names = [self.folder.renew(number, 2) for number in range(3)]
+        os.kill(watching.process.pid, signal.SIGCONT)
+        said = watching.next()
+        self.assertEqual((said["event"], sorted(said["after"])), ("linked", names))
+        self.assertTrue(watching.is_silent(0.3))
         self.assert_linked()
 
     def test_without_events(self) -> None:
@@ -51,9 +45,7 @@ class EventsTest(FolderTest):
             at = data.index((4).to_bytes(8, "little"))
             mapped[at : at + 8] = (7).to_bytes(8, "little")
             mapped.flush()
-            begins = time.monotonic()
-            self.assertEqual(watching.next()["after"], ["o1.o"])
-            self.assertLess(time.monotonic() - begins, 2)
+            self.assertEqual(watching.next(10)["after"], ["o1.o"])
             self.assert_linked()
 
     def test_two_writers(self) -> None:
@@ -116,9 +108,7 @@ class EventsTest(FolderTest):
         os.link(other, self.folder / "o1.o")
         os.unlink(other)
         os.kill(watching.process.pid, signal.SIGCONT)
-        begins = time.monotonic()
-        watching.wait_for("linked")
-        self.assertLess(time.monotonic() - begins, 3)
+        self.assertNotIn("not closed", str(watching.up_to("linked")))
         self.assert_linked()
 
     def test_folder_replaced(self) -> None:
@@ -195,7 +185,7 @@ class LostTest(FolderTest):
         self.lose(watching)
         self.folder.put("o1.c", numbered(1, 2, 3))
         os.kill(watching.process.pid, signal.SIGCONT)
-        self.assertTrue(wait_until(lambda: (self.folder / "log").read_text() == "run\nrun\n", 5))
+        self.assertTrue(wait_until(lambda: (self.folder / "log").read_text() == "run\nrun\n"))
         self.assertEqual(watching.next()["after"], ["o1.o"])
         self.assertEqual(self.folder.image(), self.folder.link())
 
@@ -217,6 +207,6 @@ class SourceFoldersTest(FolderTest):
         self.assertTrue(wait_until(lambda: not (self.folder / "parts").exists()))
         os.rename(self.folder / "next", self.folder / "parts")
         seen = self.folder / "seen"
-        self.assertTrue(wait_until(lambda: seen.read_text().endswith("2"), 5))
+        self.assertTrue(wait_until(lambda: seen.read_text().endswith("2")))
         (self.folder / "parts" / "a.h").write_text("3")
-        self.assertTrue(wait_until(lambda: seen.read_text().endswith("3"), 5))
+        self.assertTrue(wait_until(lambda: seen.read_text().endswith("3")))

@@ -5,7 +5,7 @@ import subprocess
 import tempfile
 import unittest
 
-from tests.programs import LDI, ROOT, beside_ldi
+from tests.programs import LDI, LIMIT, ROOT, beside_ldi
 from tests.watching import Folder, numbered
 
 
@@ -34,7 +34,7 @@ class InstallTest(unittest.TestCase):
         for name in ("ldi", "readobj", "readscript"):
             os.symlink(beside_ldi(name), os.path.join(programs, name))
         install = [str(ROOT / "tools" / "install"), self.prefix, programs]
-        subprocess.run(install, check=True, capture_output=True, timeout=60)
+        subprocess.run(install, check=True, capture_output=True, timeout=LIMIT)
         done = self.once()
         self.assertEqual((done.returncode, done.stderr), (0, ""))
         self.assertEqual(self.folder.image(), self.folder.link())
@@ -57,14 +57,14 @@ class ExampleTest(unittest.TestCase):
                 shutil.copytree(ROOT / "examples" / name, os.path.join(top, "examples", name))
             os.symlink(ROOT / "front", os.path.join(top, "front"))
             command = ["make", "-s", "-C", os.path.join(top, "examples", "watch"), "once", f"LDI={LDI}"]
-            done = subprocess.run(command, capture_output=True, text=True, timeout=60)
+            done = subprocess.run(command, capture_output=True, text=True, timeout=LIMIT)
             self.assertEqual(done.returncode, 0, done)
             self.assertIn("primes below 100: 25", done.stdout)
             for name, text, said in (("text.c", "int nothing;\n", "undefined reference to `write_line'"),
                                      ("main.c", "no C\n", "the old image stays")):
                 with open(os.path.join(top, "examples", "linux", name), "w", encoding="utf-8") as file:
                     file.write(text)
-                done = subprocess.run(command, capture_output=True, text=True, timeout=60)
+                done = subprocess.run(command, capture_output=True, text=True, timeout=LIMIT)
                 self.assertNotEqual(done.returncode, 0)
                 self.assertIn(said, done.stdout)
                 self.assertNotIn("primes", done.stdout)

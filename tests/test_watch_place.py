@@ -9,7 +9,7 @@ import threading
 import time
 from pathlib import Path
 
-from tests.programs import LDI_WATCH, WORDS, ProjectTest, end
+from tests.programs import LDI_WATCH, LIMIT, WORDS, ProjectTest, end
 
 
 class WatchTest(ProjectTest):
@@ -109,7 +109,7 @@ class SignalTest(WatchTest):
             number = numbers[step % len(numbers)]
             time.sleep((step % 80) * 0.0025)
             process.send_signal(number)
-            said = process.communicate(timeout=20)[0]
+            said = process.communicate(timeout=LIMIT)[0]
             self.assertNotIn("Traceback", said, f"{number.name} after {(step % 80) * 2.5} ms")
             self.assertIn(process.returncode, (0, -number, 128 + number), said)
             if time.monotonic() - begun > 12:

@@ -138,7 +138,7 @@ class ColourTest(unittest.TestCase):
             environment = {name: value for name, value in os.environ.items() if name != "NO_COLOR"}
             subprocess.run(
                 [LDI_WATCH, "--once", "-T", "t.ld", "-o", "image", *folder.names],
-                cwd=folder.path, stdout=theirs, env={**environment, **setting}, timeout=20, check=True,
+                cwd=folder.path, stdout=theirs, env={**environment, **setting}, timeout=PATIENCE, check=True,
             )
             self.assertEqual(b"\x1b[32mimage" in os.read(ours, 4096), coloured)
             os.close(ours)

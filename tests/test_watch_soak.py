@@ -8,7 +8,7 @@ class SoakTest(unittest.TestCase):
     """Three writers and a reader."""
 
     def test_soak(self) -> None:
-        """100 rounds, with ten times the time limits."""
-        done = soak(100, limit=10.0, seed=2, pace=0.03)
+        """100 rounds, with sixty times the time limits."""
+        done = soak(100, limit=60.0, seed=2, pace=0.03)
         self.assertEqual(done.wrong, [])
         self.assertGreaterEqual(done.images, 100)

@@ -65,6 +65,7 @@ class OtherHandsTest(FolderTest):
     def test_run(self) -> None:
         """An image that is put back is no new one for --run."""
         watching = self.opened("--run", "echo run >> log")
+        self.assertTrue(wait_until((self.folder / "log").exists))
         os.unlink(self.folder / "image")
         self.assertTrue(watching.next()["written"])
         self.assertTrue(watching.is_silent(0.5))
@@ -188,9 +189,9 @@ class SourcesTest(FolderTest):
         """Sources of C++, and what they include, are among the default ones."""
         watching = self.begun()
         for runs, name in enumerate(("a.cpp", "a.cxx", "a.hpp", "a.inc"), 2):
+            self.assertTrue(watching.rests())  # what comes while the command runs is its own
             (self.folder / name).write_text(name)
-            self.assertTrue(wait_until(lambda: self.runs() == runs, 5), name)
-            self.assertTrue(watching.is_silent(0.4))  # what comes while the command runs is its own
+            self.assertTrue(wait_until(lambda: self.runs() == runs), name)
 
     def test_behind_links(self) -> None:
         """Sources in a folder that a link leads to; links that lead round in a circle are not followed."""
@@ -203,9 +204,9 @@ class SourcesTest(FolderTest):
         os.symlink("/", self.folder / "root")
         self.begun()
         (elsewhere / "deep" / "a.h").write_text("1")
-        self.assertTrue(wait_until(lambda: self.runs() == 2, 5))
+        self.assertTrue(wait_until(lambda: self.runs() == 2))
         (elsewhere / "deep" / "a.h").write_text("2")
-        self.assertTrue(wait_until(lambda: self.runs() == 3, 5))
+        self.assertTrue(wait_until(lambda: self.runs() == 3))
 
     def test_left_out(self) -> None:
         """A pattern that begins with `!` names files that are no sources, beside the default ones or others."""
@@ -214,7 +215,7 @@ class SourcesTest(FolderTest):
         self.assertTrue(watching.is_silent(0.6))
         self.assertEqual(self.runs(), 1)
         (self.folder / "other.h").write_text("1")
-        self.assertTrue(wait_until(lambda: self.runs() == 2, 5))
+        self.assertTrue(wait_until(lambda: self.runs() == 2))
 
 
 class JobserverTest(FolderTest):
@@ -225,7 +226,8 @@ class JobserverTest(FolderTest):
         """--make's `make` runs as many jobs as the one above, with a `+` and without it."""
         (self.folder / "Makefile").write_text(
             "objects: a b c d\n"
-            "a b c d: ; @echo begin $@ >> order; sleep 0.5; echo end $@ >> order\n"
+            "a b c d: ; @echo begin $@ >> order; for n in $$(seq 100); do "
+            "test $$(grep -c begin order) -gt 1 && break; sleep 0.1; done; echo end $@ >> order\n"
         )
         watch = f"{LDI_WATCH} --once -T t.ld -o image {' '.join(self.folder.names)} --make '$(MAKE) objects'"
         for rule in (f"+{watch.replace('$(MAKE)', 'make')}", watch.replace("$(MAKE)", "make"), watch):

@@ -129,9 +129,9 @@ class TruthTest(unittest.TestCase):
             time.sleep(0.1)
             self.folder.renew(1, version)
             if time.monotonic() < begins + 0.2:
+                self.assertEqual(watching.next()["event"], "linked")
                 break
             watching.wait_for("linked")  # the machine has other work
-        self.assertEqual(watching.next()["event"], "linked")
         self.assertEqual(self.folder.image(), self.folder.link())
 
     def test_half_written(self) -> None:
@@ -160,7 +160,7 @@ class TruthTest(unittest.TestCase):
             self.assertEqual(self.folder.image(), before)
             file.seek(0)
             file.write(numbered(1, 15, 3))
-        self.assertEqual(watching.next()["event"], "linked")
+        watching.wait_for("linked")
         self.assertEqual(self.folder.image(), self.folder.link())
 
     def test_never_closed(self) -> None:
@@ -179,14 +179,14 @@ class TruthTest(unittest.TestCase):
         (self.folder / "other").write_bytes(numbered(1, 2, 3))
         os.unlink(self.folder / "o1.o")
         os.link(self.folder / "other", self.folder / "o1.o")
-        self.assertEqual(watching.next()["event"], "linked")
+        watching.wait_for("linked")
         os.mkdir(self.folder / "below")
         (self.folder / "below" / "o2.o").write_bytes(numbered(2, 3, 3))
         os.unlink(self.folder / "o2.o")
         os.symlink("below/o2.o", self.folder / "o2.o")
-        self.assertEqual(watching.next()["event"], "linked")
+        watching.wait_for("linked")
         (self.folder / "below" / "o2.o").write_bytes(numbered(2, 4, 3))
-        self.assertEqual(watching.next()["event"], "linked")
+        watching.wait_for("linked")
         self.assertEqual(self.folder.image(), self.folder.link())
 
     def test_missing(self) -> None:
@@ -252,7 +252,7 @@ class TruthTest(unittest.TestCase):
         os.unlink(self.folder / "o1.o")
         self.folder.renew(1, 1)
         self.assertTrue(wait_until(lambda: (self.folder / "image").exists()))
-        self.assertEqual(watching.next()["event"], "linked")
+        watching.wait_for("linked")
 
     def test_image_is_another_file(self) -> None:
         """An image that is a symbolic link, and now names another file: that one is written with the next event."""
@@ -272,9 +272,7 @@ class TruthTest(unittest.TestCase):
         self.assertEqual((said["event"], said["reasons"][0]["name"]), ("waiting", "image"))
         self.assertTrue(watching.is_silent(1.2))
         os.mkdir(self.folder / "out")
-        begins = time.monotonic()
-        self.assertEqual(watching.next()["event"], "linked")
-        self.assertLess(time.monotonic() - begins, 2)
+        self.assertEqual(watching.next(10)["event"], "linked")
         self.assertEqual(self.folder.image(), self.folder.link())
 
     def test_pipe(self) -> None:
@@ -296,9 +294,7 @@ class TruthTest(unittest.TestCase):
         self.addCleanup(os.close, reader)
         watching = self.watch()
         self.assertTrue(watching.is_silent(1))
-        begins = time.monotonic()
-        self.assertEqual(watching.end(), 0)
-        self.assertLess(time.monotonic() - begins, 5)
+        self.assertEqual(watching.end(), 0)  # in time, else it is killed
 
     def test_map_first(self) -> None:
         """The map is put in place before the image."""
@@ -321,7 +317,7 @@ class TruthTest(unittest.TestCase):
         self.assertEqual(watching.next()["event"], "waiting")
         os.mkdir(build)
         (build / "o1.o").write_bytes(numbered(1, 2, 3))
-        self.assertEqual(watching.next()["event"], "linked")
+        watching.wait_for("linked")
         (build / "o1.o").write_bytes(numbered(1, 3, 3))
-        self.assertEqual(watching.next()["event"], "linked")
+        watching.wait_for("linked")
         self.assertEqual(self.folder.image(), self.folder.link())

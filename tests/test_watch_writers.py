@@ -71,9 +71,9 @@ class WritersTest(FolderTest):
             self.assertEqual(self.folder.image(), before)
             file.seek(0)
             file.write(numbered(1, 5, 3))
-        begins = time.monotonic()
-        self.assertEqual(watching.wait_for("linked")["after"], ["o1.o"])
-        self.assertLess(time.monotonic() - begins, 3)
+        said = watching.up_to("linked")
+        self.assertNotIn("not closed", str(said))
+        self.assertEqual(said[-1]["after"], ["o1.o"])
         self.assertEqual(self.folder.image(), self.folder.link())
 
     def test_renamed_from_elsewhere(self) -> None:
@@ -97,30 +97,26 @@ class WritersTest(FolderTest):
         watching = self.opened()
         self.folder.put("o1.o", data + b"\0" * 64)
         self.assertEqual(watching.next()["event"], "linked")
-        begins = time.monotonic()
         os.truncate(self.folder / "o1.o", 40)
-        self.assertEqual(watching.next()["event"], "refused")
-        self.assertLess(time.monotonic() - begins, 3)
+        self.assertNotIn("not closed", str(watching.up_to("refused")))
 
     def test_linked_and_unlinked(self) -> None:
         """An object that was written, linked and unlinked at once has no writer to wait for."""
         watching = self.opened()
         for version in (2, 3, 4):
-            begins = time.monotonic()
             os.unlink(self.folder / "o1.o")
             (self.folder / "next").write_bytes(numbered(1, version, 3))
             os.link(self.folder / "next", self.folder / "o1.o")
             os.unlink(self.folder / "next")
-            watching.wait_for("linked")
-            self.assertLess(time.monotonic() - begins, 3)
-            self.assertTrue(wait_until(lambda: self.folder.image() == self.folder.link(), 3))
+            self.assertNotIn("not closed", str(watching.up_to("linked")))
+            self.assertTrue(wait_until(lambda: self.folder.image() == self.folder.link()))
 
     def test_lease_is_given_back(self) -> None:
         """A writer is not held up after a file was read."""
         self.opened()
         begins = time.monotonic()
         with open(self.folder / "o1.o", "r+b"):
-            self.assertLess(time.monotonic() - begins, 1)
+            self.assertLess(time.monotonic() - begins, 10)  # the system waits for 45 s
 
     def test_renamed_to_an_input(self) -> None:
         """A file that is no input is renamed to the name of one while it is being written: that is seen."""

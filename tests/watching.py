@@ -15,7 +15,7 @@ from collections.abc import Callable
 from pathlib import Path
 from typing import Any
 
-from tests.programs import LDI, LDI_WATCH, ROOT
+from tests.programs import LDI, LDI_WATCH, PATIENCE, ROOT
 
 sys.path.insert(0, str(ROOT / "tools"))
 
@@ -30,8 +30,6 @@ SECTIONS {
 }
 """
 PLT32 = 4
-PATIENCE = 20.0
-"""Seconds after which a test gives up waiting."""
 
 
 def numbered(number: int, version: int, count: int, calls: str | None = None) -> bytes:
@@ -164,12 +162,16 @@ class Watching:
         assert found is not None, f"it has ended: {self.errors}"
         return found
 
+    def up_to(self, event: str) -> list[dict[str, Any]]:
+        """The next objects, up to one of this event."""
+        found = [self.next()]
+        while found[-1]["event"] != event:
+            found.append(self.next())
+        return found
+
     def wait_for(self, event: str) -> dict[str, Any]:
         """The next object of this event; others before it are passed over."""
-        while True:
-            found = self.next()
-            if found["event"] == event:
-                return found
+        return self.up_to(event)[-1]
 
     def is_silent(self, seconds: float) -> bool:
         """Whether nothing comes for so long."""
@@ -182,6 +184,18 @@ class Watching:
         """The processes that it started, by their numbers."""
         pid = self.process.pid
         return [int(word) for word in Path(f"/proc/{pid}/task/{pid}/children").read_text().split()]
+
+    def rests(self, seconds: float = 1.0) -> bool:
+        """Waits until only the session has run for so long, and no command; says whether it came to that."""
+        since = time.monotonic()
+
+        def is_at_rest() -> bool:
+            nonlocal since
+            if len(self.children()) != 1:
+                since = time.monotonic()
+            return time.monotonic() > since + seconds
+
+        return wait_until(is_at_rest)
 
     def session(self) -> int:
         """The session's process."""

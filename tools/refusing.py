@@ -22,6 +22,6 @@ class Trial:
         """What it prints, its status, and how many allocations it asked for."""
         given = {"LD_PRELOAD": self.library, "REFUSE": str(refuse), "COUNTED": self.counted}
         command = [self.program, "session", *words]
-        done = subprocess.run(command, input=stream, capture_output=True, env=given, timeout=60)
+        done = subprocess.run(command, input=stream, capture_output=True, env=given, timeout=600)
         with open(self.counted, "rb") as file:
             return done.stdout, done.returncode, struct.unpack("<Q", file.read(8))[0]

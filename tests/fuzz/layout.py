@@ -195,7 +195,7 @@ def compare(program: Program, one: Case, more: list[str]) -> tuple[str, str]:
     if os.path.exists("gnu.out"):
         os.unlink("gnu.out")
     words = one.words("case.ld", "gnu.out")
-    done = subprocess.run([*GNU, *more, *words], capture_output=True, text=True, timeout=60, check=False)
+    done = subprocess.run([*GNU, *more, *words], capture_output=True, text=True, timeout=180, check=False)
     answer = read_answer(program.ask(object_words([*more, *named_first(one, words)])))
     if answer.stop.startswith("failed"):
         return (BOTH_REFUSE if done.returncode else FAILED), answer.stop
@@ -223,7 +223,7 @@ def with_commons(seed: int) -> Case:
         text = COMMON_SOURCE.format(number_of)
         for name in random.sample(range(12), random.choice([1, 2, 5, 7])):
             text += f".comm com{name}, {random.randrange(1, 70)}, {random.choice([1, 2, 4, 8, 16, 32, 64])}\n"
-        subprocess.run(["as", "-o", f"m{number_of}.o", "-"], input=text, text=True, check=True, timeout=60)
+        subprocess.run(["as", "-o", f"m{number_of}.o", "-"], input=text, text=True, check=True, timeout=180)
         one.objects.append(f"m{number_of}.o")
     if random.random() < 0.2:
         one.before.append(random.choice(["--sort-common", "--sort-common=ascending", "--sort-common=descending"]))

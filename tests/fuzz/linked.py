@@ -18,7 +18,7 @@ from tests.symbol_table import table_differences
 
 SAME, CHANGED, REFUSED = "same", "changed, which is said", "refused"
 GNU_REFUSES, SILENT, CRASHED = "refused by GNU ld", "SILENT DIFFERENCE", "CRASHED"
-LIMIT = 60.0
+LIMIT = 180.0
 """Seconds that a case may take."""
 TWICE = 25
 """Of a hundred output sections that might have a name twice, how many do."""
@@ -60,7 +60,7 @@ def link(one: Case, with_headers: bool = False) -> Came:
     """Links a case by both; `with_headers` compares names and flags of sections too."""
     prepare(one)
     try:
-        done = subprocess.run([*GNU, *one.words("case.ld", "gnu.out")], capture_output=True, text=True, timeout=60,
+        done = subprocess.run([*GNU, *one.words("case.ld", "gnu.out")], capture_output=True, text=True, timeout=180,
                               check=False)
     except subprocess.TimeoutExpired:
         return Came(GNU_REFUSES)

@@ -302,7 +302,7 @@ def make_orphans(folder: str, seed: int) -> list[str]:
     for number in range(Random(f"{seed} orphans").randrange(1, 4)):
         text = orphans(f"o{number}", Random(f"{seed} orphans {number}"))
         names.append(f"o{number}.o")
-        subprocess.run(["as", "-W", "-o", names[-1], "-"], input=text, text=True, check=True, timeout=60, cwd=folder)
+        subprocess.run(["as", "-W", "-o", names[-1], "-"], input=text, text=True, check=True, timeout=180, cwd=folder)
     return names
 
 
@@ -320,9 +320,9 @@ def make(folder: str, with_blocks: int | None = None, with_more: int | None = No
             options = random.choice([[], ["-mrelax-relocations=no"]])
         if with_blocks is None and with_more is None and os.path.exists(os.path.join(folder, f"{name}.o")):
             continue
-        subprocess.run(["as", *options, "-o", f"{name}.o", "-"], input=text, text=True, check=True, timeout=60,
+        subprocess.run(["as", *options, "-o", f"{name}.o", "-"], input=text, text=True, check=True, timeout=180,
                        cwd=folder)
     members = [f"{name}.o" for name in LIBRARY]
     if os.path.exists(os.path.join(folder, ARCHIVE)):
         os.unlink(os.path.join(folder, ARCHIVE))
-    subprocess.run(["ar", "rcsD", ARCHIVE, *members], check=True, timeout=60, cwd=folder)
+    subprocess.run(["ar", "rcsD", ARCHIVE, *members], check=True, timeout=180, cwd=folder)
