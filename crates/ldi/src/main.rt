@@ -1,9 +1,9 @@
 //! `ldi`: a static linker that links again after every edit.
 //!
-//! `ldi session` reads commands from standard input and answers them on standard output; with `--deferred` it links only
-//! at the command `link`. It ends with the status of the
-//! link (0 or 1), with 2 after bytes that begin no command, or if the words of the command line are refused, with 3
-//! if a device failed or the system gives no seed for hash tables, and with 4 without memory to begin.
+//! `ldi session` reads commands from standard input and answers them on standard output; with `--deferred` it links
+//! only at the command `link`. It ends with the status of the link (0 or 1), with 2 after bytes that begin no command,
+//! or if the words of the command line are refused, with 3 if a device failed or the system gives no seed for hash
+//! tables, and with 4 without memory to begin.
 //!
 //! `ldi link` reads a script and objects, links once, and writes the image and the map. It ends with 0 when they are
 //! written, with 1 after fault lines on standard error, with 2 if a file or the words of the command line are refused,

@@ -4,7 +4,7 @@ use Rattle.std.specs.Prelude.{codes, decimal}
 use Rattle.ldmodel.specs.Answers.{answer_line}
 use Rattle.ldmodel_deferred.specs.declared.changes.ByteRange.{ByteRange}
 
--- each range lies in so many bytes
+-- each range lies within a number of bytes
 abbrev pub AreWithin : ℕ → List ByteRange → Type 0
 AreWithin most [] = Unit {0}
 AreWithin most (range ∷ rest) = (range.offset + range.count ≤ most) × AreWithin most rest

@@ -5,7 +5,8 @@ ghost use Rattle.ldmodel.specs.EditMeaning.{change_of, linked_of, refusal_of};
 ghost use Rattle.ldmodel.specs.Edits.{After, RefusedAs};
 ghost use Rattle.ldmodel.specs.Link.{link};
 ghost use Rattle.ldmodel_project.specs.ProjectState.{held, listing_of, next_listing};
-ghost use Rattle.relink.specs.Deferred.{HasStaged, HasTables, IsLastGood, IsSeenAs, IsStaged, IsUpdatedOver, staged_listing};
+ghost use Rattle.relink.specs.Deferred.{HasStaged, HasTables, IsLastGood, IsSeenAs, IsStaged, IsUpdatedOver};
+ghost use Rattle.relink.specs.Deferred.{staged_listing};
 ghost use Rattle.relink.specs.Outcome.{is_good, shown};
 ghost use Rattle.relink.specs.PreviousLink.{IsOfGoodLink, IsPreviousLink};
 
@@ -31,8 +32,9 @@ use std::hash::RandomState;
 use std::marker::Model;
 
 /// A linker that keeps what a `Session` keeps, and links when it is asked. The tables of names and matches follow each
-/// edit at once, once they are made: while a project is opened there are none, so that opening it is one link. The last edit is kept beside the project until the next one comes: if the link is asked for before
-/// that, it is the link of one edit, as in a `Session`.
+/// edit at once, once they are made: while a project is opened there are none, so that opening it is one link. The last
+/// edit is kept beside the project until the next one comes: if the link is asked for before that, it is the link of
+/// one edit, as in a `Session`.
 #[derive(Drop)]
 pub struct DeferredSession {
     pub(crate) alloc: Global,
@@ -76,8 +78,8 @@ impl Model for DeferredSession {
         × (s.is_linked ≡ true → shown s.canvas.bytes s.outcome ≡ link (held s.project)) };
 }
 
-/// The outcome of the last link as an edit sees it: where that link is not of the project before the edit, one that says
-/// nothing of the previous link.
+/// The outcome of the last link as an edit sees it: where that link is not of the project before the edit, one that
+/// says nothing of the previous link.
 fn seen<'a>(is_linked: bool, outcome: &'a LinkOutcome, stale: &'a LinkOutcome) -> &'a LinkOutcome
     requires { is_good stale.now ≡ false }
     ensures { IsSeenAs is_linked outcome.now result.now }

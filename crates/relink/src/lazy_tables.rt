@@ -92,8 +92,8 @@ pub(crate) fn tables_of_next(
     }
 }
 
-/// Has the tables follow a staged edit; if there are none yet, and the edit leaves the keys of the objects their places,
-/// there need be none after it either.
+/// Has the tables follow a staged edit; if there are none yet, and the edit leaves the keys of the objects their
+/// places, there need be none after it either.
 ///
 /// # Errors
 ///
