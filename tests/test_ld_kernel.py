@@ -132,8 +132,8 @@ call start
 .zero 0x2345
 .section .note.GNU-stack, "", @progbits
 """
-HEADER = re.compile(r"\] (\S+) +(?!STRTAB)([A-Z_]+) +([0-9a-f]{16}) [0-9a-f]+ ([0-9a-f]+)")
-"""Name, type, address and size of a section, as readelf prints them."""
+HEADER = re.compile(r"\] (\S+) +(?!STRTAB)([A-Z_]+) +([0-9a-f]{16}) [0-9a-f]+ ([0-9a-f]+ .*)")
+"""What readelf prints of a section: name, type, address, and what follows the offset, which has link and info."""
 
 
 class KernelTest(LinkTest):

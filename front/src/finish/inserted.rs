@@ -46,13 +46,13 @@ pub(super) fn insert(data: &[u8], sections: OtherSections, plan: &mut Option<Fil
     // Stable, so that relocations follow their section at once.
     inserted.sort_by_key(|one| one.after);
     let numbers = Numbers::of(changed.sections.len(), &inserted, &dropped);
+    let table = changed.sections.iter().position(|section| section.kind == elf::SHT_SYMTAB);
+    let table = table.map_or(0, |table| numbers.get(table) as u32);
     changed.renumber(&|number| numbers.get(number));
     changed.take_out(&dropped);
     if let Some(Some(symbols)) = &mut changed.symbols {
         renumber_homes(symbols, &numbers);
     }
-    let table = changed.sections.iter().position(|section| section.kind == elf::SHT_SYMTAB);
-    let table = table.map_or(0, |table| numbers.get(table) as u32);
     for (one, place) in inserted.into_iter().zip(&numbers.inserted) {
         let (link, info) = one.target.map_or((0, 0), |target| (table, numbers.get(target) as u32));
         let name = u32::try_from(names.len()).unwrap_or(0);
