@@ -1,18 +1,19 @@
 //! The hash of a file for its build ID: of all of its bytes, with those of the ID as zeros.
 //!
 //! GNU ld hashes headers and sections one after the other (elfcode.h, `elf_checksum_contents`); here the file is hashed in
-//! pieces, by several threads, and the hash is that of the hashes of the pieces.
+//! pieces, by a quick hash and several threads, and the ID is the hash of the hashes of the pieces. As lld's and mold's it
+//! has the size that its name says, and is another hash.
 
 use std::ops::Range;
 
 use bstr::ByteSlice;
 
-use super::digest::{Digest, Md5, Rounds, Sha1};
+use super::digest::{Digest, Md5, Quick, Rounds, Sha1};
 use super::file_image::FileImage;
 use super::image::Image;
 
 /// The bytes of a piece.
-const PIECE: u64 = 1 << 18;
+const PIECE: u64 = 1 << 20;
 const ZEROS: [u8; 4096] = [0; 4096];
 const MOST_THREADS: usize = 8;
 
@@ -54,11 +55,11 @@ fn of_pieces<R: Rounds + Default>(file: &FileImage, id: &Range<u64>) -> Vec<u8> 
     let threads = std::thread::available_parallelism().map_or(1, usize::from).clamp(1, MOST_THREADS);
     let share = (hashes.len() + threads - 1) / threads;
     if share <= 1 {
-        fill::<R>(file, id, 0, &mut hashes);
+        fill(file, id, 0, &mut hashes);
     } else {
         std::thread::scope(|scope| {
             for (number, part) in hashes.chunks_mut(share).enumerate() {
-                scope.spawn(move || fill::<R>(file, id, number * share, part));
+                scope.spawn(move || fill(file, id, number * share, part));
             }
         });
     }
@@ -68,12 +69,12 @@ fn of_pieces<R: Rounds + Default>(file: &FileImage, id: &Range<u64>) -> Vec<u8> 
 }
 
 /// The hashes of pieces from a number on.
-fn fill<R: Rounds + Default>(file: &FileImage, id: &Range<u64>, first: usize, hashes: &mut [Vec<u8>]) {
+fn fill(file: &FileImage, id: &Range<u64>, first: usize, hashes: &mut [Vec<u8>]) {
     for (number, hash) in hashes.iter_mut().enumerate() {
         let start = (first + number) as u64 * PIECE;
         let end = (start + PIECE).min(file.len());
         let (before, after) = (id.start.clamp(start, end), id.end.clamp(start, end));
-        let mut digest = Digest::<R>::new();
+        let mut digest = Digest::<Quick>::new();
         take(&mut digest, file, start..before);
         take_zeros(&mut digest, after - before);
         take(&mut digest, file, after..end);
@@ -82,7 +83,7 @@ fn fill<R: Rounds + Default>(file: &FileImage, id: &Range<u64>, first: usize, ha
 }
 
 /// Takes a stretch of the file.
-fn take<R: Rounds + Default>(digest: &mut Digest<R>, file: &FileImage, stretch: Range<u64>) {
+fn take(digest: &mut Digest<Quick>, file: &FileImage, stretch: Range<u64>) {
     let mut at = stretch.start;
     for (place, bytes) in file.pieces_from(stretch.start) {
         if place >= stretch.end {
@@ -98,7 +99,7 @@ fn take<R: Rounds + Default>(digest: &mut Digest<R>, file: &FileImage, stretch: 
     take_zeros(digest, stretch.end.saturating_sub(at));
 }
 
-fn take_zeros<R: Rounds + Default>(digest: &mut Digest<R>, mut count: u64) {
+fn take_zeros(digest: &mut Digest<Quick>, mut count: u64) {
     while count > 0 {
         let some = count.min(ZEROS.len() as u64);
         digest.take(ZEROS.get(..some as usize).unwrap_or_default());
@@ -133,7 +134,7 @@ mod tests {
     /// The hash of one piece is the hash of its hash.
     #[test]
     fn a_small_file_is_one_piece() {
-        let mut inner = Digest::<Sha1>::new();
+        let mut inner = Digest::<Quick>::new();
         inner.take(b"a\0\0d");
         let mut outer = Digest::<Sha1>::new();
         outer.take(&inner.finish());

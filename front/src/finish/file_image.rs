@@ -7,6 +7,7 @@ use object::elf;
 
 use super::image::{Image, NotAnImage, Section, Segment, ELF_HEADER};
 use super::symbols::SymbolTable;
+use crate::mirror::Answered;
 use crate::snapshot::Bytes;
 
 /// Where fields are in the header of a file: EI_OSABI, e_phoff, e_shoff, e_phnum, e_shnum and e_shstrndx.
@@ -20,7 +21,7 @@ const NAMES_AT: usize = 62;
 /// A file: pieces at ascending places, with zeros between. No byte of the image is copied for it.
 #[derive(Debug)]
 pub struct FileImage {
-    image: Vec<u8>,
+    image: Answered,
     pieces: Vec<Piece>,
     length: u64,
 }
@@ -43,7 +44,8 @@ enum Source {
 
 impl FileImage {
     /// A file of these bytes.
-    pub fn whole(image: Vec<u8>) -> FileImage {
+    pub fn whole(image: impl Into<Answered>) -> FileImage {
+        let image = image.into();
         let (end, length) = (image.len(), image.len() as u64);
         FileImage { image, pieces: vec![Piece { at: 0, source: Source::Image(0..end) }], length }
     }
@@ -63,9 +65,18 @@ impl FileImage {
         &self.image
     }
 
-    /// The image of `ldi`, for its memory to be used again.
-    pub fn into_image(self) -> Vec<u8> {
+    /// The image of `ldi`, to be given back.
+    pub fn into_image(self) -> Answered {
         self.image
+    }
+
+    /// Takes the image of `ldi` out, to be given back; another one is put in its place.
+    pub fn take_image(&mut self) -> Answered {
+        self.replace_image(Answered::default())
+    }
+
+    pub(super) fn replace_image(&mut self, image: Answered) -> Answered {
+        std::mem::replace(&mut self.image, image)
     }
 
     /// The pieces with their places, which ascend; between them are zeros.
@@ -150,7 +161,7 @@ impl FileImage {
     /// All of it in one, without a copy where it is the image as it was.
     pub fn into_vec(self) -> Vec<u8> {
         match self.pieces.as_slice() {
-            [Piece { at: 0, source: Source::Image(range) }] if *range == (0..self.image.len()) => self.image,
+            [Piece { at: 0, source: Source::Image(range) }] if *range == (0..self.image.len()) => self.image.into_vec(),
             _ => self.to_vec(),
         }
     }
@@ -234,7 +245,7 @@ impl FilePlan {
     }
 
     /// The file: the headers, what is loaded, what is not loaded, and the section headers.
-    pub(super) fn file(mut self, image: Vec<u8>) -> FileImage {
+    pub(super) fn file(mut self, image: Answered) -> FileImage {
         let mut pieces = Vec::with_capacity(self.loaded.len() + 8);
         for (at, range) in self.loaded.drain(..).filter(|(_, range)| !range.is_empty()) {
             pieces.push(Piece { at, source: Source::Image(range) });

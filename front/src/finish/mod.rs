@@ -19,6 +19,7 @@ mod unloaded;
 
 use bstr::BString;
 
+use crate::mirror::Answered;
 pub use build_id::{hash_of, place_of_note, HashKind};
 pub use file_image::FileImage;
 pub use flat::NoFlatImage;
@@ -125,11 +126,12 @@ pub struct Finished {
 /// # Errors
 /// Where the form has no file for this image, and where the file would not load what the image loads.
 pub fn finish(
-    mut image: Vec<u8>,
+    image: impl Into<Answered>,
     form: &Form,
     symbols: Option<&Symbols<'_>>,
     unloaded: Vec<Unloaded>,
 ) -> Result<Finished, FinishError> {
+    let mut image = image.into();
     if form.is_flat {
         let flat = flat::flat_binary(&image)?;
         return Ok(Finished { file: FileImage::whole(flat), notes: Vec::new() });
@@ -158,6 +160,14 @@ pub fn finish(
         .collect();
     loaded::check(&file, &segments, &outside)?;
     Ok(Finished { file, notes })
+}
+
+/// Puts an image in the place of that of a file, which is of the form and made of an image that had the same bytes but for
+/// some that are loaded: these are where they were.
+pub fn put_image(file: &mut FileImage, form: &Form, mut image: Answered) -> Result<(), FinishError> {
+    rights::write(&mut image, &form.rights)?;
+    file.replace_image(image);
+    Ok(())
 }
 
 /// Gives the file its table of symbols, or takes that of the image away; gives how its sections differ.

@@ -7,6 +7,7 @@ use std::collections::HashMap;
 use object::elf;
 
 use super::image::{Image, NotAnImage, Section, Segment, ELF_HEADER, PROGRAM_HEADER};
+use crate::mirror::Answered;
 
 /// The rights of a section.
 const RIGHTS: [(u32, u32); 2] = [(elf::SHF_WRITE, elf::PF_W), (elf::SHF_EXECINSTR, elf::PF_X)];
@@ -36,12 +37,9 @@ pub struct Rights {
 
 /// Writes the rights and types of sections into their headers, and rights into those of the segments that have such a
 /// section.
-pub(super) fn write(data: &mut [u8], wanted: &[Rights]) -> Result<(), NotAnImage> {
-    for (at, bytes) in changes(data, wanted)? {
-        let place = usize::try_from(at).ok().and_then(|at| data.get_mut(at..at.checked_add(bytes.len())?));
-        if let Some(place) = place {
-            place.copy_from_slice(&bytes);
-        }
+pub(super) fn write(image: &mut Answered, wanted: &[Rights]) -> Result<(), NotAnImage> {
+    for (at, bytes) in changes(image, wanted)? {
+        image.cover(usize::try_from(at).unwrap_or(usize::MAX), &bytes);
     }
     Ok(())
 }

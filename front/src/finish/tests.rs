@@ -247,7 +247,7 @@ fn what_is_loaded_is_tested() {
     let read = Image::read(&data).unwrap();
     let plan = file_image::FilePlan::unchanged(&read);
     let segments = plan.segments.clone();
-    let file = plan.clone().file(data.clone());
+    let file = plan.clone().file(data.clone().into());
     loaded::check(&file, &segments, &[]).unwrap();
     let mut other = segments.clone();
     other[1].load += 8;
@@ -259,7 +259,7 @@ fn what_is_loaded_is_tested() {
     );
     let mut moved = plan;
     moved.loaded[0].1 = 0..4;
-    let fault = loaded::check(&moved.file(data), &segments, &[]).unwrap_err().to_string();
+    let fault = loaded::check(&moved.file(data.into()), &segments, &[]).unwrap_err().to_string();
     assert!(fault.contains(".text") && fault.contains("its bytes are others"), "{fault}");
 }
 

@@ -1,5 +1,6 @@
 //! What the session of `ldi` holds: order, bytes and script; the fewest edits that bring it to what a link wants.
 
+mod answered;
 mod edits;
 mod session;
 
@@ -14,6 +15,7 @@ use bstr::BString;
 
 use crate::quick::QuickMap;
 use crate::snapshot::Bytes;
+pub use answered::Answered;
 pub use session::{
     is_name, Answer, Edit, Linked, Options, Orphans, Query, Refusal, Session, SessionError, TakeError, GREATEST_NAME,
     GREATEST_PAYLOAD,
@@ -73,8 +75,10 @@ pub struct Mirror {
     state: State,
     last_status: Option<ExitStatus>,
     process: Arc<AtomicU32>,
-    /// The memory of an earlier image.
-    spare: Vec<u8>,
+    /// An earlier image: what is the same in the next one is not asked for.
+    spare: Answered,
+    /// How many images were answered; the session that runs has answered the last one, or none.
+    answers: u64,
 }
 
 /// What a session holds.
@@ -106,7 +110,8 @@ impl Mirror {
             state: State::default(),
             last_status: None,
             process: Arc::default(),
-            spare: Vec::new(),
+            spare: Answered::default(),
+            answers: 0,
         }
     }
 
@@ -150,14 +155,25 @@ impl Mirror {
         })
     }
 
-    /// The image of the last link; empty where it has faults.
-    pub fn image(&mut self) -> Result<Vec<u8>, SessionError> {
+    /// The image of the last link; empty where it has faults. Of one after the image that was given back last the session
+    /// answers what has changed.
+    pub fn image(&mut self) -> Result<Answered, SessionError> {
         let spare = std::mem::take(&mut self.spare);
-        self.with_session(|session, _| session.query_into(Query::Image, spare))
+        let is_last = spare.number != 0 && spare.number == self.answers;
+        self.answers += 1;
+        let number = self.answers;
+        self.with_session(|session, _| {
+            let spare = spare.into_answer();
+            if is_last {
+                let (bytes, changed) = session.changes(spare)?;
+                return Ok(Answered::new(bytes, Some(changed), number));
+            }
+            Ok(Answered::new(session.query_into(Query::Image, spare)?, None, number))
+        })
     }
 
-    /// Gives the memory of an image back, which the next one has: its pages need not be got from the system again.
-    pub fn reuse(&mut self, image: Vec<u8>) {
+    /// Gives an image back, whose memory the next one has: what is the same in both stays there.
+    pub fn reuse(&mut self, image: Answered) {
         self.spare = image;
     }
 
@@ -173,6 +189,7 @@ impl Mirror {
 
     /// Moves the image of the last link to a file, without a copy here; gives its length.
     pub fn image_to(&mut self, file: &mut File) -> Result<usize, TakeError> {
+        self.answers += 1;
         let session = self.session.as_mut().ok_or(SessionError::Ended)?;
         match session.image_to(file) {
             Err(TakeError::Session(error)) => {
@@ -197,6 +214,7 @@ impl Mirror {
         }
         self.process.store(0, Ordering::SeqCst);
         self.state = State::default();
+        self.answers += 1; // the next session has answered nothing
     }
 
     /// Whether the session has ended by itself, as where it was killed.

@@ -3,6 +3,7 @@
 use std::ffi::{OsStr, OsString};
 use std::fs::File;
 use std::io::{self, IoSlice, Read, Write};
+use std::ops::Range;
 use std::os::unix::io::{AsFd, AsRawFd};
 use std::process::{Child, ChildStdin, ChildStdout, Command, ExitStatus, Stdio};
 use std::time::{Duration, Instant};
@@ -394,6 +395,23 @@ impl Session {
         Ok(data)
     }
 
+    /// Asks what has changed in the image since it was answered last, and makes it of the bytes of that answer; gives it and
+    /// the ranges that may be others.
+    pub fn changes(&mut self, mut image: Vec<u8>) -> Result<(Vec<u8>, Vec<Range<usize>>), SessionError> {
+        let (length, count) = changes(&self.exchange(b"changes\n")?)?;
+        let mut ranges = Vec::new();
+        for _ in 0..count {
+            let line = self.line()?;
+            let range = range(&line).filter(|range| range.end <= length).ok_or_else(|| no_answer(&line))?;
+            ranges.push(range);
+        }
+        image.resize(length, 0);
+        for range in &ranges {
+            self.read_exactly(image.get_mut(range.clone()).unwrap_or_default())?;
+        }
+        Ok((image, ranges))
+    }
+
     /// Asks for the image, and moves it to a file without a copy here; gives its length.
     pub fn image_to(&mut self, file: &mut File) -> Result<usize, TakeError> {
         let length = self.ask(Query::Image)?;
@@ -473,7 +491,11 @@ impl Session {
     }
 
     fn read_exactly(&mut self, into: &mut [u8]) -> Result<(), SessionError> {
-        let mut at = 0;
+        let mut at = self.read.rest().len().min(into.len());
+        if let (Some(to), Some(from)) = (into.get_mut(..at), self.read.rest().get(..at)) {
+            to.copy_from_slice(from);
+        }
+        self.read.take(at);
         while let Some(rest) = into.get_mut(at..).filter(|rest| !rest.is_empty()) {
             match self.from.read(rest) {
                 Ok(0) => return Err(SessionError::EndedInAnswer),
@@ -493,7 +515,15 @@ impl Session {
 
     /// Sends a line; gives the line that answers it.
     fn exchange(&mut self, line: &[u8]) -> Result<Vec<u8>, SessionError> {
-        let mut out = Outgoing::new(vec![line]);
+        self.line_while(Outgoing::new(vec![line]))
+    }
+
+    /// The next line.
+    fn line(&mut self) -> Result<Vec<u8>, SessionError> {
+        self.line_while(Outgoing::new(Vec::new()))
+    }
+
+    fn line_while(&mut self, mut out: Outgoing<'_>) -> Result<Vec<u8>, SessionError> {
         loop {
             if let Some(line) = self.read.take_line() {
                 return Ok(line);
@@ -627,6 +657,26 @@ fn asked(line: &[u8]) -> Result<usize, SessionError> {
         _ => None,
     };
     read().ok_or_else(|| no_answer(line))
+}
+
+/// The length of an image that may have changed, and the number of the ranges that have.
+fn changes(line: &[u8]) -> Result<(usize, usize), SessionError> {
+    let read = || match words(line)?.as_slice() {
+        ["changes", length, count] => Some((length.parse().ok()?, count.parse().ok()?)),
+        _ => None,
+    };
+    read().ok_or_else(|| no_answer(line))
+}
+
+/// A range of an image.
+fn range(line: &[u8]) -> Option<Range<usize>> {
+    match words(line)?.as_slice() {
+        [start, count] => {
+            let start: usize = start.parse().ok()?;
+            Some(start..start.checked_add(count.parse().ok()?)?)
+        }
+        _ => None,
+    }
 }
 
 /// Whether a session takes this as an object's name.

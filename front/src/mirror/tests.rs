@@ -63,10 +63,10 @@ fn a_project_is_opened_and_edited() {
     let brought = mirror.bring(wanted).unwrap();
     assert_eq!((brought.is_good, brought.edits, brought.refused.len()), (true, 31, 0));
     assert_eq!((brought.length, brought.accepted), (4, 31));
-    assert_eq!(mirror.image().unwrap(), b"31 1");
+    assert_eq!(&*mirror.image().unwrap(), b"31 1");
     let again = mirror.bring(wanted).unwrap();
     assert_eq!((again.is_good, again.length, again.edits, again.accepted), (true, 4, 0, 0));
-    assert_eq!(mirror.image().unwrap(), b"31 1");
+    assert_eq!(&*mirror.image().unwrap(), b"31 1");
     objects.swap(3, 4);
     let wanted = Wanted { options: &options, objects: &objects, script: b"SECTIONS { }" };
     assert_eq!(mirror.bring(wanted).unwrap().edits, 1);
@@ -96,10 +96,10 @@ fn objects_are_brought_before_the_script_and_linked_with_it() {
     let objects = objects(9, 10);
     for options in [Options::default(), Options { entry: Some("main".into()), ..Options::default() }] {
         mirror.prepare(&options, &objects).unwrap();
-        assert_eq!(mirror.image().unwrap(), b"");
+        assert_eq!(&*mirror.image().unwrap(), b"");
         let brought = mirror.bring(Wanted { options: &options, objects: &objects, script: b"a = 1;" }).unwrap();
         assert_eq!((brought.edits, brought.accepted), (1, 10));
-        assert_eq!(mirror.image().unwrap(), b"10 1");
+        assert_eq!(&*mirror.image().unwrap(), b"10 1");
     }
 }
 
@@ -115,7 +115,7 @@ fn what_is_brought_before_a_script_that_is_there_is_linked() {
     mirror.prepare(&options, &objects).unwrap();
     let brought = bring(&mut mirror, 2);
     assert_eq!((brought.edits, brought.accepted), (0, 2));
-    assert_eq!(mirror.image().unwrap(), b"3 2");
+    assert_eq!(&*mirror.image().unwrap(), b"3 2");
 }
 
 #[test]
@@ -128,10 +128,10 @@ fn the_others_are_linked_where_objects_are_refused() {
     let brought = mirror.bring(wanted).unwrap();
     assert_eq!(brought.refused, [(1, Refusal { number: 4, inner: 2 })]);
     assert_eq!((brought.edits, brought.accepted), (4, 3));
-    assert_eq!(mirror.image().unwrap(), b"3 1");
+    assert_eq!(&*mirror.image().unwrap(), b"3 1");
     let brought = mirror.bring(wanted).unwrap();
     assert_eq!((brought.refused.len(), brought.edits, brought.accepted), (1, 0, 0));
-    assert_eq!(mirror.image().unwrap(), b"3 1");
+    assert_eq!(&*mirror.image().unwrap(), b"3 1");
 }
 
 #[test]
@@ -147,10 +147,10 @@ fn a_link_without_memory_is_tried_again() {
     let brought = mirror.bring(wanted).unwrap();
     assert_eq!((brought.is_good, brought.edits, brought.accepted), (false, 1, 1));
     assert!(brought.script_refused.map_or(false, Refusal::is_memory));
-    assert_eq!(mirror.image().unwrap(), b"3 1");
+    assert_eq!(&*mirror.image().unwrap(), b"3 1");
     let brought = mirror.bring(wanted).unwrap();
     assert_eq!((brought.is_good, brought.edits, brought.accepted, brought.script_refused), (true, 0, 1, None));
-    assert_eq!(mirror.image().unwrap(), b"4 2");
+    assert_eq!(&*mirror.image().unwrap(), b"4 2");
 }
 
 #[test]
@@ -213,8 +213,45 @@ fn the_memory_of_an_image_is_used_again() {
     let options = Options::default();
     let wanted = Wanted { options: &options, objects: &objects(3, 10), script: b"SECTIONS { }" };
     mirror.bring(wanted).unwrap();
-    mirror.reuse(vec![b'x'; 100]);
+    mirror.reuse(vec![b'x'; 100].into());
     let image = mirror.image().unwrap();
-    assert_eq!((image.as_slice(), image.capacity()), (&b"4 1"[..], 100));
-    assert!(mirror.image().unwrap().capacity() < 100);
+    assert_eq!((&*image, image.changed()), (&b"4 1"[..], None));
+    assert_eq!(image.into_vec().capacity(), 100);
+    assert!(mirror.image().unwrap().into_vec().capacity() < 100);
+}
+
+/// Says yes to each edit; the image is of 8 bytes, and then of 6, the third of which is another.
+const CHANGES: &str = r#"
+while read word name first second; do
+    case $word in
+        add) head -c "$second" > /dev/null ;;
+        script) head -c "$name" > /dev/null ;;
+        link) echo "linked 0 8"; continue ;;
+        image) printf 'bytes 8\nabcdefgh'; continue ;;
+        changes) printf 'changes 6 2\n2 1\n4 2\nCEF'; continue ;;
+    esac
+    echo accepted
+done
+"#;
+
+#[test]
+fn of_an_image_that_was_given_back_what_has_changed_is_asked_for() {
+    let program = Program::new("changes", CHANGES);
+    let mut mirror = program.mirror();
+    let options = Options::default();
+    let wanted = Wanted { options: &options, objects: &objects(3, 10), script: b"SECTIONS { }" };
+    mirror.bring(wanted).unwrap();
+    let mut image = mirror.image().unwrap();
+    image.cover(0, b"xy");
+    mirror.reuse(image);
+    let image = mirror.image().unwrap();
+    assert_eq!((&*image, image.changed()), (&b"abCdEF"[..], Some(&[2..3, 4..6][..])));
+    assert_eq!(&*mirror.image().unwrap(), b"abcdefgh", "it was not given back");
+    mirror.reuse(image);
+    assert_eq!(&*mirror.image().unwrap(), b"abcdefgh", "it is not the last one");
+    let image = mirror.image().unwrap();
+    mirror.end();
+    mirror.bring(wanted).unwrap();
+    mirror.reuse(image);
+    assert_eq!(&*mirror.image().unwrap(), b"abcdefgh", "it is another session's");
 }

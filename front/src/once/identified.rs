@@ -1,14 +1,19 @@
 //! The file of an image, with what is not loaded, and with its build ID: the file is hashed, the note with the hash is sent
-//! to the session, and the file is made of the image that it answers then.
+//! to the session, and the file has the image that it answers then.
 
 use std::ops::Range;
 
 use crate::command::BuildId;
-use crate::finish::{finish, hash_of, place_of_note, FileImage, FinishError, Finished, HashKind, LaidOut, Unloaded};
-use crate::mirror::{Mirror, SessionError, Wanted};
+use crate::finish::{
+    finish, hash_of, place_of_note, put_image, FileImage, FinishError, Finished, HashKind, LaidOut, Unloaded,
+};
+use crate::mirror::{Answered, Mirror, SessionError, Wanted};
 use crate::objects::NOTE_HEAD;
 use crate::plan::{Identity, LinkPlan};
 use crate::unloaded::{self, unloaded, NotMade};
+
+/// How far around a build ID the session may answer bytes again that are the same.
+const AROUND: usize = 2 * 4096;
 
 /// Why there is no file.
 #[derive(Debug, thiserror::Error)]
@@ -27,7 +32,7 @@ pub(crate) enum FileFault {
 /// The file of the image that the session has.
 pub(crate) fn file_of(
     plan: &mut LinkPlan,
-    image: Vec<u8>,
+    image: Answered,
     laid_out: LaidOut<'_>,
     mirror: &mut Mirror,
 ) -> Result<Finished, FileFault> {
@@ -35,8 +40,9 @@ pub(crate) fn file_of(
     let unloaded = unloaded_of(plan, &image, laid_out, mirror)?;
     let has_hash = plan.inputs.identity().map_or(false, |identity| identity.style().is_found());
     let again = if has_hash { unloaded.clone() } else { Vec::new() };
-    let finished = finish(image, &plan.form, plan.symbols(laid_out).as_ref(), unloaded)?;
-    let start = place.and_then(|place| finished.file.place_of(place + NOTE_HEAD));
+    let mut finished = finish(image, &plan.form, plan.symbols(laid_out).as_ref(), unloaded)?;
+    let place = place.map(|place| place + NOTE_HEAD);
+    let start = place.and_then(|place| finished.file.place_of(place));
     let id = match (plan.inputs.identity(), start) {
         (Some(identity), Some(start)) => {
             let end = start + identity.id().len() as u64;
@@ -44,15 +50,45 @@ pub(crate) fn file_of(
         }
         _ => None,
     };
-    match id.filter(|id| plan.inputs.identity().map_or(false, |identity| identity.id() != id.as_slice())) {
-        Some(id) => {
-            mirror.reuse(finished.file.into_image());
+    let is_other = |id: &Vec<u8>| plan.inputs.identity().map_or(false, |identity| identity.id() != id.as_slice());
+    match place.zip(id.filter(is_other)) {
+        Some((place, id)) => {
+            let stretch = place..place + id.len();
             plan.set_id(id);
-            let image = image_again(plan, mirror)?;
-            Ok(finish(image, &plan.form, plan.symbols(laid_out).as_ref(), again)?)
+            match with_id(plan, &mut finished.file, stretch, mirror)? {
+                Some(image) => Ok(finish(image, &plan.form, plan.symbols(laid_out).as_ref(), again)?),
+                None => Ok(finished),
+            }
         }
         None => Ok(finished),
     }
+}
+
+/// Gives a file the image with the ID that the note has now, which stands at a place of it; where that image differs from the
+/// one before in more, it is given, and the file is to be made anew.
+fn with_id(
+    plan: &LinkPlan,
+    file: &mut FileImage,
+    id: Range<usize>,
+    mirror: &mut Mirror,
+) -> Result<Option<Answered>, FileFault> {
+    let mut image = file.take_image();
+    image.uncover();
+    let length = image.len();
+    let around = id.start.saturating_sub(AROUND)..id.end.saturating_add(AROUND).min(length);
+    let before = image.get(around.clone()).unwrap_or_default().to_vec();
+    mirror.reuse(image);
+    let image = image_again(plan, mirror)?;
+    let is_around = |range: &Range<usize>| around.start <= range.start && range.end <= around.end;
+    let is_near = image.len() == length && image.changed().map_or(false, |ranges| ranges.iter().all(is_around));
+    let now = image.get(around.clone()).unwrap_or_default();
+    let mut places = around.clone().zip(before.iter().zip(now));
+    let is_same = before.len() == now.len() && places.all(|(at, (old, new))| id.contains(&at) || old == new);
+    if is_near && is_same {
+        put_image(file, &plan.form, image)?;
+        return Ok(None);
+    }
+    Ok(Some(image))
 }
 
 /// What is in the file and not loaded.
@@ -83,7 +119,7 @@ fn place_of(plan: &LinkPlan, identity: &Identity, image: &[u8]) -> Option<usize>
 }
 
 /// The image with the note as it is now.
-fn image_again(plan: &LinkPlan, mirror: &mut Mirror) -> Result<Vec<u8>, SessionError> {
+fn image_again(plan: &LinkPlan, mirror: &mut Mirror) -> Result<Answered, SessionError> {
     let brought = mirror.bring(Wanted { options: &plan.options, objects: plan.held(), script: &plan.residual.text })?;
     if !brought.is_good || !brought.refused.is_empty() {
         return Err(SessionError::NoAnswer("the note of the build ID was not taken".to_owned()));

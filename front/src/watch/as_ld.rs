@@ -12,7 +12,7 @@ use super::words::Words;
 use crate::command::{path_of, read_command, Command, Input};
 use crate::finish::{FileImage, LaidOut};
 use crate::inputs::InputFault;
-use crate::mirror::{Brought, Mirror, SessionError, Wanted};
+use crate::mirror::{Answered, Brought, Mirror, SessionError, Wanted};
 use crate::once::{file_of, messages, notes_of, plan_while_sending, section_outside, verdict, FileFault, LinkFault};
 use crate::plan::{self, Environment, LinkPlan, PlanFault, Scripts, ScriptsFault};
 use crate::report::link_map::LinkMap;
@@ -196,7 +196,7 @@ impl AsLd {
     pub(super) fn make(
         &mut self,
         words: &Words,
-        image: Vec<u8>,
+        image: Answered,
         map: &[u8],
         mirror: &mut Mirror,
     ) -> Result<Made, SessionError> {

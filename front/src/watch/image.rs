@@ -102,7 +102,7 @@ impl Output {
                 }
             },
             None => {
-                self.data = mirror.image()?;
+                self.data = mirror.image()?.into_vec();
                 Ok(self.data.len() as u64)
             }
         }
