@@ -52,7 +52,12 @@ impl Default for NameTable {
 impl NameTable {
     /// Enters a name that it does not have.
     pub fn insert(&mut self, name: &[u8]) {
-        let (id, hash) = (self.hashes.len() as u32, hash_of(name));
+        self.insert_hashed(table_hash(name));
+    }
+
+    /// The same by the hash of the name.
+    pub fn insert_hashed(&mut self, hash: u64) {
+        let id = self.hashes.len() as u32;
         self.hashes.push(hash);
         self.next.push(NONE);
         self.push_front(id, id, hash);
@@ -110,8 +115,8 @@ impl NameTable {
     }
 }
 
-/// hash.c, `bfd_hash_hash`: the sum of a byte and its shift is of 32 bits.
-fn hash_of(name: &[u8]) -> u64 {
+/// The hash of a name (hash.c, `bfd_hash_hash`): the sum of a byte and its shift is of 32 bits.
+pub fn table_hash(name: &[u8]) -> u64 {
     let mixed = |hash: u64, word: u32| {
         let hash = hash.wrapping_add(u64::from(word.wrapping_add(word << 17)));
         hash ^ (hash >> 2)

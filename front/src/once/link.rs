@@ -420,11 +420,12 @@ impl Link<'_> {
         if has_map && !self.command.has_own_map && own.is_none() {
             say(format!("{}: the image is laid out otherwise than GNU ld's: the map is that of ldi", self.path()));
         }
-        let map = own.unwrap_or_else(|| map.to_owned());
-        let map: &[u8] = &[map, references.clone()].concat();
         if !has_map {
             streams::print(Stream::Output, &references);
+            return Ok(());
         }
+        let map = own.unwrap_or_else(|| map.to_owned());
+        let map: &[u8] = &[map, references].concat();
         let is_printed = path.as_deref() == Some(Path::new("-"));
         if self.command.prints_map || is_printed {
             streams::print(Stream::Output, map);

@@ -1,11 +1,12 @@
 //! The names of the objects of a link and of its script, in the order of GNU ld's table.
 
+use std::ops::Deref;
 use std::sync::{Arc, Mutex};
 
 use bstr::{BString, ByteSlice};
 use object::elf;
 
-use crate::layout::name_table::NameTable;
+use crate::layout::name_table::{table_hash, NameTable};
 use crate::layout::Evaluation;
 use crate::objects::{Binding, Home, Object, Rank, Symbol, SymbolIndex, SymbolKind, GLOBAL_OFFSET_TABLE, TABLE};
 use crate::quick::QuickMap;
@@ -23,6 +24,8 @@ pub struct LinkedNames {
     /// The objects that they are of, and the names of the script.
     objects: Vec<Object>,
     of_script: Vec<(usize, Name)>,
+    /// The places of the names of the script and of GNU ld itself, each with the number of objects that are read before.
+    spoken: Vec<(usize, u32)>,
     /// By object: where its names begin in `mentions`, which has their places.
     first: Vec<usize>,
     mentions: Vec<u32>,
@@ -35,6 +38,17 @@ pub struct LinkedNames {
 pub(super) struct LinkedName {
     /// The name.
     pub(super) name: BString,
+    /// Its hash in GNU ld's table.
+    hash: u64,
+    /// What the objects say of it.
+    said: Said,
+    /// Whether script, command line or GNU ld itself speak of it.
+    pub(super) is_named: bool,
+}
+
+/// What objects say of a name.
+#[derive(Clone, Copy, PartialEq, Eq, Debug, Default)]
+pub(super) struct Said {
     /// The greatest restraint that an object says: `st_other`.
     pub(super) visibility: u8,
     /// Its type and size, as of the definition that counts.
@@ -51,43 +65,143 @@ pub(super) struct LinkedName {
     pub(super) is_needed: bool,
     /// Whether its definition has the binding STB_GNU_UNIQUE.
     pub(super) is_unique: bool,
-    /// Whether script, command line or GNU ld itself speak of it.
-    pub(super) is_named: bool,
+}
+
+impl Deref for LinkedName {
+    type Target = Said;
+
+    fn deref(&self) -> &Said {
+        &self.said
+    }
 }
 
 impl LinkedNames {
-    /// The names of a link; those of an earlier one where objects and script say the same.
+    /// The names of a link; of those of an earlier one what its objects say anew alone is found.
     pub fn of(objects: &[Object], evaluation: &Evaluation, before: Option<LinkedNames>) -> LinkedNames {
-        if let Some(mut before) = before.filter(|before| before.is_of(objects, evaluation)) {
-            before.hold(objects);
-            return before;
+        let is_of_script = |before: &LinkedNames| before.of_script == evaluation.named;
+        let mut before = match before.filter(is_of_script) {
+            Some(before) if before.objects.len() == objects.len() => before,
+            _ => return LinkedNames::found(objects, evaluation),
+        };
+        let says_other = |(one, other): (&Object, &Object)| !says_the_same(one, other);
+        let others: Vec<bool> = before.objects.iter().zip(objects).map(says_other).collect();
+        before.hold(objects);
+        if others.contains(&true) {
+            before.renew(objects, &others);
         }
+        before
+    }
+
+    /// The names of a link.
+    fn found(objects: &[Object], evaluation: &Evaluation) -> LinkedNames {
+        let named = &evaluation.named;
         let mut found = Found::default();
-        let mut named = evaluation.named.iter().peekable();
-        let (mut first, mut mentions) = (Vec::with_capacity(objects.len()), Vec::new());
+        let mut spoken: Vec<(usize, u32)> = named.iter().map(|(read, name)| (*read, found.enter(name))).collect();
+        spoken.push((objects.len(), found.enter(GLOBAL_OFFSET_TABLE.as_bytes())));
+        found.names.iter_mut().for_each(|one| one.is_named = true);
+        let (objects, of_script) = (objects.to_vec(), named.clone());
+        let (first, mentions, last) = (Vec::new(), Vec::new(), Mutex::new((Vec::new(), Vec::new().into())));
+        let mut names =
+            LinkedNames { names: found.names, objects: Vec::new(), of_script, spoken, first, mentions, last };
+        names.renew(&objects, &vec![true; objects.len()]);
+        names.objects = objects;
+        names
+    }
+
+    /// Finds what some of the objects say anew. What is said of names that none of them has stays.
+    fn renew(&mut self, objects: &[Object], others: &[bool]) {
+        let mut found = Found::among(std::mem::take(&mut self.names), objects, others);
+        let mut is_anew = vec![false; found.names.len()];
+        let (mut first, mut mentions) = (Vec::with_capacity(objects.len()), Vec::with_capacity(self.mentions.len()));
+        for (number, (object, is_other)) in objects.iter().zip(others).enumerate() {
+            let start = mentions.len();
+            let from = self.first.get(number).copied().unwrap_or(self.mentions.len());
+            let to = self.first.get(number + 1).copied().unwrap_or(self.mentions.len());
+            let before = self.mentions.get(from..to).unwrap_or_default();
+            match is_other {
+                true => found.mention(object, &mut mentions),
+                false => mentions.extend_from_slice(before),
+            }
+            first.push(start);
+            if *is_other {
+                is_anew.resize(found.names.len(), false);
+                let now = mentions.get(start..).unwrap_or_default();
+                let places = before.iter().chain(now).map(|place| *place as usize);
+                places.for_each(|place| is_anew.get_mut(place).into_iter().for_each(|one| *one = true));
+            }
+        }
+        (self.names, self.first, self.mentions) = (found.names, first, mentions);
+        self.say(objects, &is_anew);
+        self.arrange();
+    }
+
+    /// Takes what the objects say of some names.
+    fn say(&mut self, objects: &[Object], is_anew: &[bool]) {
+        for (one, _) in self.names.iter_mut().zip(is_anew).filter(|(_, is_anew)| **is_anew) {
+            one.said = Said::default();
+        }
+        let mut rest = self.mentions.iter();
         for (number, object) in objects.iter().enumerate() {
-            std::iter::from_fn(|| named.next_if(|(read, _)| *read <= number))
-                .for_each(|(_, name)| found.speak_of(name));
-            first.push(mentions.len());
-            let is_left_out = is_own_object(object);
-            mentions.extend(object.globals().map(|symbol| match is_left_out || is_own(symbol.name) {
-                true => NOWHERE,
-                false => found.take(number, &symbol, object.unique().binary_search(&symbol.index).is_ok()),
-            }));
+            let (start, end) = (self.first.get(number), self.first.get(number + 1));
+            let count = end.map_or(usize::MAX, |end| end.saturating_sub(start.copied().unwrap_or(0)));
+            let symbols = object.first_global().0.max(1)..;
+            for (place, index) in rest.by_ref().take(count).zip(symbols) {
+                if is_anew.get(*place as usize) != Some(&true) {
+                    continue;
+                }
+                let (one, symbol) = (self.names.get_mut(*place as usize), object.symbol(SymbolIndex(index)));
+                if let (Some(one), Some(symbol)) = (one, symbol) {
+                    one.said.take(number, &symbol, object.unique().binary_search(&symbol.index).is_ok());
+                }
+            }
         }
-        named.for_each(|(_, name)| found.speak_of(name));
-        found.speak_of(GLOBAL_OFFSET_TABLE.as_bytes());
-        let (names, places) = in_order(found.names);
-        for mention in &mut mentions {
-            *mention = places.get(*mention as usize).copied().unwrap_or(NOWHERE);
+    }
+
+    /// The places of names in the order in which GNU ld enters them, each as often as it is named.
+    fn in_turn(&self) -> impl Iterator<Item = u32> + '_ {
+        let mut spoken = self.spoken.iter().peekable();
+        let mut number = 0;
+        let mut next = 0;
+        std::iter::from_fn(move || loop {
+            while self.first.get(number + 1).map_or(false, |end| next >= *end) {
+                number += 1;
+            }
+            let is_read = next >= self.mentions.len();
+            if let Some((_, place)) = spoken.next_if(|(read, _)| is_read || *read <= number) {
+                return Some(*place);
+            }
+            next += 1;
+            match self.mentions.get(next - 1) {
+                Some(place) if *place == NOWHERE => {}
+                place => return place.copied(),
+            }
+        })
+    }
+
+    /// Brings the names into the order of GNU ld's table; those that nobody has any more go.
+    fn arrange(&mut self) {
+        let mut table = NameTable::default();
+        let (mut entered, mut is_entered) = (Vec::with_capacity(self.names.len()), vec![false; self.names.len()]);
+        for place in self.in_turn() {
+            let (one, is_in) = match (self.names.get(place as usize), is_entered.get_mut(place as usize)) {
+                (Some(one), Some(is_in)) if !*is_in => (one, is_in),
+                _ => continue,
+            };
+            *is_in = true;
+            entered.push(place);
+            table.insert_hashed(one.hash);
         }
-        LinkedNames {
-            names,
-            objects: objects.to_vec(),
-            of_script: evaluation.named.clone(),
-            first,
-            mentions,
-            last: Mutex::new((Vec::new(), Vec::new().into())),
+        let mut places = vec![NOWHERE; self.names.len()];
+        let mut names = Vec::with_capacity(entered.len());
+        for at in table.listed().into_iter().filter_map(|at| entered.get(at)) {
+            if let (Some(one), Some(place)) = (self.names.get_mut(*at as usize), places.get_mut(*at as usize)) {
+                *place = names.len() as u32;
+                names.push(std::mem::take(one));
+            }
+        }
+        self.names = names;
+        for place in self.mentions.iter_mut().chain(self.spoken.iter_mut().map(|(_, place)| place)) {
+            *place = places.get(*place as usize).copied().unwrap_or(NOWHERE);
         }
     }
 
@@ -129,36 +243,16 @@ impl LinkedNames {
                 _ => continue,
             };
             let symbol = objects.get(number).and_then(|object| object.symbol(index));
-            one.size = symbol.map_or(one.size, |symbol| symbol.size);
+            one.said.size = symbol.map_or(one.size, |symbol| symbol.size);
         }
         self.objects = objects.to_vec();
     }
-
-    /// Whether objects and script say the same of names, but for sizes.
-    fn is_of(&self, objects: &[Object], evaluation: &Evaluation) -> bool {
-        let is_same = |(one, other): (&Object, &Object)| {
-            let says_same = || one.globals().map(said).eq(other.globals().map(said)) && one.unique() == other.unique();
-            one.data().is_identical(other.data()) || says_same()
-        };
-        self.of_script == evaluation.named
-            && self.objects.len() == objects.len()
-            && self.objects.iter().zip(objects).all(is_same)
-    }
 }
 
-/// Names in the order of GNU ld's table, and by the order in which they were entered their places in it.
-fn in_order(mut entered: Vec<LinkedName>) -> (Vec<LinkedName>, Vec<u32>) {
-    let mut table = NameTable::default();
-    entered.iter().for_each(|one| table.insert(&one.name));
-    let mut places = vec![NOWHERE; entered.len()];
-    let mut names = Vec::with_capacity(entered.len());
-    for at in table.listed() {
-        if let (Some(one), Some(place)) = (entered.get_mut(at), places.get_mut(at)) {
-            *place = names.len() as u32;
-            names.push(std::mem::take(one));
-        }
-    }
-    (names, places)
+/// Whether two objects say the same of names, but for sizes.
+fn says_the_same(one: &Object, other: &Object) -> bool {
+    let says_same = || one.globals().map(said).eq(other.globals().map(said)) && one.unique() == other.unique();
+    one.data().is_identical(other.data()) || says_same()
 }
 
 /// What of a symbol decides about names: its value does not, nor does its size, if it is not that of a common block.
@@ -178,42 +272,50 @@ fn is_own(name: &[u8]) -> bool {
     name.strip_prefix(TABLE.as_bytes()).map_or(false, |rest| rest.is_empty() || rest.starts_with(b"."))
 }
 
-/// Names while objects are read, in the order in which GNU ld enters them.
+/// Names while objects are read.
 #[derive(Default)]
-struct Found {
+struct Found<'a> {
     names: Vec<LinkedName>,
-    places: QuickMap<BString, usize>,
+    /// The places of those that may be entered once more.
+    places: QuickMap<&'a [u8], u32>,
 }
 
-impl Found {
-    /// The number of a name, which is entered where it is new.
-    fn enter(&mut self, name: &[u8]) -> usize {
-        if let Some(place) = self.places.get(name.as_bstr()) {
-            return *place;
+impl<'a> Found<'a> {
+    /// Names that are there already, before some of the objects enter theirs.
+    fn among(names: Vec<LinkedName>, objects: &'a [Object], others: &[bool]) -> Found<'a> {
+        let mut places: QuickMap<&[u8], u32> = QuickMap::default();
+        let entering = objects.iter().zip(others).filter(|(_, is_other)| **is_other);
+        places
+            .extend(entering.flat_map(|(object, _)| object.globals()).map(|symbol| (symbol.name.as_bytes(), NOWHERE)));
+        for (place, one) in names.iter().enumerate() {
+            if let Some(own) = places.get_mut(one.name.as_slice()) {
+                *own = place as u32;
+            }
         }
-        let place = self.names.len();
-        self.places.insert(name.into(), place);
-        self.names.push(LinkedName { name: name.into(), ..LinkedName::default() });
-        place
+        Found { names, places }
     }
 
-    /// Enters a name that script, command line or GNU ld itself speak of.
-    fn speak_of(&mut self, name: &[u8]) {
-        let place = self.enter(name);
-        self.names.get_mut(place).into_iter().for_each(|one| one.is_named = true);
+    /// The place of a name, which is entered where it is new.
+    fn enter(&mut self, name: &'a [u8]) -> u32 {
+        let place = self.places.entry(name).or_insert(NOWHERE);
+        if *place == NOWHERE {
+            *place = self.names.len() as u32;
+            self.names.push(LinkedName { name: name.into(), hash: table_hash(name), ..LinkedName::default() });
+        }
+        *place
     }
 
-    /// Takes what an object says of a name; gives the number of the name.
-    fn take(&mut self, object: usize, symbol: &Symbol<'_>, is_unique: bool) -> u32 {
-        let place = self.enter(symbol.name);
-        if let Some(known) = self.names.get_mut(place) {
-            known.take(object, symbol, is_unique);
-        }
-        place as u32
+    /// Enters the names of an object; adds their places to a list.
+    fn mention(&mut self, object: &'a Object, mentions: &mut Vec<u32>) {
+        let is_left_out = is_own_object(object);
+        mentions.extend(object.globals().map(|symbol| match is_left_out || is_own(symbol.name) {
+            true => NOWHERE,
+            false => self.enter(symbol.name),
+        }));
     }
 }
 
-impl LinkedName {
+impl Said {
     /// Whether the definition that counts is a weak one.
     pub(super) fn is_weak(&self) -> bool {
         self.rank == Some(Rank::Weak)
@@ -258,7 +360,9 @@ impl LinkedName {
 #[cfg(test)]
 mod tests {
     use super::*;
-    use crate::objects::{SectionIndex, Visibility};
+    use crate::objects::tests::code;
+    use crate::objects::{Origin, SectionIndex, Visibility};
+    use std::path::Path;
 
     fn symbol(binding: Binding, home: Home, kind: SymbolKind, size: u64) -> Symbol<'static> {
         let visibility = Visibility::Default;
@@ -267,7 +371,7 @@ mod tests {
     }
 
     fn of(symbols: &[Symbol<'_>]) -> (u8, u64, u8) {
-        let mut known = LinkedName::default();
+        let mut known = Said::default();
         symbols.iter().for_each(|symbol| known.take(0, symbol, false));
         (known.kind, known.size, known.visibility)
     }
@@ -298,6 +402,47 @@ mod tests {
         assert_eq!(of_all(&[Visibility::Protected, Visibility::Hidden, Visibility::Default]), elf::STV_HIDDEN);
         assert_eq!(of_all(&[Visibility::Hidden, Visibility::Internal]), elf::STV_INTERNAL);
         assert_eq!(of_all(&[Visibility::Default, Visibility::Default]), elf::STV_DEFAULT);
+    }
+
+    fn written(number: usize, symbols: &[(&str, u8, u16, u64, u64)]) -> Object {
+        let name = format!("o{number}.o");
+        let origin = Origin::of_file(Path::new(&name));
+        Object::new(name.into(), origin, code(symbols).into())
+    }
+
+    /// Of an object with other names, sizes and bindings the same is found as of all objects anew.
+    #[test]
+    fn what_is_found_anew_is_what_is_found_of_all() {
+        let text: Vec<String> = (0..40).map(|number| format!("name_{number}")).collect();
+        let mut random = 7_u32;
+        let mut next = |below: u32| {
+            random = random.wrapping_mul(1_103_515_245).wrapping_add(12_345);
+            (random >> 16) % below
+        };
+        let mut any = |number: usize| {
+            let symbols: Vec<(&str, u8, u16, u64, u64)> = (0..next(9))
+                .map(|_| {
+                    let home = [0, 1, 0xFFF1, 0xFFF2][next(4) as usize];
+                    let (binding, value) = (1 + next(2) as u8, 8 * u64::from(next(2)));
+                    (text[next(40) as usize].as_str(), binding, home, value, next(4).into())
+                })
+                .collect();
+            written(number, &symbols)
+        };
+        let named = [(0, "name_1"), (0, "first"), (5, "name_2"), (5, "name_3"), (12, "last")];
+        let named = named.into_iter().map(|(read, name)| (read, name.into())).collect();
+        let evaluation = Evaluation { named, ..Evaluation::default() };
+        let mut objects: Vec<Object> = (0..12).map(&mut any).collect();
+        let mut kept = LinkedNames::of(&objects, &evaluation, None);
+        for round in 0..200 {
+            for number in [round % 12, round * 5 % 12].into_iter().take(1 + round % 2) {
+                objects[number] = any(number);
+            }
+            kept = LinkedNames::of(&objects, &evaluation, Some(kept));
+            let new = LinkedNames::of(&objects, &evaluation, None);
+            assert_eq!((&kept.names, &kept.mentions), (&new.names, &new.mentions), "round {round}");
+            assert_eq!((&kept.first, &kept.spoken), (&new.first, &new.spoken), "round {round}");
+        }
     }
 
     #[test]
