@@ -1,8 +1,12 @@
 //! The same for each of many things, by several threads.
 
+use std::sync::Mutex;
+
 /// So few are done by one thread.
 const FEW: usize = 64;
 const MOST_THREADS: usize = 8;
+/// So many are taken by a thread at once.
+const AT_ONCE: usize = 16;
 
 /// What something comes to for each item, in their order.
 pub(crate) fn map_all<T: Sync, R: Send>(items: &[T], act: &(dyn Fn(&T) -> R + Sync)) -> Vec<R> {
@@ -25,9 +29,33 @@ pub(crate) fn map_all<T: Sync, R: Send>(items: &[T], act: &(dyn Fn(&T) -> R + Sy
     })
 }
 
+/// Does something with each of many things, which need not be of one size.
+pub(crate) fn do_all<T: Send>(items: Vec<T>, act: &(dyn Fn(T) + Sync)) {
+    let threads = match items.len() {
+        0..=FEW => 1,
+        _ => std::thread::available_parallelism().map_or(1, usize::from).min(MOST_THREADS),
+    };
+    if threads <= 1 {
+        return items.into_iter().for_each(act);
+    }
+    let queue = Mutex::new(items.into_iter());
+    let some = || queue.lock().map_or_else(|_| Vec::new(), |mut queue| queue.by_ref().take(AT_ONCE).collect());
+    std::thread::scope(|scope| {
+        for _ in 0..threads {
+            scope.spawn(|| loop {
+                let items: Vec<T> = some();
+                if items.is_empty() {
+                    return;
+                }
+                items.into_iter().for_each(act);
+            });
+        }
+    });
+}
+
 #[cfg(test)]
 mod tests {
-    use super::map_all;
+    use super::{do_all, map_all};
 
     #[test]
     fn all_in_their_order() {
@@ -35,6 +63,15 @@ mod tests {
             let items: Vec<usize> = (0..count).collect();
             let wanted: Vec<usize> = items.iter().map(|one| one * 2).collect();
             assert_eq!(map_all(&items, &|one| one * 2), wanted);
+        }
+    }
+
+    #[test]
+    fn each_of_all() {
+        for count in [0, 1, 64, 65, 1000] {
+            let mut done = vec![0; count];
+            do_all(done.iter_mut().enumerate().collect(), &|(number, one): (usize, &mut usize)| *one += number + 1);
+            assert_eq!(done, (1..=count).collect::<Vec<_>>());
         }
     }
 }

@@ -176,6 +176,11 @@ impl Elf {
         self.entries().iter().enumerate().skip(1).map(move |(index, entry)| self.symbol_of(index as u32, entry))
     }
 
+    /// The symbols from number 0 on without their names, which take longer to find.
+    pub fn nameless_symbols(&self) -> impl Iterator<Item = Symbol<'_>> + '_ {
+        self.entries().iter().enumerate().map(|(index, entry)| symbol_with(b"".as_bstr(), index as u32, entry))
+    }
+
     /// The symbols that are not local.
     pub fn globals(&self) -> impl Iterator<Item = Symbol<'_>> + '_ {
         let first = self.first_of_globals();
@@ -284,16 +289,7 @@ impl Elf {
 
     fn symbol_of(&self, index: u32, entry: &Sym64<Little>) -> Symbol<'_> {
         let name = text_at(&self.data, &self.symbols.names.range(), entry.st_name.get(Little));
-        Symbol {
-            index: SymbolIndex(index),
-            name: self.text(name.unwrap_or_default()),
-            binding: Binding::from(entry.st_info >> 4),
-            kind: SymbolKind(entry.st_info & 15),
-            visibility: Visibility::of(entry.st_other),
-            home: Home::from(entry.st_shndx.get(Little)),
-            value: entry.st_value.get(Little),
-            size: entry.st_size.get(Little),
-        }
+        symbol_with(self.text(name.unwrap_or_default()), index, entry)
     }
 
     fn text(&self, stretch: Stretch) -> &BStr {
@@ -309,6 +305,20 @@ impl Elf {
         });
         self.hashes = hashes.collect();
         self.has_commons = has_commons;
+    }
+}
+
+/// A symbol of a name.
+fn symbol_with<'a>(name: &'a BStr, index: u32, entry: &Sym64<Little>) -> Symbol<'a> {
+    Symbol {
+        index: SymbolIndex(index),
+        name,
+        binding: Binding::from(entry.st_info >> 4),
+        kind: SymbolKind(entry.st_info & 15),
+        visibility: Visibility::of(entry.st_other),
+        home: Home::from(entry.st_shndx.get(Little)),
+        value: entry.st_value.get(Little),
+        size: entry.st_size.get(Little),
     }
 }
 

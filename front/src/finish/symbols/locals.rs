@@ -1,78 +1,122 @@
 //! Local symbols, object by object (elflink.c, `elf_link_input_bfd`).
 
-use bstr::ByteSlice;
+use bstr::{BString, ByteSlice};
 use object::elf;
 
 use super::labels::is_label;
 use super::numbers::Numbers;
 use super::places::Places;
-use super::relocations::relocated;
+use super::relocations::{relocated, Referred};
 use super::table::{Entry, Writer};
 use super::{SymbolOptions, Symbols};
 use crate::command::Discard;
-use crate::objects::{Binding, Home, Object, Symbol, SymbolKind};
+use crate::objects::{Binding, Home, Object, Symbol, SymbolIndex, SymbolKind};
+use crate::parallel::map_all;
+use crate::quick::QuickMap;
 
-/// Writes the local symbols; gives whether there is one of a source file.
-pub(super) fn write(
-    writer: &mut Writer,
-    symbols: &Symbols<'_>,
-    places: &Places,
-    options: &SymbolOptions,
-    mut numbers: Option<&mut Numbers<'_>>,
-) -> bool {
-    let mut has_files = false;
-    for number in places.order() {
-        if let Some(object) = symbols.objects.get(*number) {
-            let mut locals =
-                Locals { number: *number, object, places, options, writer, numbers: numbers.as_deref_mut() };
-            has_files |= options.discard != Discard::All && locals.write();
-            locals.write_more();
-        }
-    }
-    has_files
+/// What local symbols are written of.
+pub(super) struct Locals<'a> {
+    pub(super) symbols: &'a Symbols<'a>,
+    pub(super) places: &'a Places,
+    pub(super) options: &'a SymbolOptions,
+    /// The symbols that relocations in the file refer to, where it has any.
+    pub(super) referred: Option<&'a Referred>,
 }
 
-/// Writes the local symbols of an object.
-struct Locals<'a, 'n> {
+impl Locals<'_> {
+    /// Writes the local symbols, and keeps their numbers; gives whether there is one of a source file.
+    pub(super) fn write(&self, writer: &mut Writer, mut numbers: Option<&mut Numbers<'_>>) -> bool {
+        let mut has_files = false;
+        let mut append = |writer: &mut Writer, part: &OwnLocals<'_>| {
+            has_files |= part.has_file;
+            let first = writer.append(&part.writer);
+            numbers.iter_mut().for_each(|numbers| numbers.set_locals(part.number, &part.numbers, first));
+        };
+        if self.options.is_unique {
+            let mut counts = writer.take_counts();
+            for number in self.places.order() {
+                if let Some(mut part) = self.of_object(*number, counts.take()) {
+                    append(writer, &part);
+                    counts = part.writer.take_counts();
+                }
+            }
+            return has_files;
+        }
+        let parts = map_all(self.places.order(), &|number| self.of_object(*number, None));
+        parts.iter().flatten().for_each(|part| append(writer, part));
+        has_files
+    }
+
+    /// Those of an object.
+    fn of_object(&self, number: usize, counts: Option<QuickMap<BString, u64>>) -> Option<OwnLocals<'_>> {
+        let object = self.symbols.objects.get(number)?;
+        let count = object.first_global().0 as usize;
+        let mut own = OwnLocals {
+            number,
+            object,
+            places: self.places,
+            options: self.options,
+            writer: Writer::part(count, counts),
+            numbers: vec![None; count],
+            has_file: false,
+        };
+        if self.options.discard != Discard::All {
+            own.write();
+        }
+        if let Some(referred) = self.referred {
+            own.write_more(referred.in_object(number));
+        }
+        Some(own)
+    }
+}
+
+/// The local symbols of an object.
+struct OwnLocals<'a> {
     number: usize,
     object: &'a Object,
     places: &'a Places,
     options: &'a SymbolOptions,
-    writer: &'a mut Writer,
-    numbers: Option<&'a mut Numbers<'n>>,
+    writer: Writer,
+    /// By symbol its number among these.
+    numbers: Vec<Option<u32>>,
+    /// Whether there is one of a source file.
+    has_file: bool,
 }
 
-impl Locals<'_, '_> {
-    /// Writes those that are not left out; gives whether there is one of a source file.
-    fn write(&mut self) -> bool {
-        let mut has_file = false;
-        let locals = self.object.symbols().take_while(|symbol| symbol.index < self.object.first_global());
+impl OwnLocals<'_> {
+    /// Writes those that are not left out.
+    fn write(&mut self) {
+        let object = self.object;
+        let locals = object.symbols().take_while(|symbol| symbol.index < object.first_global());
         for symbol in locals.filter(|symbol| symbol.kind != SymbolKind::SECTION) {
             let entry = match entry_of(&symbol, self.number, self.places) {
                 Some((entry, is_merged)) if !self.leaves_out(&symbol, is_merged) => entry,
                 _ => continue,
             };
-            if symbol.kind != SymbolKind::FILE && !has_file {
-                self.writer.add_file(file_name(self.object));
+            if symbol.kind != SymbolKind::FILE && !self.has_file {
+                self.writer.add_file(file_name(object));
             }
-            has_file = true;
+            self.has_file = true;
             self.add(&symbol, entry);
         }
-        has_file
     }
 
-    /// Writes those that were left out and that relocations in the file refer to.
-    fn write_more(&mut self) {
-        if self.numbers.is_none() {
+    /// Writes those that were left out and that relocations in the file refer to, in the order of these.
+    fn write_more(&mut self, referred: &[bool]) {
+        let object = self.object;
+        let is_wanted = |(index, (number, is_referred)): (u32, (&Option<u32>, &bool))| {
+            let symbol = || object.symbol(SymbolIndex(index)).filter(|symbol| symbol.kind != SymbolKind::SECTION);
+            *is_referred && number.is_none() && symbol().is_some()
+        };
+        if !(0..).zip(self.numbers.iter().zip(referred)).any(is_wanted) {
             return;
         }
-        for (_, relocation) in relocated(self.number, self.object, self.places) {
-            let symbol = match self.object.symbol(relocation.symbol) {
+        for (_, relocation) in relocated(self.number, object, self.places) {
+            let symbol = match object.symbol(relocation.symbol) {
                 Some(symbol) if symbol.binding == Binding::Local && symbol.kind != SymbolKind::SECTION => symbol,
                 _ => continue,
             };
-            let is_there =
-                self.numbers.as_ref().map_or(true, |numbers| numbers.of_local(self.number, symbol.index) != 0);
+            let is_there = self.numbers.get(symbol.index.0 as usize).map_or(true, Option::is_some);
             if let Some((entry, _)) = entry_of(&symbol, self.number, self.places).filter(|_| !is_there) {
                 self.add(&symbol, entry);
             }
@@ -89,8 +133,8 @@ impl Locals<'_, '_> {
     }
 
     fn add(&mut self, symbol: &Symbol<'_>, entry: Entry) {
-        if let Some(numbers) = &mut self.numbers {
-            numbers.set_local(self.number, symbol.index, self.writer.count());
+        if let Some(number) = self.numbers.get_mut(symbol.index.0 as usize) {
+            *number = Some(self.writer.count());
         }
         match symbol.kind {
             SymbolKind::FILE => self.writer.add_file(symbol.name),

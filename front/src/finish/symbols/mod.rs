@@ -25,11 +25,13 @@ use crate::layout::Evaluation;
 use crate::objects::{Object, Visibility};
 use crate::report::link_map::LinkMap;
 use globals::Names;
+use locals::Locals;
 pub use names::LinkedNames;
 use numbers::Numbers;
 pub(super) use outputs::EmptySection;
 use outputs::Outputs;
 use places::Places;
+use relocations::Referred;
 pub(super) use relocations::RelocationTable;
 pub(super) use table::SymbolTable;
 use table::Writer;
@@ -183,8 +185,10 @@ pub(super) fn table_of(
         let numbers = numbers.insert(Numbers::new(symbols.objects, symbols.names, outputs.count()));
         sections::write(&mut writer, symbols.evaluation, &outputs, numbers);
     }
-    let used = numbers.as_ref().map(|_| relocations::names_in_use(symbols, &places));
-    let has_files = locals::write(&mut writer, symbols, &places, options, numbers.as_mut());
+    let referred = numbers.as_ref().map(|_| Referred::of(symbols, &places));
+    let used = referred.as_ref().map(|referred| referred.names(symbols));
+    let locals = Locals { symbols, places: &places, options, referred: referred.as_ref() };
+    let has_files = locals.write(&mut writer, numbers.as_mut());
     let names = Names::of(symbols, (&outputs, &places), &own, options);
     globals::write(&mut writer, &names, used.as_deref(), has_files, numbers.as_mut());
     let relocations = numbers.map_or_else(Vec::new, |numbers| relocations::tables(symbols, &places, &numbers));

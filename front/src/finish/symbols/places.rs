@@ -34,6 +34,8 @@ pub(super) struct Places {
     first: Vec<usize>,
     /// By the number of the header in its object.
     sections: Vec<Option<Place>>,
+    /// Likewise: whether what it has is among that of others, which it is merged with.
+    is_merged: Vec<bool>,
     /// The objects in the order in which their local symbols are written.
     order: Vec<usize>,
     /// What is merged, of sections that are loaded and of others.
@@ -48,6 +50,7 @@ impl Places {
         let mut places = Places {
             first: Vec::with_capacity(symbols.objects.len()),
             sections: Vec::new(),
+            is_merged: Vec::new(),
             order: Vec::new(),
             merges: [Arc::clone(&symbols.evaluation.merges), Arc::clone(&symbols.evaluation.merges_beside)],
             has_lost: false,
@@ -58,6 +61,12 @@ impl Places {
             count += object.section_count();
         }
         places.sections = vec![None; count];
+        places.is_merged = vec![false; count];
+        let merges = places.merges.clone();
+        for source in merges.iter().flat_map(|merges| merges.sources()) {
+            let at = places.at(source.object.0 as usize, source.section);
+            at.and_then(|at| places.is_merged.get_mut(at)).into_iter().for_each(|one| *one = true);
+        }
         for section in &symbols.evaluation.sections {
             places.put(section, symbols.evaluation, outputs);
         }
@@ -70,16 +79,26 @@ impl Places {
 
     /// The place of a section of an object.
     pub(super) fn get(&self, object: usize, section: SectionIndex) -> Option<Place> {
-        self.sections.get(self.first.get(object)?.checked_add(section.0 as usize)?).copied().flatten()
+        self.sections.get(self.at(object, section)?).copied().flatten()
+    }
+
+    fn at(&self, object: usize, section: SectionIndex) -> Option<usize> {
+        self.first.get(object)?.checked_add(section.0 as usize)
+    }
+
+    /// Whether what a section of an object has is among that of others.
+    pub(super) fn is_merged(&self, object: usize, section: SectionIndex) -> bool {
+        self.at(object, section).and_then(|at| self.is_merged.get(at)) == Some(&true)
     }
 
     /// The section in which what was at a place of a section of an object is, and the place in it.
     pub(super) fn get_at(&self, object: usize, section: SectionIndex, offset: u64) -> Option<(Place, u64)> {
-        let mut merges = self.merges.iter();
-        match merges.find_map(|merges| merges.place(ObjectIndex(object as u32), section, offset)) {
-            Some((now, offset)) => Some((self.get(now.object.0 as usize, now.section)?, offset)),
-            None => Some((self.get(object, section)?, offset)),
+        if self.is_merged(object, section) {
+            let mut merges = self.merges.iter();
+            let (now, offset) = merges.find_map(|merges| merges.place(ObjectIndex(object as u32), section, offset))?;
+            return Some((self.get(now.object.0 as usize, now.section)?, offset));
         }
+        Some((self.get(object, section)?, offset))
     }
 
     /// The objects in the order in which their local symbols are written.
@@ -94,7 +113,7 @@ impl Places {
     }
 
     fn slot(&mut self, object: usize, section: SectionIndex) -> Option<&mut Option<Place>> {
-        let at = self.first.get(object)?.checked_add(section.0 as usize)?;
+        let at = self.at(object, section)?;
         self.sections.get_mut(at)
     }
 

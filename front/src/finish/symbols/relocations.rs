@@ -5,8 +5,10 @@ use super::names::is_own_object;
 use super::numbers::Numbers;
 use super::places::{Place, Places};
 use super::Symbols;
+use crate::layout::ids::{OutputId, SectionId};
 use crate::layout::Flags;
-use crate::objects::{Binding, Home, Object, Relocation, SectionIndex, Symbol, SymbolKind};
+use crate::objects::{Binding, Home, Object, Relocation, SectionIndex, Symbol, SymbolIndex, SymbolKind};
+use crate::parallel::{do_all, map_all};
 
 /// The bytes of an entry.
 const ENTRY: usize = 24;
@@ -31,108 +33,174 @@ pub(super) fn relocated<'a>(
     placed.flat_map(move |(index, place)| object.relocations(index).map(move |one| (place, one)))
 }
 
-/// By name: whether a relocation that is in GNU ld's file refers to it, also one of what is not loaded.
-pub(super) fn names_in_use(symbols: &Symbols<'_>, places: &Places) -> Vec<bool> {
-    let mut used = vec![false; symbols.names.iter().count()];
-    for (number, object) in symbols.objects.iter().enumerate().filter(|(_, object)| !is_own_object(object)) {
-        for (_, relocation) in relocated(number, object, places) {
-            let name = symbols.names.name_of(number, relocation.symbol);
-            name.and_then(|name| used.get_mut(name)).into_iter().for_each(|used| *used = true);
-        }
+/// By object and symbol: whether a relocation that is in GNU ld's file refers to it, also one of what is not loaded.
+pub(super) struct Referred(Vec<Vec<bool>>);
+
+impl Referred {
+    /// Finds the symbols.
+    pub(super) fn of(symbols: &Symbols<'_>, places: &Places) -> Referred {
+        let objects: Vec<(usize, &Object)> = symbols.objects.iter().enumerate().collect();
+        Referred(map_all(&objects, &|(number, object)| {
+            let mut referred = vec![false; object.symbol_count()];
+            for (_, relocation) in relocated(*number, object, places) {
+                let symbol = referred.get_mut(relocation.symbol.0 as usize);
+                symbol.into_iter().for_each(|symbol| *symbol = true);
+            }
+            referred
+        }))
     }
-    used
+
+    /// By the symbols of an object.
+    pub(super) fn in_object(&self, number: usize) -> &[bool] {
+        self.0.get(number).map_or(&[], Vec::as_slice)
+    }
+
+    /// By name: whether a symbol of it is among them.
+    pub(super) fn names(&self, symbols: &Symbols<'_>) -> Vec<bool> {
+        let mut used = vec![false; symbols.names.iter().count()];
+        let objects = symbols.objects.iter().zip(&self.0).enumerate();
+        for (number, (_, referred)) in objects.filter(|(_, (object, _))| !is_own_object(object)) {
+            for index in (0..).zip(referred).filter(|(_, is_referred)| **is_referred).map(|(index, _)| index) {
+                let name = symbols.names.name_of(number, SymbolIndex(index));
+                name.and_then(|name| used.get_mut(name)).into_iter().for_each(|used| *used = true);
+            }
+        }
+        used
+    }
+}
+
+/// An input section with relocations that are in the file.
+struct Input {
+    object: usize,
+    section: SectionIndex,
+    place: Place,
+    count: usize,
 }
 
 /// The tables of all output sections that have relocations.
 pub(super) fn tables(symbols: &Symbols<'_>, places: &Places, numbers: &Numbers<'_>) -> Vec<RelocationTable> {
-    let mut tables = Vec::new();
-    for id in &symbols.evaluation.order {
-        let place = symbols.evaluation.output(*id).and_then(|output| output.in_image());
-        let inputs = place.map_or(&[][..], |place| place.inputs.as_slice());
-        let sections = inputs.iter().filter_map(|id| {
-            let section = symbols.evaluation.section(*id)?;
-            let is_left_out = section.flags.has(Flags::EXCLUDE | Flags::CREATED);
-            Some((section.object.0 as usize, section.number()?)).filter(|_| !is_left_out)
-        });
-        tables.extend(table_of(sections, symbols, places, numbers));
+    let objects: Vec<(usize, &Object)> = symbols.objects.iter().enumerate().collect();
+    let targets = map_all(&objects, &|(number, object)| targets_of(*number, object, places, numbers));
+    let ids: Vec<OutputId> = symbols.evaluation.order.clone();
+    let inputs: Vec<Vec<Input>> = ids.iter().map(|id| inputs_of(*id, symbols, places)).collect();
+    let table = |inputs: &Vec<Input>| {
+        let count: usize = inputs.iter().map(|input| input.count).sum();
+        let section = inputs.last().map_or(0, |input| input.place.output.into());
+        RelocationTable { section, entries: vec![0; count * ENTRY] }
+    };
+    let mut tables: Vec<RelocationTable> = inputs.iter().map(table).collect();
+    let mut jobs = Vec::new();
+    for (table, inputs) in tables.iter_mut().zip(&inputs) {
+        let mut rest = table.entries.as_mut_slice();
+        for input in inputs {
+            let (own, after) = rest.split_at_mut((input.count * ENTRY).min(rest.len()));
+            jobs.push((input, own));
+            rest = after;
+        }
     }
+    do_all(jobs, &|(input, rows): (&Input, &mut [u8])| {
+        if let (Some(object), Some(targets)) = (symbols.objects.get(input.object), targets.get(input.object)) {
+            let relocations = object.relocations(input.section);
+            for (row, one) in rows.chunks_exact_mut(ENTRY).zip(relocations) {
+                let words = row_of(input, &one, targets.get(one.symbol.0 as usize), places, numbers);
+                row.chunks_exact_mut(8).zip(words).for_each(|(to, word)| to.copy_from_slice(&word.to_le_bytes()));
+            }
+        }
+    });
+    tables.retain(|table| !table.entries.is_empty());
+    tables.iter_mut().for_each(RelocationTable::sort);
     tables
 }
 
-/// The table of one output section.
-fn table_of(
-    inputs: impl Iterator<Item = (usize, SectionIndex)>,
-    symbols: &Symbols<'_>,
-    places: &Places,
-    numbers: &Numbers<'_>,
-) -> Option<RelocationTable> {
-    let mut rows: Vec<[u64; 3]> = Vec::new();
-    let mut output = None;
-    for (number, index) in inputs {
-        let (object, place) = match (symbols.objects.get(number), places.get(number, index)) {
-            (Some(object), Some(place)) if place.is_loaded => (object, place),
-            _ => continue,
+/// The input sections of an output section that are loaded.
+fn inputs_of(id: OutputId, symbols: &Symbols<'_>, places: &Places) -> Vec<Input> {
+    let place = symbols.evaluation.output(id).and_then(|output| output.in_image());
+    let inputs = place.map_or(&[][..], |place| place.inputs.as_slice());
+    let input = |id: &SectionId| {
+        let section = symbols.evaluation.section(*id)?;
+        let (object, number) = (section.object.0 as usize, section.number()?);
+        let is_left_out = section.flags.has(Flags::EXCLUDE | Flags::CREATED);
+        let place = places.get(object, number).filter(|place| place.is_loaded && !is_left_out)?;
+        let count = symbols.objects.get(object)?.relocations(number).count();
+        Some(Input { object, section: number, place, count })
+    };
+    inputs.iter().filter_map(input).collect()
+}
+
+impl RelocationTable {
+    /// Sorts the entries by their offsets, where they are not.
+    fn sort(&mut self) {
+        let offset = |row: &[u8]| row.get(..8).and_then(|bytes| bytes.try_into().ok()).map_or(0, u64::from_le_bytes);
+        let rows = || self.entries.chunks_exact(ENTRY);
+        let is_sorted = rows().zip(rows().skip(1)).all(|(one, next)| offset(one) <= offset(next));
+        if !is_sorted {
+            let mut sorted: Vec<&[u8]> = rows().collect();
+            sorted.sort_by_key(|row| offset(row));
+            self.entries = sorted.concat();
+        }
+    }
+}
+
+/// What relocations that refer to a symbol refer to in the file.
+#[derive(Clone, Copy)]
+enum Target {
+    /// What is not in the image.
+    Discarded,
+    /// The symbol of an output section, by the number of that symbol, and how far the input section is from its start.
+    Section(u32, u64),
+    /// What the addend says of a section of merged constants.
+    Merged(SectionIndex),
+    /// A symbol, by its number.
+    Symbol(u32),
+}
+
+/// What the symbols of an object stand for, by their numbers (elflink.c, `_bfd_elf_rela_local_sym`).
+fn targets_of(number: usize, object: &Object, places: &Places, numbers: &Numbers<'_>) -> Vec<Target> {
+    let target = |symbol: Symbol<'_>| {
+        let section = match (symbol.binding, symbol.home) {
+            (Binding::Local, Home::Section(section)) => section,
+            (Binding::Local, _) => return Target::Symbol(numbers.of_local(number, symbol.index)),
+            _ => return Target::Symbol(numbers.of_name(number, symbol.index)),
         };
-        output = Some(place.output);
-        rows.extend(object.relocations(index).map(|one| row_of(number, object, &place, &one, places, numbers)));
-    }
-    if rows.windows(2).any(|pair| matches!(pair, [one, next] if one.first() > next.first())) {
-        rows.sort_by_key(|row| row.first().copied());
-    }
-    let mut entries = Vec::with_capacity(rows.len() * ENTRY);
-    rows.iter().flatten().for_each(|word| entries.extend_from_slice(&word.to_le_bytes()));
-    output.filter(|_| !entries.is_empty()).map(|section| RelocationTable { section: section.into(), entries })
+        if symbol.kind != SymbolKind::SECTION {
+            let place = places.get_at(number, section, symbol.value);
+            return place.map_or(Target::Discarded, |_| Target::Symbol(numbers.of_local(number, symbol.index)));
+        }
+        if places.is_merged(number, section) {
+            return Target::Merged(section);
+        }
+        places.get(number, section).map_or(Target::Discarded, |place| to_section(&place, 0, numbers))
+    };
+    object.nameless_symbols().map(target).collect()
+}
+
+/// A place in an input section, by the symbol of its output section.
+fn to_section(place: &Place, at: u64, numbers: &Numbers<'_>) -> Target {
+    Target::Section(numbers.of_section(place.output), place.address.wrapping_sub(place.start).wrapping_add(at))
 }
 
 /// Offset, symbol with type, and addend of a relocation in the file.
 fn row_of(
-    number: usize,
-    object: &Object,
-    place: &Place,
+    input: &Input,
     one: &Relocation,
+    target: Option<&Target>,
     places: &Places,
     numbers: &Numbers<'_>,
 ) -> [u64; 3] {
-    let offset = place.address.wrapping_add(one.offset);
-    let row = |symbol: u32, addend: i64| [offset, u64::from(symbol) << 32 | u64::from(one.kind), addend as u64];
-    let symbol = match object.symbol(one.symbol) {
-        Some(symbol) => symbol,
-        None => return row(0, one.addend),
+    let offset = input.place.address.wrapping_add(one.offset);
+    let addend = one.addend as u64;
+    let (target, addend) = match target {
+        Some(Target::Merged(section)) => match places.get_at(input.object, *section, addend) {
+            Some((place, at)) => (to_section(&place, at, numbers), 0),
+            None => (Target::Discarded, 0),
+        },
+        Some(target) => (*target, addend),
+        None => (Target::Symbol(0), addend),
     };
-    match target_of(number, &symbol, one.addend, places) {
-        Target::Discarded => [offset, 0, 0],
-        Target::Section(place, within) => row(numbers.of_section(place.output), within as i64),
-        Target::Local => row(numbers.of_local(number, one.symbol), one.addend),
-        Target::Name => row(numbers.of_name(number, one.symbol), one.addend),
-    }
-}
-
-/// What a relocation refers to.
-enum Target {
-    /// What is not in the image.
-    Discarded,
-    /// A place by the symbol of a section: the place of the input section, and how far it is from the start of the output
-    /// section.
-    Section(Place, u64),
-    /// A local symbol.
-    Local,
-    /// A name.
-    Name,
-}
-
-/// What a relocation refers to; in a section of merged constants it is where these are now (elflink.c,
-/// `_bfd_elf_rela_local_sym`).
-fn target_of(number: usize, symbol: &Symbol<'_>, addend: i64, places: &Places) -> Target {
-    let section = match (symbol.binding, symbol.home) {
-        (Binding::Local, Home::Section(section)) => section,
-        (Binding::Local, _) => return Target::Local,
-        _ => return Target::Name,
-    };
-    if symbol.kind != SymbolKind::SECTION {
-        return if places.get_at(number, section, symbol.value).is_some() { Target::Local } else { Target::Discarded };
-    }
-    match places.get_at(number, section, addend as u64) {
-        Some((place, at)) => Target::Section(place, place.address.wrapping_sub(place.start).wrapping_add(at)),
-        None => Target::Discarded,
+    let row = |symbol: u32, addend: u64| [offset, u64::from(symbol) << 32 | u64::from(one.kind), addend];
+    match target {
+        Target::Discarded | Target::Merged(_) => [offset, 0, 0],
+        Target::Section(symbol, within) => row(symbol, within.wrapping_add(addend)),
+        Target::Symbol(symbol) => row(symbol, addend),
     }
 }

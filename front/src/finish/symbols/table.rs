@@ -71,6 +71,35 @@ impl Writer {
         Writer { table: SymbolTable { entries, names, first_global: 1, is_of_gnu: false }, counts }
     }
 
+    /// A part of a table, which has no entry 0, and counts local names on.
+    pub(super) fn part(count: usize, counts: Option<QuickMap<BString, u64>>) -> Writer {
+        let mut part = Writer::with_room(count, false);
+        part.table.entries.clear();
+        part.counts = counts;
+        part
+    }
+
+    /// The counts of local names, for the next part.
+    pub(super) fn take_counts(&mut self) -> Option<QuickMap<BString, u64>> {
+        self.counts.take()
+    }
+
+    /// Adds the entries of a part; gives the number of the first.
+    pub(super) fn append(&mut self, part: &Writer) -> u32 {
+        let first = self.count();
+        let more = self.table.names.len() as u32 - 1;
+        self.table.names.extend_from_slice(part.table.names.get(1..).unwrap_or_default());
+        for entry in part.table.entries.chunks_exact(ENTRY) {
+            let (name, rest) = entry.split_at(4);
+            let name = name.try_into().map_or(0, u32::from_le_bytes);
+            let name = if name == 0 { 0 } else { name + more };
+            self.table.entries.extend_from_slice(&name.to_le_bytes());
+            self.table.entries.extend_from_slice(rest);
+        }
+        self.table.is_of_gnu |= part.table.is_of_gnu;
+        first
+    }
+
     /// Adds a local symbol that is no file's (elflink.c, `elf_link_output_symstrtab`).
     pub(super) fn add_local(&mut self, name: &[u8], entry: Entry) {
         let counts = match &mut self.counts {
@@ -144,6 +173,21 @@ mod tests {
         assert_eq!((entry[8..16].to_vec(), entry[16]), (0x1000_u64.to_le_bytes().to_vec(), 7));
         let homes = table.homes();
         assert!(homes[3] && !homes[2]);
+    }
+
+    #[test]
+    fn parts_follow_each_other() {
+        let (mut whole, mut parts) = (Writer::with_room(4, false), Writer::with_room(4, false));
+        for names in [[&b"a.c"[..], b""], [b"b.c", b"f"]] {
+            let mut part = Writer::part(2, None);
+            for name in names {
+                whole.add_file(name);
+                part.add_file(name);
+            }
+            let first = parts.append(&part);
+            assert_eq!(first + 2, parts.count());
+        }
+        assert_eq!(parts.finish(), whole.finish());
     }
 
     /// elflink.c, `elf_link_output_symstrtab`: `-z unique-symbol`.
