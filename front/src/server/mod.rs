@@ -28,7 +28,7 @@ use call::{answer_limit, Call, Declined};
 use key::{output_of, sockets_folder, value_of, Key};
 pub use serve::main;
 
-/// The time in which a server that was started has to answer.
+/// The time in which a server that was started has to answer, or longer, by LDI_SERVER_ANSWER.
 const START: Duration = Duration::from_secs(5);
 
 /// A line for people.
@@ -87,7 +87,7 @@ fn served(words: &[OsString], environment: &Environment, is_verbose: bool) -> Op
 fn start_and_ask(call: &Call<'_>, path: &Path, replaces: bool, is_verbose: bool) -> Option<u8> {
     end_by_signals();
     start::start(path, replaces).ok()?;
-    match call.ask(path, START) {
+    match call.ask(path, START.max(answer_limit(call.environment))) {
         Ok(status) => Some(status),
         Err(declined) => {
             clear(call.words, &declined, is_verbose);

@@ -40,8 +40,12 @@ const BEAT: Duration = Duration::from_millis(30);
 const LONGEST_PLACING: Duration = Duration::from_secs(10);
 /// The time in which neither a link's threads nor its session have worked, after which it is given up, and the server.
 const LONGEST_REST: Duration = Duration::from_secs(5);
-/// The time that a call has to say what it wants.
-const REQUEST: Duration = Duration::from_millis(100);
+/// The time that a call has to say what it wants. Nobody waits for it, and on a busy machine it may not run for a while.
+const LONGEST_ASKING: Duration = Duration::from_secs(10);
+/// The time in which a message goes on that has begun, and in which a call takes what came of its link.
+const MESSAGE: Duration = Duration::from_secs(1);
+/// The time in which a call takes a sign.
+const SIGN: Duration = Duration::from_millis(100);
 /// The bytes of the stack of the thread that links, as the system's first thread has at least.
 const STACK: usize = 16 << 20;
 
@@ -81,6 +85,12 @@ fn detached() -> io::Result<UnixListener> {
     Ok(listener)
 }
 
+/// A call that has not said what it wants, and until when it has to.
+struct Asking {
+    connection: UnixStream,
+    until: Instant,
+}
+
 /// A call that is being served.
 struct Job {
     connection: UnixStream,
@@ -117,6 +127,7 @@ struct Server {
     key: Option<(Vec<u8>, PathBuf, Option<FileId>)>,
     standing: Vec<Vec<u8>>,
     programs: Vec<(PathBuf, Option<Stamp>)>,
+    asking: Vec<Asking>,
     job: Option<Job>,
     /// The links that were made.
     made: u64,
@@ -154,6 +165,7 @@ impl Server {
             environment,
             key: None,
             standing: standing()?,
+            asking: Vec::new(),
             job: None,
             made: 0,
             last_call: Instant::now(),
@@ -179,7 +191,9 @@ impl Server {
             PollFd::new(&self.signals, PollFlags::IN),
         ];
         let placing = self.job.iter().filter(|job| job.placing.is_some()).map(|job| &job.connection);
-        waited.extend(placing.map(|connection| PollFd::new(connection, PollFlags::IN)));
+        let is_placing = placing.clone().next().is_some();
+        let asking = self.asking.iter().map(|call| &call.connection);
+        waited.extend(placing.chain(asking).map(|connection| PollFd::new(connection, PollFlags::IN)));
         let limit = if is_working { BEAT } else { PERIOD };
         match poll(&mut waited, limit.as_millis() as i32) {
             Err(rustix::io::Errno::INTR) => return Ok(()),
@@ -196,9 +210,12 @@ impl Server {
             let mut bytes = [0; 64];
             while matches!(self.wake.read(&mut bytes), Ok(count) if count > 0) {}
         }
-        self.go_on(is_ready(3));
+        self.go_on(is_placing && is_ready(3));
         if is_ready(0) {
             self.accept();
+        }
+        if !self.is_ending {
+            self.hear();
         }
         if self.job.is_none() && !self.is_ending {
             self.look();
@@ -208,22 +225,31 @@ impl Server {
 
     // a call
 
+    /// Takes a connection, which may say later what it wants.
     fn accept(&mut self) {
-        let connection = match self.listener.accept() {
-            Ok((connection, _)) => connection,
-            Err(_) => return,
-        };
-        // What is wrong with a call is its own business.
-        let _ = self.take(connection);
+        if let Ok((connection, _)) = self.listener.accept() {
+            let until = Instant::now() + LONGEST_ASKING;
+            self.asking.extend(is_own(&connection).then_some(Asking { connection, until }));
+        }
+    }
+
+    /// Takes the calls that say now what they want; those are given up that say nothing.
+    fn hear(&mut self) {
+        let now = Instant::now();
+        for call in std::mem::take(&mut self.asking) {
+            if is_readable(&call.connection) {
+                // What is wrong with a call is its own business.
+                let _ = self.take(call.connection);
+            } else if now <= call.until {
+                self.asking.push(call);
+            }
+        }
     }
 
     fn take(&mut self, connection: UnixStream) -> io::Result<()> {
         connection.set_nonblocking(false)?;
-        connection.set_read_timeout(Some(REQUEST))?;
-        connection.set_write_timeout(Some(REQUEST))?;
-        if !is_own(&connection) {
-            return Ok(());
-        }
+        connection.set_read_timeout(Some(MESSAGE))?;
+        connection.set_write_timeout(Some(SIGN))?;
         let message = Message::receive(&connection)?;
         match message.kind {
             Kind::Status => self.state().message().send(&connection),
@@ -306,7 +332,8 @@ impl Server {
             self.remove_socket();
         }
         if let Some(job) = &mut self.job {
-            let is_sent = outcome.message.send(&job.connection).is_ok();
+            let is_patient = job.connection.set_write_timeout(Some(MESSAGE)).is_ok();
+            let is_sent = is_patient && outcome.message.send(&job.connection).is_ok();
             let is_placed = outcome.is_made && is_sent;
             job.placing = Some(Instant::now() + LONGEST_PLACING);
             if !is_placed {
@@ -410,6 +437,11 @@ fn rests(job: &mut Job, session: u32, now: Instant) -> bool {
         job.worked = now;
     }
     now.duration_since(job.worked) > LONGEST_REST
+}
+
+/// Whether something can be read from a connection, or its end, at once.
+fn is_readable(connection: &UnixStream) -> bool {
+    poll(&mut [PollFd::new(connection, PollFlags::IN)], 0).map_or(false, |count| count > 0)
 }
 
 fn identity(path: &Path) -> Option<FileId> {
@@ -529,6 +561,33 @@ mod tests {
         let stream = asked.wish("other");
         assert_eq!(Message::receive(&stream).unwrap().kind, Kind::Refused);
         assert!(asked.server.job.is_none() && !asked.server.is_ending);
+    }
+
+    #[test]
+    fn a_call_that_speaks_late_is_heard_and_nobody_waits_for_it() {
+        let mut asked = Asked::new("late");
+        let late = UnixStream::connect(&asked.path).unwrap();
+        asked.server.turn().unwrap();
+        let stream = asked.send(Message::of(Kind::Status));
+        assert!(Message::receive(&stream).is_ok());
+        std::thread::sleep(Duration::from_millis(300));
+        Message::of(Kind::Status).send(&late).unwrap();
+        asked.server.turn().unwrap();
+        late.set_read_timeout(Some(Duration::from_secs(20))).unwrap();
+        assert!(Message::receive(&late).is_ok());
+        assert!(asked.server.asking.is_empty());
+    }
+
+    #[test]
+    fn a_call_that_says_nothing_is_given_up() {
+        let mut asked = Asked::new("silent");
+        let silent = UnixStream::connect(&asked.path).unwrap();
+        asked.server.turn().unwrap();
+        assert_eq!(asked.server.asking.len(), 1);
+        asked.server.asking.iter_mut().for_each(|call| call.until = Instant::now() - Duration::from_millis(1));
+        asked.server.hear();
+        assert!(asked.server.asking.is_empty() && !asked.server.is_ending);
+        assert!(Message::receive(&silent).is_err());
     }
 
     #[test]
