@@ -1,6 +1,5 @@
 //! What is printed of a file that the command line names.
 
-use crate::places::{push_places, push_warnings};
 use filearg::file::{NamedFile, print_too_long};
 use ldscript::{Script, ScriptRefusal};
 use std::alloc::Global;
@@ -12,39 +11,46 @@ const READ: u8 = 0;
 /// The file is refused.
 const REFUSED: u8 = 1;
 
-/// That a file is a script, and its statements that have another meaning to GNU ld.
-fn print_read<W: Write>(
-    alloc: Global,
-    out: &mut W,
-    file: &NamedFile,
-    script: &Script,
-) -> io::Result<()> {
+/// What the number of a refusal says, for people.
+fn sentence(refusal: ScriptRefusal) -> &'static str {
+    match refusal {
+        ScriptRefusal::NotTokens => "somewhere no token begins, or a comment or string has no end",
+        ScriptRefusal::NotAScript => "the text does not follow the grammar",
+        ScriptRefusal::Repeated =>
+            "something is given twice, or a region is named before it is declared",
+        ScriptRefusal::MisplacedDot => "`.' is used where it may not be",
+        ScriptRefusal::Limit => "a limit of scripts is passed",
+        ScriptRefusal::NoMemory => "out of memory",
+    }
+}
+
+/// That a file is a script.
+fn print_read<W: Write>(out: &mut W, file: &NamedFile, script: &Script) -> io::Result<()> {
     let count = script.statements().len();
     let noun = if count == 1 {
         "statement"
     } else {
         "statements"
     };
-    writeln!(out, "{}: a script of {count} {noun}", file.name)?;
-    let mut lines = String::new(alloc);
-    push_warnings(alloc, &mut lines, script)?;
-    out.write_all(lines.as_bytes())
+    writeln!(out, "{}: a script of {count} {noun}", file.name)
 }
 
-/// That a file is refused, with the numbers of `ldi`'s answer, and where and why.
+/// That a file is refused, with the numbers of `ldi`'s answer and what they say.
 fn print_refused<W: Write>(
-    alloc: Global,
     out: &mut W,
     file: &NamedFile,
     refusal: ScriptRefusal,
 ) -> io::Result<()> {
     writeln!(out, "{}: refused 5 {}", file.name, refusal.number())?;
-    let mut lines = String::new(alloc);
-    push_places(alloc, &mut lines, &file.bytes)?;
-    out.write_all(lines.as_bytes())
+    writeln!(
+        out,
+        "  {}: `ldi-adapt --check {}` says where",
+        sentence(refusal),
+        file.name
+    )
 }
 
-/// Prints that a file is accepted, or where and why it is refused, and returns the exit status.
+/// Prints whether a file is a script or refused, and returns the exit status.
 ///
 /// # Errors
 ///
@@ -56,12 +62,12 @@ pub fn show_file<W: Write>(alloc: Global, out: &mut W, file: &NamedFile) -> io::
     }
     match Script::read(alloc, &file.bytes) {
         Ok(script) => {
-            print_read(alloc, out, file, &script)?;
+            print_read(out, file, &script)?;
             Ok(READ)
         }
         Err(ScriptRefusal::NoMemory) => Err(ErrorKind::OutOfMemory.into()),
         Err(refusal) => {
-            print_refused(alloc, out, file, refusal)?;
+            print_refused(out, file, refusal)?;
             Ok(REFUSED)
         }
     }

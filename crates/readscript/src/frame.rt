@@ -4,8 +4,6 @@
 pub enum Frame<'a> {
     /// The tree of a script.
     Script(&'a [u8]),
-    /// All messages on a text, for people.
-    Places(&'a [u8]),
     /// The numbers of a script's statements.
     Numbers(&'a [u8]),
     /// The tokens of a text.
@@ -48,10 +46,6 @@ fn frame_of<'a>(line: &[u8], bytes: &'a [u8]) -> Option<(Frame<'a>, &'a [u8])> {
     if word == b"script".as_slice() {
         let (text, rest) = counted(lengths, bytes)?;
         return Some((Frame::Script(text), rest));
-    }
-    if word == b"places".as_slice() {
-        let (text, rest) = counted(lengths, bytes)?;
-        return Some((Frame::Places(text), rest));
     }
     if word == b"numbers".as_slice() {
         let (text, rest) = counted(lengths, bytes)?;

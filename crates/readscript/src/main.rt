@@ -3,22 +3,18 @@
 //! `readscript FILE` says of one file whether it is a script, by one of
 //!
 //!     FILE: a script of N statements
-//!       line LINE: warning: REASON
 //!     FILE: refused 5 N
-//!       line LINE: REASON
+//!       SENTENCE
 //!
-//! on standard output. The statements are those at the top of the script; a warning is of one that has another meaning
-//! to GNU ld. N after `refused 5` is the reader's number. Under it are all places where something is wrong, in the
-//! order of the text, as far as they are found. What GNU ld has and the profile does not is named by its word and the
-//! table of docs/scripts.md that says what to write. A file that is too long for `ldi` is `refused 6 0`. It ends with
-//! status 0 if the file is a script, with 1 if it is refused, with 2 if there are more words, with 3 if the file cannot
-//! be read or standard output cannot be written, and with 4 out of memory.
+//! on standard output. The statements are those at the top of the script. N after `refused 5` is the reader's number,
+//! which the sentence explains; the front end's `ldi-adapt --check` finds the places. A file that is too long for `ldi`
+//! is `refused 6 0`. It ends with status 0 if the file is a script, with 1 if it is refused, with 2 if there are more
+//! words, with 3 if the file cannot be read or standard output cannot be written, and with 4 out of memory.
 //!
 //! Without a word it reads standard input to its end: frames, each a line and the bytes that it counts. White space
 //! before a frame is skipped. All lengths are decimal.
 //!
 //!     script LENGTH           a script
-//!     places LENGTH           a text, for all that is said of a file
 //!     numbers LENGTH          a script, for the numbers of its statements
 //!     tokens LENGTH           a text, to be cut into tokens
 //!     match WORD NAME         lengths in bytes of a pattern and of a name, which follow one after the other
@@ -45,10 +41,7 @@
 //! PATTERN is `*` alone, which every name matches; or the one name that matches it, with `\` before each byte that
 //! would not be plain in a pattern; or `~` for any other pattern. If an `EXCLUDE_FILE` belongs to a PATTERN,
 //! `exclude(PATTERN PATTERN) ` is before it. A refused text has `refused N` in place of a tree, with the reader's
-//! number, and under it the line and the reason of that number, for people.
-//!
-//! For `places` it prints an empty line, its line, the text, `accepted` or `refused N`, and the lines that are printed
-//! of a file.
+//! number.
 //!
 //! For `numbers` it prints the same of the text, the name of `ENTRY`, and then by their numbers, each with its line,
 //! the memory regions, the output sections, the input statements with their places, and the assignments, `PROVIDE`s and
@@ -69,22 +62,18 @@ mod directive;
 mod file;
 mod frame;
 mod input;
-mod meaning;
 mod numbers;
 mod pattern;
-mod places;
 mod script;
 mod section;
 mod statement;
 mod text;
 mod tokens;
-mod why;
 
 use crate::file::show_file;
 use crate::frame::{Frame, Next, next_frame};
 use crate::numbers::push_numbers;
 use crate::pattern::push_match;
-use crate::places::push_survey;
 use crate::script::push_script;
 use crate::tokens::push_tokens;
 use filearg::fault::FileFault;
@@ -107,7 +96,6 @@ fn answer(alloc: Global, frame: Frame<'_>) -> Result<String, AllocError> {
     let mut out = String::new(alloc);
     match frame {
         Frame::Script(text) => push_script(alloc, &mut out, text)?,
-        Frame::Places(text) => push_survey(alloc, &mut out, text)?,
         Frame::Numbers(text) => push_numbers(alloc, &mut out, text)?,
         Frame::Tokens(text) => push_tokens(alloc, &mut out, text)?,
         Frame::Match(word, name) => push_match(alloc, &mut out, word, name)?,

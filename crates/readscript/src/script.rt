@@ -2,7 +2,6 @@
 
 use crate::statement::push_statement;
 use crate::text::{is_shown, push_text};
-use crate::why::explain::explain;
 use ldscript::Script;
 use std::alloc::{AllocError, Global};
 use std::fmt::Write;
@@ -24,9 +23,6 @@ pub fn push_script(alloc: Global, out: &mut String, text: &[u8]) -> Result<(), A
         Err(refusal) => {
             let number = refusal.number();
             writeln!(out, "refused {number}")?;
-            if let Some(finding) = explain(alloc, text)?.refusal {
-                writeln!(out, "  {finding}")?;
-            }
         }
     }
     Ok(())
