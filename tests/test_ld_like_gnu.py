@@ -280,6 +280,21 @@ SECTIONS { . = 0; .header : { *(.header) } . = ALIGN(512); .text : { *(.data) . 
         self.write("t.ld", self.SCRIPT)
         self.assertEqual(self.compare("-T", "t.ld", "a.o", env=NONE), "")
 
+    def test_sections_of_noload(self) -> None:
+        """NOLOAD takes no memory in a flat file, and its bytes are not there (ldlang.c, `lang_add_section`), as in the boot
+        sector of memtest86+; what stands behind it begins where it begins, which is GNU ld's to link."""
+        self.compile("a.s", '.section .header, "a"\n.short end\n.data\n.long 4\n.bss\n.skip 12\n')
+        script = """%s SECTIONS { . = 0; .header : { *(.header) } .image (NOLOAD) : { start = .; *(%s) end = .; } size = end - start;
+            %s /DISCARD/ : { *(*) } }"""
+        for taken in (".data", ".bss", ".data .bss"):
+            for form, words in (('OUTPUT_FORMAT("binary")', ()), ("", ("--oformat", "binary"))):
+                for more in ("", "x = .;", ". = 0x40; .more : { LONG(7) LONG(end) }", ".rest 0x80 : { LONG(8) }"):
+                    self.write("t.ld", script % (form, taken, more))
+                    self.assertEqual(self.compare(*words, "-T", "t.ld", "a.o", env=NONE), "", (taken, more))
+                for more in (".more : { LONG(7) }", ".more : { LONG(end) } x = .; z = .; .last 0x60 (NOLOAD) : { . += 4; y = .; }"):
+                    self.write("t.ld", script % (form, taken, more))
+                    self.compare(*words, "-T", "t.ld", "a.o", env={})
+
     def test_sections_that_are_not_loaded(self) -> None:
         """`.reloc` without the flag ALLOC, as memtest86+ has it: it is linked, or the link goes to GNU ld, or none is
         made."""

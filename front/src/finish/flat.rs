@@ -14,9 +14,10 @@ pub struct NoFlatImage {
     end: u64,
 }
 
-/// What `objcopy -O binary` makes of an image: the sections with file bytes, by their load addresses.
-pub(super) fn flat_binary(data: &[u8]) -> Result<Vec<u8>, FinishError> {
-    let parts = parts(&Image::read(data)?)?;
+/// What `objcopy -O binary` makes of an image: the sections with file bytes, by their load addresses, but for those of
+/// these addresses and sizes.
+pub(super) fn flat_binary(data: &[u8], left_out: &[(u64, u64)]) -> Result<Vec<u8>, FinishError> {
+    let parts = parts(&Image::read(data)?, left_out)?;
     let range = (
         parts.iter().map(|(load, _)| *load).min(),
         parts.iter().map(|(load, bytes)| load.wrapping_add(bytes.len() as u64)).max(),
@@ -40,7 +41,8 @@ pub(super) fn flat_binary(data: &[u8]) -> Result<Vec<u8>, FinishError> {
 }
 
 /// The sections that the file has bytes for, with their load addresses.
-fn parts<'a>(image: &Image<'a>) -> Result<Vec<(u64, &'a [u8])>, NotAnImage> {
+fn parts<'a>(image: &Image<'a>, left_out: &[(u64, u64)]) -> Result<Vec<(u64, &'a [u8])>, NotAnImage> {
     let has_bytes = image.sections.iter().filter(|one| one.is_allocated() && one.is_in_file() && one.size != 0);
-    has_bytes.map(|section| Ok((image.load_of(section), image.content(section)?))).collect()
+    let taken = has_bytes.filter(|one| !left_out.contains(&(one.address, one.size)));
+    taken.map(|section| Ok((image.load_of(section), image.content(section)?))).collect()
 }

@@ -59,6 +59,8 @@ pub struct Form {
     pub strips_debugging: bool,
     /// Whether the bytes are wanted as they lie in memory, without headers (`--oformat binary`).
     pub is_flat: bool,
+    /// Addresses and sizes of sections of NOLOAD, which a flat file does not have.
+    pub left_out: Vec<(u64, u64)>,
 }
 
 impl Default for Form {
@@ -73,6 +75,7 @@ impl Default for Form {
             symbols: SymbolOptions::default(),
             strips_debugging: false,
             is_flat: false,
+            left_out: Vec::new(),
         }
     }
 }
@@ -133,7 +136,7 @@ pub fn finish(
 ) -> Result<Finished, FinishError> {
     let mut image = image.into();
     if form.is_flat {
-        let flat = flat::flat_binary(&image)?;
+        let flat = flat::flat_binary(&image, &form.left_out)?;
         return Ok(Finished { file: FileImage::whole(flat), notes: Vec::new() });
     }
     rights::write(&mut image, &form.rights)?;

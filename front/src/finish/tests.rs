@@ -236,6 +236,9 @@ fn a_flat_binary_has_the_bytes_by_their_load_addresses() {
     let flat = finish(text_and_data(), &form, None, Vec::new()).unwrap().file.into_vec();
     assert_eq!(flat.len(), 0x1004);
     assert_eq!((&flat[..4], &flat[0x1000..]), (&b"code"[..], &b"data"[..]));
+    let form = Form { left_out: vec![(0x402000, 4)], ..form };
+    let flat = finish(text_and_data(), &form, None, Vec::new()).unwrap().file.into_vec();
+    assert_eq!(flat, b"code");
     let far = image(&[Made(".a", 4, 0, 0, Some(b"a"), 1), Made(".b", 4, 1 << 40, 1 << 40, Some(b"b"), 1)]);
     assert!(matches!(finish(far, &form, None, Vec::new()), Err(FinishError::NoFlatImage(_))));
     assert!(finish(image(&[]), &form, None, Vec::new()).unwrap().file.is_empty());

@@ -191,7 +191,10 @@ impl Link<'_> {
         let mut flags = input.flags.without(Flags::NEVER_LOAD);
         match output.kind {
             OutputKind::NotAllocated => flags = flags.without(Flags::ALLOC),
-            OutputKind::NoLoad => flags = (flags | Flags::NEVER_LOAD).without(Flags::LOAD | Flags::CONTENTS),
+            OutputKind::NoLoad => {
+                let none = if self.settings.flat { Flags::ALLOC } else { Flags::CONTENTS };
+                flags = (flags | Flags::NEVER_LOAD).without(Flags::LOAD | none);
+            }
             OutputKind::ReadOnly | OutputKind::Typed { is_read_only: true, .. } => flags |= Flags::READONLY,
             OutputKind::Normal | OutputKind::Overlay { .. } | OutputKind::Typed { .. } => {}
         }
@@ -318,6 +321,7 @@ impl Link<'_> {
         match kind {
             OutputKind::Normal | OutputKind::Overlay { .. } => {}
             OutputKind::NotAllocated => flags = Flags::CONTENTS,
+            OutputKind::NoLoad if self.settings.flat => flags = Flags::NEVER_LOAD | Flags::CONTENTS,
             OutputKind::NoLoad => flags = Flags::NEVER_LOAD | Flags::ALLOC,
             OutputKind::ReadOnly => flags |= Flags::READONLY,
             OutputKind::Typed { kind, is_read_only } => {

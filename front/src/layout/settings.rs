@@ -44,6 +44,8 @@ pub struct Settings {
     /// Whether the script is read before the objects: it stands before them on the command line. The default script is
     /// read after them.
     pub script_first: bool,
+    /// Whether the output is no ELF file (`--oformat binary`), in which NOLOAD takes no memory.
+    pub flat: bool,
     /// `--no-check-sections` is not given: sections that overlap, and those without a region of MEMORY, are refused.
     pub checks_sections: bool,
     /// Whether an ASSERT that does not hold is refused.
@@ -75,6 +77,7 @@ impl Default for Settings {
             gc: None,
             inhibits_common: false,
             script_first: true,
+            flat: false,
             checks_sections: true,
             checks_assertions: true,
             merges: false,

@@ -484,6 +484,7 @@ impl Link<'_> {
     ) -> u64 {
         let is_provided = self.step(inner).map_or(false, |step| step.is_provided);
         let counts = is_provided || !matches!(provision, Provision::Provide | Provision::ProvideHidden);
+        let is_flat = self.settings.flat;
         let output = match self.output_mut(id) {
             None => return after,
             Some(output) => output,
@@ -492,7 +493,11 @@ impl Link<'_> {
         if output.is_ignored {
             return dot;
         }
-        let is_allocated = output.kind != OutputKind::NotAllocated;
+        let is_allocated = match output.kind {
+            OutputKind::NotAllocated => false,
+            OutputKind::NoLoad => !is_flat,
+            _ => true,
+        };
         let mut gap = (0, 0);
         if after != dot {
             if let Some(place) = &mut output.place {

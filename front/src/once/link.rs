@@ -244,7 +244,11 @@ impl Link<'_> {
 
     /// Says what is changed in the script.
     fn say_changed(&self) {
-        self.plan.residual.changed().filter(|note| verdict::is_said(note)).for_each(|note| eprintln!("{note}"));
+        self.plan
+            .residual
+            .changed()
+            .filter(|note| verdict::is_said(self.plan, note))
+            .for_each(|note| eprintln!("{note}"));
     }
 
     /// A link that comes to no image: another linker makes it where there is a reason, else this is said.

@@ -1,6 +1,6 @@
 //! What is said of an image beside GNU ld's, and whether it is written.
 
-use crate::checker::{check, Checked, NoImage};
+use crate::checker::{check, Checked, DifferenceKind, NoImage};
 use crate::layout::evaluation::StatementKind;
 use crate::layout::Stop;
 use crate::plan::{prohibited, LinkPlan, Prohibited};
@@ -39,9 +39,19 @@ pub(crate) fn verdict(plan: &LinkPlan, image: &[u8], map: &[u8], is_verbose: boo
         Err(stop) => return Ok(Verdict { lines: unknown(plan, stop), ..Verdict::default() }),
     };
     let map = if map.is_empty() { None } else { LinkMap::read(map).ok() };
-    let checked = check(evaluation, plan.inputs.objects(), image, map.as_ref())?;
+    let mut checked = check(evaluation, plan.inputs.objects(), image, map.as_ref())?;
+    if plan.form.is_flat {
+        // `finish` leaves these out.
+        let left_out = |found: &(u64, u64)| plan.form.left_out.contains(&(found.1, found.0));
+        let is_left_out = |kind: &DifferenceKind| match kind {
+            DifferenceKind::OtherSection { found, .. } => left_out(found),
+            _ => false,
+        };
+        checked.differences.retain(|one| !is_left_out(&one.kind));
+    }
     let mut verdict = if checked.differences.is_empty() {
-        let beside = plan.residual.changed().filter(|note| note.topic == Topic::Beside);
+        let is_beside = |note: &&Note| matches!(note.topic, Topic::Beside | Topic::NotLoaded) && is_said(plan, note);
+        let beside = plan.residual.changed().filter(is_beside);
         Verdict { lines: beside.map(Note::to_string).collect(), ..Verdict::default() }
     } else {
         different(plan, &checked, is_verbose)
@@ -71,7 +81,8 @@ pub(crate) fn verdict(plan: &LinkPlan, image: &[u8], map: &[u8], is_verbose: boo
 
 /// The differences: with the constructs that explain them, where some are said otherwise.
 fn different(plan: &LinkPlan, checked: &Checked, is_verbose: bool) -> Verdict {
-    let mut lines: Vec<String> = plan.residual.changed().filter(|note| is_said(note)).map(Note::to_string).collect();
+    let mut lines: Vec<String> =
+        plan.residual.changed().filter(|note| is_said(plan, note)).map(Note::to_string).collect();
     let has_cause = !lines.is_empty();
     let differences = &checked.differences;
     if !has_cause {
@@ -88,13 +99,18 @@ fn different(plan: &LinkPlan, checked: &Checked, is_verbose: bool) -> Verdict {
 }
 
 /// Whether a line of what is changed is said at all: program headers and the form are written after the link.
-pub(crate) fn is_said(note: &Note) -> bool {
-    !matches!(note.topic, Topic::Segments | Topic::Form)
+pub(crate) fn is_said(plan: &LinkPlan, note: &Note) -> bool {
+    match note.topic {
+        Topic::Segments | Topic::Form => false,
+        Topic::NotLoaded => !plan.form.is_flat,
+        Topic::Statement | Topic::Beside => true,
+    }
 }
 
 /// Why it is not known whether GNU ld makes the same.
 fn unknown(plan: &LinkPlan, stop: &Stop) -> Vec<String> {
-    let mut lines: Vec<String> = plan.residual.changed().filter(|note| is_said(note)).map(Note::to_string).collect();
+    let mut lines: Vec<String> =
+        plan.residual.changed().filter(|note| is_said(plan, note)).map(Note::to_string).collect();
     let place = line(plan, stop.span(), "");
     if lines.iter().any(|line| line.starts_with(&place)) {
         return lines;

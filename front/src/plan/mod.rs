@@ -35,7 +35,7 @@ use crate::command::{Command, Orphans, OutputFormat};
 use crate::finish::{Form, LaidOut, LinkedNames, Rights, Strip, Symbols, PAGE};
 use crate::inputs::{self, InputFault, Loaded, ScriptInputs};
 use crate::layout::evaluation::Placed;
-use crate::layout::{Evaluation, Layout, Settings, Stop};
+use crate::layout::{Evaluation, Flags, Layout, Settings, Stop};
 use crate::mirror::{self, Held};
 use crate::objects::{Object, ObjectIndex};
 use crate::residual::{has_names, residual, Request, Residual};
@@ -409,7 +409,14 @@ fn form_of(command: &Command, inputs: &Inputs, residual: &Residual, evaluation: 
         symbols: symbols::options_of(command, &inputs.retained),
         strips_debugging: symbols::strips_debugging(command),
         is_flat: is_flat(command, scripts),
+        left_out: evaluation.map_or_else(Vec::new, left_out_of),
     }
+}
+
+/// The sections of NOLOAD.
+fn left_out_of(evaluation: &Evaluation) -> Vec<(u64, u64)> {
+    let is_out = |place: &Placed| place.flags.has(Flags::NEVER_LOAD) && place.size != 0;
+    evaluation.in_image().filter(|(_, place)| is_out(place)).map(|(_, place)| (place.address, place.size)).collect()
 }
 
 /// Whether the bytes are wanted as they lie in memory.

@@ -19,6 +19,7 @@ pub fn settings_of(command: &Command, scripts: &Scripts) -> Settings {
         segment_starts: addresses(&command.segment_starts),
         keeps_empty: command.emits_relocations,
         script_first: scripts.is_own && script_is_first(command),
+        flat: super::is_flat(command, scripts),
         merges: true,
         ..Settings::default()
     };

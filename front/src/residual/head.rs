@@ -200,7 +200,9 @@ impl<'a> Walk<'a> {
             let is_noload = matches!(kind.node, SectionType::NoLoad | SectionType::NotAllocated(_));
             if is_noload && (is_loaded || may_differ) {
                 let why = "its bytes are in the image and are loaded; in GNU ld's they are not";
-                self.note_of(NoteKind::Changed, Topic::Beside, span.start, format!("{word} of {name}: {why}"));
+                let is_in_memory = matches!(kind.node, SectionType::NoLoad);
+                let topic = if is_in_memory { Topic::NotLoaded } else { Topic::Beside };
+                self.note_of(NoteKind::Changed, topic, span.start, format!("{word} of {name}: {why}"));
             } else {
                 self.note(NoteKind::Dropped, span.start, format!("{word} of {name}: it makes no difference"));
             }

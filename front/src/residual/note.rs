@@ -40,6 +40,8 @@ pub enum Topic {
     Form,
     /// What is no matter of places, values and bytes, which are compared with GNU ld's.
     Beside,
+    /// Bytes of a section that GNU ld does not load: `finish` leaves them out of a flat file.
+    NotLoaded,
 }
 
 /// One line of the report.

@@ -292,7 +292,7 @@ fn left(plan: &LinkPlan) -> Vec<String> {
     let mut lines: Vec<String> = left.map(Note::to_string).collect();
     let places = if lines.len() == 1 { "1 place".to_owned() } else { format!("{} places", lines.len()) };
     lines.extend(section_outside(plan).map(|line| format!("ld.ldi: {line}")));
-    let changed = plan.residual.changed().filter(|note| verdict::is_said(note));
+    let changed = plan.residual.changed().filter(|note| verdict::is_said(plan, note));
     lines.extend(changed.map(Note::to_string));
     let path = plan.inputs.scripts.path.display();
     lines.push(format!("ld.ldi: {path}: {places} cannot be linked by ldi, as is said above"));
