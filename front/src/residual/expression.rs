@@ -108,6 +108,39 @@ pub(super) fn with_dot(e: &Expr, place: &Expr) -> Expr {
     made(kind)
 }
 
+/// Of no name anything is known.
+struct NoNames;
+
+impl Known for NoNames {
+    fn dot(&self) -> Option<u64> {
+        None
+    }
+    fn symbol(&self, _: &Name) -> Option<u64> {
+        None
+    }
+    fn section(&self, _: Query, _: &Name) -> Option<u64> {
+        None
+    }
+    fn region(&self, _: Query, _: &Name) -> Option<u64> {
+        None
+    }
+}
+
+/// The expression with a number in place of each one that names nothing.
+pub(super) fn folded(e: &Expr) -> Expr {
+    if let Some(value) = value(e, &NoNames) {
+        return number(value);
+    }
+    let again = |e: &Expr| Box::new(folded(e));
+    made(match &e.kind {
+        ExprKind::Unary(operator, inner) => ExprKind::Unary(*operator, again(inner)),
+        ExprKind::Binary(operator, left, right) => ExprKind::Binary(*operator, again(left), again(right)),
+        ExprKind::Conditional(test, yes, no) => ExprKind::Conditional(again(test), again(yes), again(no)),
+        ExprKind::Call(function, arguments) => ExprKind::Call(*function, arguments.iter().map(folded).collect()),
+        _ => return e.clone(),
+    })
+}
+
 /// The value of an expression of the profile; `None` where it has none.
 pub(super) fn value(e: &Expr, known: &dyn Known) -> Option<u64> {
     match &e.kind {
@@ -424,6 +457,15 @@ mod tests {
         let test = made(ExprKind::Conditional(Box::new(sum), Box::new(number(1)), Box::new(number(5000))));
         assert_eq!(write(&test, b""), "a + b ? 1 : 0x1388");
         assert_eq!(write(&op(BinaryOperator::Add, test, number(1)), b""), "(a + b ? 1 : 0x1388) + 1");
+    }
+
+    /// docs/limits.md, 'Scripts': Xen has an ASSERT of more signs than a run may have.
+    #[test]
+    fn what_names_nothing_is_a_number() {
+        let base =
+            op(BinaryOperator::Multiply, op(BinaryOperator::ShiftRight, number(261), number(8)), number(0x1_0000));
+        let e = op(BinaryOperator::Add, op(BinaryOperator::Subtract, base.clone(), symbol("a")), base);
+        assert_eq!(write(&folded(&e), b""), "0x10000 - a + 0x10000");
     }
 
     #[test]

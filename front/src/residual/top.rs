@@ -2,7 +2,7 @@
 
 use bstr::{BStr, ByteSlice};
 
-use super::expression::{any, made, says, uses_dot, with_dot, written};
+use super::expression::{any, folded, is_short, made, says, uses_dot, with_dot, written};
 use super::note::{NoteKind, Topic};
 use super::orphans::{Extent, Orphans};
 use super::relative::Inside;
@@ -632,8 +632,9 @@ impl<'a> Walk<'a> {
             let what = self.quoted(span);
             self.note(NoteKind::Changed, span.start, format!("{what}; {why}"));
         }
-        if says(self.slice(span_of_text), &own, self.text) && self.holds(&own, at) {
-            return self.slice(span_of_text).to_str_lossy().into_owned();
+        let own_text = self.slice(span_of_text).to_str_lossy();
+        if says(own_text.as_bytes(), &own, self.text) && self.holds(&own, at) && is_short(&own_text) {
+            return own_text.into_owned();
         }
         self.true_form(&e, &own, at)
     }
@@ -646,9 +647,13 @@ impl<'a> Walk<'a> {
     }
 
     fn true_form(&mut self, _old: &Expr, own: &Expr, at: At) -> String {
-        match self.holds(own, at) {
-            true => self.written(own),
-            false => "1".into(),
+        if !self.holds(own, at) {
+            return "1".into();
+        }
+        let written = self.written(own);
+        match is_short(&written) {
+            true => written,
+            false => self.written(&folded(own)),
         }
     }
 
