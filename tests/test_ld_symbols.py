@@ -184,6 +184,24 @@ class OptionTest(SymbolTest):
                    self.compile("b.s", ".text\n.quad asked\n.section .note.GNU-stack\n")]
         self.same("-e", "start", "-T", "t.ld", *objects)
 
+    def test_sections_of_one_name(self) -> None:
+        """The right one of several output sections of a name: not an empty one, and the first that was made of `.text`."""
+        self.write("t.ld", "SECTIONS { . = 0x1000; .info : { . = ALIGN(16); } .text : { *(.nothing) } .code : { *(.text) }"
+                   " .info (COPY) : { *(.own) } .d : { *(.data) } .text : AT(ADDR(.text)) { end = 2; } .r : { BYTE(1) } }")
+        name = self.compile("a.s", ".globl start\nstart: nop\n.data\n.long 1\n.section .own,\"a\"\n.globl own\n.byte 1\n"
+                            "own: .byte 2\n.section .note.GNU-stack\n")
+        self.same("-e", "start", "-T", "t.ld", name)
+
+    def test_empty_orphans_of_one_name(self) -> None:
+        """A name in one of several orphans of a name that GNU ld takes out, as they are empty."""
+        self.write("t.ld", "SECTIONS { . = 0x1000; .code : { *(.text) } .data : { *(.data) } .z : { BYTE(1) } }")
+        kinds = '"a"', '"aw",@init_array', '"ax"', '"aw",@nobits'
+        objects = [self.compile(f"{name}.s", f".globl {name}\n.section .fast,{kind}\n{name}: {more}\n.text\nnop\n"
+                                ".section .note.GNU-stack\n")
+                   for name, kind, more in zip("abcd", kinds, ("", "", "", ".skip 4"))]
+        for order in (objects, objects[::-1], [objects[2], objects[0], objects[1]]):
+            self.same("-T", "t.ld", *order)
+
     def test_order_of_orphans(self) -> None:
         """Local symbols are in the order of GNU ld's list of sections, in which orphans stand by their kinds."""
         self.write("t.ld", "SECTIONS { . = 0x1000; .rodata : { *(.nothing) } .code : { *(.text .data .bss) } }")

@@ -5,7 +5,6 @@ use std::collections::HashMap;
 use bstr::{BStr, ByteSlice};
 
 use super::body::in_column;
-use super::names::section_of;
 use super::{library_path, padded, Request};
 use crate::command::Input;
 use crate::layout::{glob, Flags};
@@ -112,7 +111,7 @@ fn left_out(request: &Request<'_>) -> String {
                 SectionKind::GROUP => true,
                 SectionKind::NULL => !section.name.starts_with(b".rel") && !is_kept(request, section.name),
                 kind if kind.is_linked() => {
-                    let own = section_of(request.evaluation, number, section.index);
+                    let own = request.evaluation.section_of(number, section.index);
                     let own = own.and_then(|id| request.evaluation.section(id));
                     own.map_or(false, |own| own.output().is_none() && !own.flags.has(Flags::CREATED | Flags::KEEP))
                 }

@@ -5,9 +5,9 @@ use std::collections::HashMap;
 use bstr::{BString, ByteSlice};
 
 use super::Request;
-use crate::layout::evaluation::{Definer, Evaluation};
+use crate::layout::evaluation::Definer;
 use crate::layout::ids::SectionId;
-use crate::objects::{Home, LinkNames, ObjectIndex, SectionIndex};
+use crate::objects::{Home, LinkNames};
 
 /// By input section: the names in it with their places there, ascending.
 pub(super) struct Defined(HashMap<SectionId, Vec<(u64, BString)>>);
@@ -49,17 +49,7 @@ fn place_of(request: &Request<'_>, known: &LinkNames, name: &BString) -> Option<
         _ => return None,
     };
     match evaluation.merged_place(definition.object, number, definition.value) {
-        Some((source, at)) => Some((section_of(evaluation, source.object, source.section)?, at)),
-        None => Some((section_of(evaluation, definition.object, number)?, definition.value)),
+        Some((source, at)) => Some((evaluation.section_of(source.object, source.section)?, at)),
+        None => Some((evaluation.section_of(definition.object, number)?, definition.value)),
     }
-}
-
-/// The section of an object by the number of its header: they are in the order of objects, and of headers.
-pub(super) fn section_of(evaluation: &Evaluation, object: ObjectIndex, number: SectionIndex) -> Option<SectionId> {
-    let sections = &evaluation.sections;
-    let first = sections.partition_point(|one| one.object < object);
-    let rest = sections.get(first..)?;
-    let at = rest.partition_point(|one| one.object == object && one.number().map_or(false, |own| own < number));
-    rest.get(at).filter(|one| one.object == object && one.number() == Some(number))?;
-    Some(SectionId::new(first + at))
 }

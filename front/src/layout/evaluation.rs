@@ -418,6 +418,15 @@ impl Evaluation {
         self.merges.place(object, section, offset).or_else(beside)
     }
 
+    /// The section of an object by the number of its header: they are in the order of objects, and of headers.
+    pub fn section_of(&self, object: ObjectIndex, number: SectionIndex) -> Option<SectionId> {
+        let first = self.sections.partition_point(|one| one.object < object);
+        let rest = self.sections.get(first..)?;
+        let at = rest.partition_point(|one| one.object == object && one.number().map_or(false, |own| own < number));
+        rest.get(at).filter(|one| one.object == object && one.number() == Some(number))?;
+        Some(SectionId::new(first + at))
+    }
+
     /// The name of an input section.
     pub fn section_name(&self, section: &InputSection) -> &BStr {
         self.names.get(section.name)

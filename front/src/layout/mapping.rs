@@ -264,6 +264,7 @@ impl Link<'_> {
             return refused(RefusedReason::Discard, self.output_span(id));
         }
         let (kind, bits) = special::by_name(self.program.names.get(name));
+        let number = self.program.made.len();
         if let Some(output) = self.output_mut(id) {
             output.place = Some(Place {
                 address: 0,
@@ -272,6 +273,7 @@ impl Link<'_> {
                 last_size: 0,
                 flags: flags.without(Flags::CREATED | Flags::EXCLUDE),
                 align: 1,
+                number,
                 is_gone: false,
                 has_input: false,
                 inputs: Vec::new(),

@@ -183,6 +183,8 @@ pub(crate) struct Place {
     pub last_size: u64,
     pub flags: Flags,
     pub align: u64,
+    /// How many were made before.
+    pub number: usize,
     /// Taken out of the image, as it is empty.
     pub is_gone: bool,
     pub has_input: bool,

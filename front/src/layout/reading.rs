@@ -3,6 +3,7 @@
 use super::evaluation::Base;
 use super::ids::{SectionId, SymbolId};
 use super::link::Link;
+use super::result::first_made;
 use super::rows::{is_identifier, Rows};
 use super::symbols::SymbolKind;
 use crate::objects::{Definition, Home, LinkNames, Object, Rank};
@@ -107,8 +108,8 @@ impl Link<'_> {
             if output.and_then(|output| self.output(output)).map_or(false, |output| output.name == name) {
                 continue;
             }
-            let first = self.program.outputs_of.get(&name).and_then(|outputs| outputs.first());
-            let other = first.and_then(|output| self.place(*output)).and_then(|place| {
+            let first = first_made(self, self.program.names.get(name));
+            let other = first.and_then(|output| self.place(output)).and_then(|place| {
                 let is_own = |id: &SectionId| self.section(*id).map_or(false, |section| section.name == name);
                 place.inputs.iter().copied().find(is_own)
             });

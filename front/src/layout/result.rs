@@ -83,10 +83,8 @@ impl Link<'_> {
                 Some(Fate::Output(_)) | None => self.symbol_value(symbol).map(|value| value.address),
             }
         });
-        let address = by_name.or_else(|| number_of(&name)).or_else(|| {
-            let outputs = self.program.outputs_of.get(&self.program.names.find(b".text")?)?;
-            outputs.iter().find_map(|output| self.place(*output)).map(|place| place.address)
-        });
+        let text = || first_made(self, b".text").and_then(|output| self.place(output)).map(|place| place.address);
+        let address = by_name.or_else(|| number_of(&name)).or_else(text);
         Entry { name, address, is_by_name: by_name.is_some() }
     }
 
@@ -351,8 +349,10 @@ fn number_of(name: &Name) -> Option<u64> {
     }
 }
 
-/// The output sections that are named first of all those of their name.
+/// The first output section of a name that was made, which is not that of the first statement where one before it names that
+/// (section.c, `bfd_get_section_by_name`).
 pub(crate) fn first_made(link: &Link<'_>, name: &[u8]) -> Option<OutputId> {
     let outputs = link.program.outputs_of.get(&link.program.names.find(name)?)?;
-    outputs.iter().copied().find(|output| link.place(*output).is_some())
+    let made = outputs.iter().filter_map(|output| Some((link.place(*output)?.number, *output)));
+    made.min().map(|(_, output)| output)
 }

@@ -16,7 +16,7 @@ use super::table::{Entry, Writer};
 use super::{SymbolOptions, Symbols};
 use crate::layout::evaluation::{Base, Definer, Evaluation, Symbol};
 use crate::layout::ids::SymbolId;
-use crate::objects::{Home, Object, GLOBAL_OFFSET_TABLE};
+use crate::objects::{Home, Object, ObjectIndex, GLOBAL_OFFSET_TABLE};
 use crate::quick::QuickMap;
 
 /// How many assignments are followed from one symbol to the next.
@@ -165,11 +165,27 @@ impl<'a> Names<'a> {
         let entry = Entry {
             info: binding << 4 | kind,
             other: if is_local { elf::STV_DEFAULT } else { self.visibility_of(one, known) },
-            section: section.unwrap_or_else(|| self.outputs.stands_for(found.st_shndx.get(LE))),
+            section: section.unwrap_or_else(|| self.section_of(one, found.st_shndx.get(LE))),
             value: found.st_value.get(LE),
             size: one.size,
         };
         Some((entry, is_local))
+    }
+
+    /// The number of the section that a name of an object is in; of one that GNU ld takes out, which may be one of several
+    /// of its name, that which takes its names.
+    fn section_of(&self, one: &LinkedName, number: u16) -> u16 {
+        let nearby = || {
+            let (object, index) = one.defined_by?;
+            let home = match self.objects.get(object)?.symbol(index)?.home {
+                Home::Section(section) => self.evaluation.section_of(ObjectIndex(object as u32), section)?,
+                _ => return None,
+            };
+            let output = self.evaluation.output(self.evaluation.section(home)?.output()?)?;
+            self.outputs.get(output.nearby?)
+        };
+        let found = if self.outputs.is_taken_out(number) { nearby() } else { None };
+        found.map_or_else(|| self.outputs.stands_for(number), |output| output.number)
     }
 
     /// The entry of a symbol that counts from an output section that is never made: undefined, with its value. It is left

@@ -138,16 +138,21 @@ impl Outputs {
         OtherSections { relocations, missing: self.missing, dropped: self.dropped }
     }
 
-    /// Gives sections that are not loaded their numbers, from the first one on: some of them, in their order.
+    /// Gives sections that are not loaded their numbers, from the first one on: those that are not empty, in their order.
     fn take_unloaded(&mut self, wanted: &[Wanted<'_>], unloaded: &[Unloaded], first: usize) {
         let mut rest = wanted.iter();
         for (number, one) in (first..).zip(unloaded) {
-            let found = rest.find(|(_, output, _)| output.name == one.name);
+            let found = rest.find(|(_, output, place)| output.name == one.name && place.size != 0);
             let number = u16::try_from(number).ok();
             if let Some((slot, number)) = found.and_then(|(id, ..)| self.numbers.get_mut(id.index())).zip(number) {
                 *slot = Some(Output { number, address: one.address, is_loaded: false });
             }
         }
+    }
+
+    /// Whether the image has a section that GNU ld takes out.
+    pub(super) fn is_taken_out(&self, number: u16) -> bool {
+        self.instead.contains_key(&number)
     }
 
     /// The number of the section that a symbol of a section is in.
