@@ -153,12 +153,14 @@ class OptionTest(SymbolTest):
                 self.same("--gc-sections", *word, "-T", "t.ld", *objects)
 
     def test_types_of_what_is_left_out(self) -> None:
-        """`--gc-sections`: a symbol has the type of the name that it is assigned, which is left out."""
+        """A symbol has the type of the name that it is assigned, also of one that `--gc-sections` leaves out, or of itself."""
         self.write("t.ld", "SECTIONS { alias = block; . = 0x1000; .text : { *(.text) } alias = .; }")
         name = self.compile("a.s", ".globl start\nstart: nop\n.comm block, 8, 8\n.type f, @function\n"
                             ".section .text.f\n.globl f\nf: nop\n.section .note.GNU-stack\n")
         table = self.same("--gc-sections", "-e", "start", "-T", "t.ld", name)
         self.assertEqual([entry.kind for entry in table.entries if entry.name == "alias"] if table else [], ["OBJECT"])
+        self.write("t.ld", "alias = block; SECTIONS { . = 0x1000; .text : { *(.text*) alias = alias; } .bss : { *(COMMON) } }")
+        self.same("-e", "start", "-T", "t.ld", name)
 
     def test_sections_that_are_not_made(self) -> None:
         """ONLY_IF_RO that is not met: what counts from such a section is undefined, and there if it is strong."""

@@ -197,7 +197,8 @@ impl Link<'_> {
         let is_absolute = found.base == Base::Absolute || found.base == Base::Number && at == Base::Absolute;
         let is_moved = self.phase == Phase::Final && self.is_from_address && is_absolute;
         let section = if is_moved { self.section_for_dot(id) } else { None };
-        let like = self.source.one();
+        // A symbol that is assigned to itself has the type that it had.
+        let like = self.source.one().filter(|like| *like != target);
         let symbol = match self.program.symbols.know(target) {
             None => return,
             Some(symbol) => symbol,
