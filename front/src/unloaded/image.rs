@@ -48,5 +48,8 @@ fn values_of<'a>(image: &'a [u8], headers: &[SectionHeader64<LE>]) -> Option<Qui
         let name = rest.get(..memchr::memchr(0, rest)?)?.as_bstr();
         (symbol.st_shndx.get(LE) != elf::SHN_UNDEF).then(|| (name, symbol.st_value.get(LE)))
     };
-    Some(symbols.iter().skip(1).filter_map(of_symbol).collect())
+    let mut values = QuickMap::default();
+    values.reserve(count);
+    values.extend(symbols.iter().skip(1).filter_map(of_symbol));
+    Some(values)
 }

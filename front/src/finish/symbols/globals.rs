@@ -57,7 +57,9 @@ impl<'a> ImageNames<'a> {
     /// The numbers of the entries of linked names; `NONE` of those that the image has not.
     fn find(&self, linked: &LinkedNames) -> Vec<u32> {
         let named = self.entries.iter().enumerate().filter_map(|(at, entry)| Some((self.name(entry)?, at as u32)));
-        let places: QuickMap<&[u8], u32> = named.filter(|(name, _)| !name.is_empty()).collect();
+        let mut places: QuickMap<&[u8], u32> = QuickMap::default();
+        places.reserve(self.entries.len());
+        places.extend(named.filter(|(name, _)| !name.is_empty()));
         linked.iter().map(|one| places.get(one.name.as_slice()).copied().unwrap_or(NONE)).collect()
     }
 

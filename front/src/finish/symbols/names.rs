@@ -87,7 +87,8 @@ impl LinkedNames {
         let others: Vec<bool> = before.objects.iter().zip(objects).map(says_other).collect();
         before.hold(objects);
         if others.contains(&true) {
-            before.renew(objects, &others);
+            let found = Found::among(std::mem::take(&mut before.names), objects, &others);
+            before.renew(objects, &others, found);
         }
         before
     }
@@ -101,16 +102,15 @@ impl LinkedNames {
         found.names.iter_mut().for_each(|one| one.is_named = true);
         let (objects, of_script) = (objects.to_vec(), named.clone());
         let (first, mentions, last) = (Vec::new(), Vec::new(), Mutex::new((Vec::new(), Vec::new().into())));
-        let mut names =
-            LinkedNames { names: found.names, objects: Vec::new(), of_script, spoken, first, mentions, last };
-        names.renew(&objects, &vec![true; objects.len()]);
+        let names = Vec::new();
+        let mut names = LinkedNames { names, objects: Vec::new(), of_script, spoken, first, mentions, last };
+        names.renew(&objects, &vec![true; objects.len()], found);
         names.objects = objects;
         names
     }
 
     /// Finds what some of the objects say anew. What is said of names that none of them has stays.
-    fn renew(&mut self, objects: &[Object], others: &[bool]) {
-        let mut found = Found::among(std::mem::take(&mut self.names), objects, others);
+    fn renew<'a>(&mut self, objects: &'a [Object], others: &[bool], mut found: Found<'a>) {
         let mut is_anew = vec![false; found.names.len()];
         let (mut first, mut mentions) = (Vec::with_capacity(objects.len()), Vec::with_capacity(self.mentions.len()));
         for (number, (object, is_other)) in objects.iter().zip(others).enumerate() {
@@ -144,14 +144,12 @@ impl LinkedNames {
         for (number, object) in objects.iter().enumerate() {
             let (start, end) = (self.first.get(number), self.first.get(number + 1));
             let count = end.map_or(usize::MAX, |end| end.saturating_sub(start.copied().unwrap_or(0)));
-            let symbols = object.first_global().0.max(1)..;
-            for (place, index) in rest.by_ref().take(count).zip(symbols) {
-                if is_anew.get(*place as usize) != Some(&true) {
-                    continue;
-                }
-                let (one, symbol) = (self.names.get_mut(*place as usize), object.symbol(SymbolIndex(index)));
-                if let (Some(one), Some(symbol)) = (one, symbol) {
-                    one.said.take(number, &symbol, object.unique().binary_search(&symbol.index).is_ok());
+            let symbols = object.nameless_symbols().skip(object.first_global().0.max(1) as usize);
+            for (place, symbol) in rest.by_ref().take(count).zip(symbols) {
+                if is_anew.get(*place as usize) == Some(&true) {
+                    let is_unique = object.unique().binary_search(&symbol.index).is_ok();
+                    let one = self.names.get_mut(*place as usize);
+                    one.into_iter().for_each(|one| one.said.take(number, &symbol, is_unique));
                 }
             }
         }
