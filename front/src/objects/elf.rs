@@ -232,6 +232,11 @@ impl Elf {
         self.tables_of(section).next().is_some()
     }
 
+    /// How many relocations a section has.
+    pub fn relocation_count(&self, section: SectionIndex) -> usize {
+        self.tables_of(section).map(|table| table.length as usize / std::mem::size_of::<Rela64<Little>>()).sum()
+    }
+
     /// The relocations of a section, in the order of its tables.
     pub fn relocations(&self, section: SectionIndex) -> impl Iterator<Item = Relocation> + '_ {
         let tables = self.tables_of(section).map(move |table| self.data.get(table.range()).unwrap_or_default());

@@ -121,7 +121,7 @@ fn inputs_of(id: OutputId, symbols: &Symbols<'_>, places: &Places) -> Vec<Input>
         let (object, number) = (section.object.0 as usize, section.number()?);
         let is_left_out = section.flags.has(Flags::EXCLUDE | Flags::CREATED);
         let place = places.get(object, number).filter(|place| place.is_loaded && !is_left_out)?;
-        let count = symbols.objects.get(object)?.relocations(number).count();
+        let count = symbols.objects.get(object)?.relocation_count(number);
         Some(Input { object, section: number, place, count })
     };
     inputs.iter().filter_map(input).collect()
