@@ -142,6 +142,14 @@ class ScriptTest(BesideTest):
                               .text : { *(.init.text) } .data : { *(.rodata) } .data : { LONG(1) } }""")
         return self.both("-e", "_start", "-T", "t.ld", "a.o")
 
+    def test_condition_of_numbers(self) -> None:
+        """What a condition of numbers alone leaves out may name what nothing defines, as in coreboot's script."""
+        self.compile("a.s", START + ".data\n.long 5\n")
+        for test in ("0 ? nothing : 0x80", "1 - 1 ? nothing : 4", "!0 ? 8 : nothing"):
+            self.write("t.ld", f"""ENTRY(_start) SECTIONS {{ . = 0x1000; .text : {{ *(.text) }}
+                .data : {{ *(.data) heap = .; . += ({test}); }} x = ({test}); /DISCARD/ : {{ *(.note*) }} }}""")
+            self.same("-T", "t.ld", "a.o")
+
     def test_segment_start(self) -> None:
         """-Ttext-segment moves the default script's sections, and SEGMENT_START of a script of the user."""
         self.compile("a.s", START + '.data\n.quad 1\n')

@@ -109,7 +109,7 @@ pub(super) fn with_dot(e: &Expr, place: &Expr) -> Expr {
 }
 
 /// Of no name anything is known.
-struct NoNames;
+pub(super) struct NoNames;
 
 impl Known for NoNames {
     fn dot(&self) -> Option<u64> {

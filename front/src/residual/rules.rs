@@ -4,7 +4,7 @@
 
 use bstr::BString;
 
-use super::expression::{binary, made, number, word, written};
+use super::expression::{binary, made, number, value, word, written, NoNames};
 use crate::script::tree::{BinaryOperator, Expr, ExprKind, Function, Name, Query, UnaryOperator};
 
 /// The file header and three program headers.
@@ -117,7 +117,7 @@ fn translated(e: &Expr, around: &dyn Around, reasons: &mut Reasons) -> Box<Expr>
     Box::new(translate(e, around, reasons))
 }
 
-/// A condition of DEFINED alone, whose value is known.
+/// A condition of DEFINED alone, or of numbers alone, whose value is known.
 fn decided(test: &Expr, around: &dyn Around, reasons: &mut Reasons) -> Option<bool> {
     match &test.kind {
         ExprKind::Query(Query::Defined, name) => {
@@ -126,7 +126,7 @@ fn decided(test: &Expr, around: &dyn Around, reasons: &mut Reasons) -> Option<bo
             Some(is_defined)
         }
         ExprKind::Unary(UnaryOperator::Not, inner) => decided(inner, around, reasons).map(|is_true| !is_true),
-        _ => None,
+        _ => value(test, &NoNames).map(|value| value != 0),
     }
 }
 
