@@ -204,6 +204,18 @@ class OptionTest(SymbolTest):
         for order in (objects, objects[::-1], [objects[2], objects[0], objects[1]]):
             self.same("-T", "t.ld", *order)
 
+    def test_order_of_addresses(self) -> None:
+        """`-Ttext` and `--section-start` make their sections where they stand: before or after those of the script."""
+        self.write("t.ld", "SECTIONS { . = 0x1000; .data : { *(.data) } .text : { *(.text) } .code : { *(.code) } }")
+        objects = [self.compile(f"{name}.s", f"{part}\nlocal_{name}: nop\n.section .note.GNU-stack\n") for name, part in
+                   zip("abc", (".globl start\nstart: nop", ".data", '.section .code,"ax"'))]
+        for name in objects:
+            self.must("objcopy", "-R", ".bss", "-R", ".text" if name != "a.o" else ".data", name)
+        for words in (("-Ttext=0x5000", "-T", "t.ld"), ("-T", "t.ld", "-Ttext=0x5000"),
+                      ("-T", "t.ld", "--section-start=.code=0x8000", "-Ttext=0x5000")):
+            with self.subTest(words):
+                self.same("-e", "start", *words, *objects)
+
     def test_order_of_orphans(self) -> None:
         """Local symbols are in the order of GNU ld's list of sections, in which orphans stand by their kinds."""
         self.write("t.ld", "SECTIONS { . = 0x1000; .rodata : { *(.nothing) } .code : { *(.text .data .bss) } }")

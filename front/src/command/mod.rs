@@ -245,6 +245,8 @@ pub struct Command {
     /// `rodata-segment`, `ldata-segment`, `text`, `data` or `bss`; where no SEGMENT_START of the last three is there, the
     /// address of the section `.text`, `.data` or `.bss`
     pub segment_starts: IndexMap<BString, u64>,
+    /// How many scripts of `-T` stand before the last of these options.
+    pub scripts_before_starts: usize,
     /// `-z max-page-size`, a power of two
     pub page_size: Option<u64>,
     /// `-z common-page-size`, a power of two
@@ -327,6 +329,7 @@ impl Default for Command {
             wraps: Vec::new(),
             section_starts: IndexMap::new(),
             segment_starts: IndexMap::new(),
+            scripts_before_starts: 0,
             page_size: None,
             common_page_size: None,
             keywords: Vec::new(),

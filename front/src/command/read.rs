@@ -224,6 +224,7 @@ impl Reader {
             Action::SegmentStart(name) => {
                 let start = address(value, &format!("-T{name}"))?;
                 self.command.segment_starts.insert(BString::from(name), start);
+                self.command.scripts_before_starts = self.command.scripts.len();
             }
             _ => {}
         }
@@ -267,6 +268,7 @@ impl Reader {
             Some(at) => {
                 let start = address(text.get(at + 1..).unwrap_or_default().as_bstr(), "--section-start")?;
                 self.command.section_starts.insert(BString::from(text.get(..at).unwrap_or_default()), start);
+                self.command.scripts_before_starts = self.command.scripts.len();
                 Ok(())
             }
             None => refused(format!("--section-start: '{text}' is not SECTION=ADDRESS")),

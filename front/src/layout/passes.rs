@@ -52,8 +52,13 @@ pub(crate) fn run(
     link.pass += 1;
     link.keep(rows);
     link.collect(objects, rows);
-    link.set_addresses()?;
+    if !settings.starts_late {
+        link.set_addresses()?;
+    }
     link.map(rows, objects)?;
+    if settings.starts_late {
+        link.set_addresses()?;
+    }
     link.find_linked(objects, rows);
     link.insert_statements()?;
     Orphans::run(&mut link)?;

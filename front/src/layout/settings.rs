@@ -25,6 +25,8 @@ pub struct Settings {
     pub section_starts: Vec<(Name, u64)>,
     /// Addresses of SEGMENT_START: `text-segment`, `rodata-segment`, `ldata-segment`, and `text`, `data`, `bss`.
     pub segment_starts: Vec<(Name, u64)>,
+    /// Whether these options stand behind the script, so that their sections are made after its own.
+    pub starts_late: bool,
     /// `--orphan-handling`
     pub orphans: OrphanHandling,
     /// `--unique`: patterns of names whose orphans stay apart; `None` without it, no pattern for all.
@@ -68,6 +70,7 @@ impl Default for Settings {
             entry: None,
             section_starts: Vec::new(),
             segment_starts: Vec::new(),
+            starts_late: false,
             orphans: OrphanHandling::Place,
             unique: None,
             sort_common: None,
