@@ -9,6 +9,7 @@ mod flat;
 mod headers;
 mod image;
 mod inserted;
+mod kept;
 mod loaded;
 mod names;
 mod pages;
@@ -25,6 +26,7 @@ pub use file_image::FileImage;
 pub use flat::NoFlatImage;
 pub use headers::{LoadedHeaders, PT_GNU_PROPERTY};
 pub use image::NotAnImage;
+pub use kept::KeptTables;
 pub use loaded::Differs;
 pub use pages::TooFar;
 pub use program_headers::{NotWritten, WantedSegment};
@@ -134,6 +136,20 @@ pub fn finish(
     symbols: Option<&Symbols<'_>>,
     unloaded: Vec<Unloaded>,
 ) -> Result<Finished, FinishError> {
+    finish_again(image, form, symbols, unloaded, &mut KeptTables::default())
+}
+
+/// The same with tables that are kept.
+///
+/// # Errors
+/// Those of `finish`.
+pub fn finish_again(
+    image: impl Into<Answered>,
+    form: &Form,
+    symbols: Option<&Symbols<'_>>,
+    unloaded: Vec<Unloaded>,
+    kept: &mut KeptTables,
+) -> Result<Finished, FinishError> {
     let mut image = image.into();
     if form.is_flat {
         let flat = flat::flat_binary(&image, &form.left_out)?;
@@ -147,7 +163,7 @@ pub fn finish(
         (None, None) => pages::with_pages(&image, form.page, false)?,
     };
     names::rename(&image, &form.names, &mut plan)?;
-    let sections = put_symbols(&image, form, symbols, &unloaded, &mut plan)?;
+    let sections = put_symbols((&image, kept), form, symbols, &unloaded, &mut plan)?;
     unloaded::add(&image, unloaded, &mut plan)?;
     inserted::insert(&image, sections, &mut plan)?;
     let (segments, file) = match plan {
@@ -175,7 +191,7 @@ pub fn put_image(file: &mut FileImage, form: &Form, mut image: Answered) -> Resu
 
 /// Gives the file its table of symbols, or takes that of the image away; gives how its sections differ.
 fn put_symbols(
-    data: &[u8],
+    (data, kept): (&Answered, &mut KeptTables),
     form: &Form,
     symbols: Option<&Symbols<'_>>,
     unloaded: &[Unloaded],
@@ -184,7 +200,18 @@ fn put_symbols(
     let image = image::Image::read(data)?;
     let (table, sections) = match symbols {
         Some(symbols) if form.symbols.has_table() => {
-            let found = symbols::table_of(&image, symbols, &form.symbols, &form.names, unloaded)?;
+            let by_map = symbols.map.is_some();
+            let known = if by_map { None } else { kept.of(data, &image, unloaded) };
+            let found = match known {
+                Some(known) => known,
+                None => {
+                    let found = symbols::table_of(&image, symbols, &form.symbols, &form.names, unloaded)?;
+                    if !by_map {
+                        kept.keep(data, unloaded, &found);
+                    }
+                    found
+                }
+            };
             (Some(found.symbols), found.sections)
         }
         Some(symbols) => (None, symbols::sections_of(&image, symbols, &form.names, unloaded)?),

@@ -94,7 +94,7 @@ fn image(sections: &[Made<'_>]) -> Vec<u8> {
     data
 }
 
-fn text_and_data() -> Vec<u8> {
+pub(super) fn text_and_data() -> Vec<u8> {
     image(&[
         Made(".text", 4, 0x401000, 0x1000, Some(b"code"), 4),
         Made(".data", 1, 0x402000, 0x2000, Some(b"data"), 4),

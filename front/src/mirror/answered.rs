@@ -10,13 +10,13 @@ pub struct Answered {
     covered: Vec<(usize, Vec<u8>)>,
     /// What differs from the image that was answered before; `None` where that is not known.
     changed: Option<Vec<Range<usize>>>,
-    /// The number of the answer; 0 of no session's.
+    /// The number of the answer, as each has another one; 0 of no session's.
     pub(super) number: u64,
 }
 
 impl Answered {
     /// An image, and what differs in it from the one that was answered before.
-    pub(super) fn new(bytes: Vec<u8>, changed: Option<Vec<Range<usize>>>, number: u64) -> Answered {
+    pub(crate) fn new(bytes: Vec<u8>, changed: Option<Vec<Range<usize>>>, number: u64) -> Answered {
         Answered { bytes, covered: Vec::new(), changed, number }
     }
 
@@ -32,6 +32,16 @@ impl Answered {
     /// The ranges outside of which it has the bytes of the image that was answered before; `None` where that is not known.
     pub fn changed(&self) -> Option<&[Range<usize>]> {
         self.changed.as_deref()
+    }
+
+    /// The same for an answer of a number: that before this one, else it is not known.
+    pub fn changed_since(&self, answer: u64) -> Option<&[Range<usize>]> {
+        self.changed().filter(|_| answer != 0 && self.number == answer + 1)
+    }
+
+    /// The number of the answer; 0 of no session's.
+    pub fn number(&self) -> u64 {
+        self.number
     }
 
     /// Takes back what was written over.

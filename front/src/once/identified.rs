@@ -5,7 +5,8 @@ use std::ops::Range;
 
 use crate::command::BuildId;
 use crate::finish::{
-    finish, hash_of, place_of_note, put_image, FileImage, FinishError, Finished, HashKind, LaidOut, Unloaded,
+    finish, finish_again, hash_of, place_of_note, put_image, FileImage, FinishError, Finished, HashKind, LaidOut,
+    Unloaded,
 };
 use crate::mirror::{Answered, Mirror, SessionError, Wanted};
 use crate::objects::NOTE_HEAD;
@@ -40,7 +41,10 @@ pub(crate) fn file_of(
     let unloaded = unloaded_of(plan, &image, laid_out, mirror)?;
     let has_hash = plan.inputs.identity().map_or(false, |identity| identity.style().is_found());
     let again = if has_hash { unloaded.clone() } else { Vec::new() };
-    let mut finished = finish(image, &plan.form, plan.symbols(laid_out).as_ref(), unloaded)?;
+    let mut tables = std::mem::take(&mut plan.tables);
+    let finished = finish_again(image, &plan.form, plan.symbols(laid_out).as_ref(), unloaded, &mut tables);
+    plan.tables = tables;
+    let mut finished = finished?;
     let place = place.map(|place| place + NOTE_HEAD);
     let start = place.and_then(|place| finished.file.place_of(place));
     let id = match (plan.inputs.identity(), start) {
@@ -67,7 +71,7 @@ pub(crate) fn file_of(
 /// Gives a file the image with the ID that the note has now, which stands at a place of it; where that image differs from the
 /// one before in more, it is given, and the file is to be made anew.
 fn with_id(
-    plan: &LinkPlan,
+    plan: &mut LinkPlan,
     file: &mut FileImage,
     id: Range<usize>,
     mirror: &mut Mirror,
@@ -85,6 +89,7 @@ fn with_id(
     let mut places = around.clone().zip(before.iter().zip(now));
     let is_same = before.len() == now.len() && places.all(|(at, (old, new))| id.contains(&at) || old == new);
     if is_near && is_same {
+        plan.tables.follow(&image);
         put_image(file, &plan.form, image)?;
         return Ok(None);
     }

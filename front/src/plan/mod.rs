@@ -32,7 +32,7 @@ use std::sync::Arc;
 use bstr::{BStr, BString, ByteSlice};
 
 use crate::command::{Command, Orphans, OutputFormat};
-use crate::finish::{Form, LaidOut, LinkedNames, Rights, Strip, Symbols, PAGE};
+use crate::finish::{Form, KeptTables, LaidOut, LinkedNames, Rights, Strip, Symbols, PAGE};
 use crate::inputs::{self, InputFault, Loaded, ScriptInputs};
 use crate::layout::evaluation::Placed;
 use crate::layout::{Evaluation, Flags, Layout, Settings, Stop};
@@ -181,6 +181,8 @@ pub struct LinkPlan {
     pub options: mirror::Options,
     /// The form of the file.
     pub form: Form,
+    /// The tables of the last file.
+    pub tables: KeptTables,
     layout: Option<Layout>,
     /// The names for the table of symbols, in their order.
     names: Option<LinkedNames>,
@@ -228,7 +230,8 @@ impl LinkPlan {
         let changed = changed.and_then(|found| changed_of(held, &inputs, found, &made_loaded, &residual));
         let wanted = evaluation.as_ref().ok().filter(|_| !form.is_flat && form.symbols.strip != Strip::All);
         let names = wanted.map(|evaluation| LinkedNames::of(inputs.objects(), evaluation, names));
-        LinkPlan { inputs, evaluation, residual, options, form, layout, names, made_loaded, remade, changed }
+        let tables = KeptTables::default();
+        LinkPlan { inputs, evaluation, residual, options, form, tables, layout, names, made_loaded, remade, changed }
     }
 
     /// The same plan where some files have other bytes now; `None` where all must be planned anew, as these files are no

@@ -140,6 +140,7 @@ impl SymbolOptions {
 }
 
 /// What a link's symbols come to.
+#[derive(Clone, Debug)]
 pub(super) struct Tables {
     /// The symbol table.
     pub(super) symbols: SymbolTable,
@@ -148,7 +149,7 @@ pub(super) struct Tables {
 }
 
 /// How the sections of a file differ from those of the image of `ldi`, but for what is not loaded.
-#[derive(Default)]
+#[derive(Clone, Debug, Default)]
 pub(super) struct OtherSections {
     /// The relocations, sections of their own.
     pub(super) relocations: Vec<RelocationTable>,
