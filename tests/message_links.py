@@ -51,7 +51,7 @@ def compiled(source: str, *flags: str, compiler: str = "gcc") -> bytes:
     return built((*words, *flags), "-fdebug-prefix-map", source, ".c")
 
 
-class LinkTest(unittest.TestCase):
+class MessageTest(unittest.TestCase):
     """A test that links by `ldi-watch --once`, in a folder of its own, and looks at the messages."""
 
     maxDiff = None

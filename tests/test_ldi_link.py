@@ -15,7 +15,7 @@ OLD = b"old"
 
 
 @needs("gcc")
-class LinkTest(OutsideTest):
+class LdiLinkTest(OutsideTest):
     """A folder with a script and an object, which link."""
 
     def setUp(self) -> None:
@@ -41,7 +41,7 @@ class LinkTest(OutsideTest):
                               preexec_fn=limit, timeout=LIMIT, check=False).returncode
 
 
-class OverInputsTest(LinkTest):
+class OverInputsTest(LdiLinkTest):
     """An output that is an input, or the other output, is refused before a byte is written."""
 
     def refused(self, *words: str) -> None:
@@ -82,7 +82,7 @@ class OverInputsTest(LinkTest):
         self.assertEqual(self.link("-o", "/dev/null", "--Map", "/dev/null").returncode, 0)
 
 
-class OldFilesTest(LinkTest):
+class OldFilesTest(LdiLinkTest):
     """Where a new file cannot be written, the old ones are whole, and no part of a new one is left."""
 
     def setUp(self) -> None:

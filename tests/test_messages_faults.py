@@ -2,7 +2,7 @@
 """
 from __future__ import annotations
 
-from tests.message_links import SCRIPT, LinkTest, assembled, compiled
+from tests.message_links import SCRIPT, MessageTest, assembled, compiled
 
 DEFINES_F = assembled(".globl f\nf: ret")
 RETURNS = assembled("ret")
@@ -16,7 +16,7 @@ def section_d(size: int) -> bytes:
     return assembled(f'.section .d,"aw"\n.skip {size}')
 
 
-class NamesTest(LinkTest):
+class NamesTest(MessageTest):
     """F1 and F2."""
 
     def test_two_objects(self) -> None:
@@ -66,7 +66,7 @@ class NamesTest(LinkTest):
             "image.ld:1: undefined entry symbol `main'; its PROVIDE counts only if an object uses the name [F2 main]"])
 
 
-class GatheringTest(LinkTest):
+class GatheringTest(MessageTest):
     """F3."""
 
     def test_orphan(self) -> None:
@@ -86,7 +86,7 @@ class GatheringTest(LinkTest):
         self.check(SCRIPT, {"a.o": assembled(".comm c, 8")}, [wanted.replace(".d", "COMMON")])
 
 
-class LayoutTest(LinkTest):
+class LayoutTest(MessageTest):
     """F4 to F11."""
 
     def test_not_ready(self) -> None:
@@ -175,7 +175,7 @@ class LayoutTest(LinkTest):
             "bytes, or keep what has no contents in sections of its own at the end [F11 268439928]"])
 
 
-class RelocationTest(LinkTest):
+class RelocationTest(MessageTest):
     """F12 to F14."""
 
     def test_undefined(self) -> None:
@@ -278,7 +278,7 @@ class RelocationTest(LinkTest):
                                                r"fit: R_X86_64_PC32 against section `\.data'; its value 0x1ff")
 
 
-class AssertionTest(LinkTest):
+class AssertionTest(MessageTest):
     """F15."""
 
     def test_assertion(self) -> None:

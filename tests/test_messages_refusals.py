@@ -6,7 +6,7 @@ import subprocess
 from collections import Counter
 from collections.abc import Iterator
 
-from tests.message_links import SCRIPT, LinkTest
+from tests.message_links import SCRIPT, MessageTest
 from tests.programs import LIMIT, ROOT, beside_ldi
 
 REFUSALS = 13
@@ -27,7 +27,7 @@ def stored_objects() -> Iterator[bytes]:
         at = end + 1 + int(length)
 
 
-class RefusalTest(LinkTest):
+class RefusalTest(MessageTest):
     """Objects that are refused."""
 
     def said(self, name: str) -> list[str]:

@@ -3,7 +3,7 @@ from __future__ import annotations
 
 import resource
 
-from tests.message_links import SCRIPT, LinkTest, compiled
+from tests.message_links import SCRIPT, MessageTest, compiled
 
 OBJECTS = 400
 CALLS = 250
@@ -15,7 +15,7 @@ def used() -> float:
     return found.ru_utime + found.ru_stime
 
 
-class SpeedTest(LinkTest):
+class SpeedTest(MessageTest):
     """100,000 fault lines."""
 
     def test_undefined(self) -> None:

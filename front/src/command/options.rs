@@ -267,6 +267,8 @@ pub static OPTIONS: &[OptionRow] = &[
     row("no-fallback", Absent, Taken(Action::NoFallback)),
     row("server-status", Absent, Taken(Action::Server(ServerRequest::Status))),
     row("server-stop", Absent, Taken(Action::Server(ServerRequest::Stop))),
+    row("eh-frame-hdr", Absent, Taken(Action::FrameTable(true))),
+    row("no-eh-frame-hdr", Absent, Taken(Action::FrameTable(false))),
     // ignored
     row("a", Needed, Ignored),
     row("A architecture", Needed, Ignored),
@@ -319,8 +321,6 @@ pub static OPTIONS: &[OptionRow] = &[
     row("dynamic-list-cpp-new", Absent, Ignored),
     row("dynamic-list-cpp-typeinfo", Absent, Ignored),
     row("dynamic-list-data", Absent, Ignored),
-    row("eh-frame-hdr", Absent, Taken(Action::FrameTable(true))),
-    row("no-eh-frame-hdr", Absent, Taken(Action::FrameTable(false))),
     row("error-handling-script", Needed, Ignored),
     row("error-unresolved-symbols", Absent, Ignored),
     row("exclude-libs", Needed, Ignored),
