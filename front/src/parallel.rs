@@ -1,4 +1,4 @@
-//! The same for each of many things, by several threads.
+//! Does the same for each of many items, on several threads.
 
 use std::sync::Mutex;
 

@@ -1,4 +1,4 @@
-//! What a link prints: on the streams of this process, or kept, for the process that asked for the link.
+//! The output of a link: on the streams of this process, or kept for the process that asked for the link.
 
 use std::cell::RefCell;
 use std::fmt::Arguments;

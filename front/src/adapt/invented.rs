@@ -1,4 +1,4 @@
-//! Objects that are invented for a script of which nothing else is known: each pattern takes something.
+//! Objects that are invented for a script without objects, so that each pattern matches a section.
 
 use std::collections::BTreeSet;
 use std::os::unix::ffi::OsStrExt;

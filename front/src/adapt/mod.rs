@@ -1,4 +1,4 @@
-//! `ldi-adapt`: a script of GNU ld's language as one of the profile.
+//! `ldi-adapt`: rewrites a script of GNU ld's language into the profile.
 
 pub(crate) mod invented;
 mod refusal;

@@ -1,4 +1,4 @@
-//! Where `readscript` refuses a script, if it can be had: a given one, or the adapted one.
+//! Where a given or an adapted script is refused, as `readscript` says if it is installed.
 
 use std::os::unix::ffi::OsStrExt;
 use std::path::Path;

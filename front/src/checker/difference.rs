@@ -1,4 +1,4 @@
-//! What an image has another than the layout says.
+//! A difference between an image and the layout.
 
 use crate::script::tree::{Name, Span};
 use std::fmt;

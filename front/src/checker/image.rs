@@ -1,4 +1,4 @@
-//! What an image of `ldi` has: sections that are loaded, and global symbols (docs/layout.md, 'Image').
+//! Reads an image of `ldi`: its loaded sections and its global symbols (docs/layout.md, 'Image').
 
 use crate::quick::{QuickMap, QuickSet};
 use bstr::{BStr, ByteSlice};

@@ -1,5 +1,5 @@
-//! What GNU ld makes other bytes of than those of the objects, which the layout takes as they are: `.eh_frame`,
-//! `.note.gnu.property`, and `.gnu.linkonce.*` of which there are several.
+//! Sections whose bytes GNU ld changes, and the layout takes as they are: `.eh_frame`, `.note.gnu.property`, and
+//! `.gnu.linkonce.*` of which there are several.
 
 use crate::layout::evaluation::{Evaluation, Fate, InputSection, OutputSection, Placed};
 use crate::objects::{Binding, Home, Object, ObjectIndex, SectionIndex, SymbolIndex};

@@ -1,4 +1,4 @@
-//! The image that `ldi` answered compared with the layout: what is another than GNU ld's image.
+//! Compares the image that `ldi` answered with the layout, to find where it differs from GNU ld's image.
 //!
 //! ```text
 //! Evaluation, Objects, image, LinkMap --> check() --> Checked: differences, merged bytes, what is not loaded

@@ -1,4 +1,4 @@
-//! The help text of `ld.ldi`: every option of the table, by what becomes of it.
+//! The help text of `ld.ldi`: every option of the table, by how it is handled.
 
 use super::options::{dashed, Argument, Effect, OptionRow, OPTIONS};
 

@@ -1,4 +1,4 @@
-//! The options of GNU ld's command line: how each is written, and what becomes of it.
+//! The options of GNU ld's command line: how each is written, and how it is handled.
 //!
 //! docs/makefiles.md has the same table for people.
 

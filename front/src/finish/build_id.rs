@@ -1,8 +1,8 @@
-//! The hash of a file for its build ID: of all of its bytes, with those of the ID as zeros.
+//! The hash of a file for its build ID, over all its bytes, with zeros in place of the ID.
 //!
-//! GNU ld hashes headers and sections one after the other (elfcode.h, `elf_checksum_contents`); here the file is hashed in
-//! pieces, by a quick hash and several threads, and the ID is the hash of the hashes of the pieces. As lld's and mold's it
-//! has the size that its name says, and is another hash.
+//! GNU ld hashes headers and sections one after the other (elfcode.h, `elf_checksum_contents`); here the file is hashed
+//! in pieces, by a quick hash and several threads, and the ID is the hash of the hashes of the pieces. As in lld and
+//! mold, the ID has the length of the named hash, but is not that hash.
 
 use std::ops::Range;
 

@@ -1,4 +1,4 @@
-//! A file in pieces: stretches of the image of `ldi` at their new places, and headers that are written anew.
+//! A file in pieces: parts of the image of `ldi` at their new places, and new headers.
 
 use std::collections::BTreeMap;
 use std::ops::Range;

@@ -1,5 +1,5 @@
-//! Sections that are put among those of an image: relocations behind the section that they are of (`--emit-relocs`), and
-//! output sections without bytes that GNU ld's file has; those that it has not are taken out.
+//! Sections inserted among those of an image: relocations, each after the section that they apply to (`--emit-relocs`),
+//! and output sections without bytes that GNU ld's file has. Those that GNU ld's file lacks are removed.
 
 use bstr::BString;
 use object::elf;

@@ -1,4 +1,4 @@
-//! Tables of symbols that are kept from one image to the next: they are the same where only what is loaded is another.
+//! Symbol tables that are kept from one image to the next: they stay the same if only loaded bytes differ.
 
 use std::ops::Range;
 

@@ -1,4 +1,4 @@
-//! The proved image as the file that was asked for: program headers, pages, names of sections, flat binaries.
+//! Turns the proved image into the requested file: program headers, pages, names of sections, flat binaries.
 //!
 //! What is loaded stays as `ldi` answered it, byte for byte; `finish` ends with a test of that.
 

@@ -1,5 +1,5 @@
-//! Names of output sections that the image of `ldi` has others for: two of one name, and names that are none of the
-//! profile. GNU ld writes a name twice.
+//! Output sections that have another name in the image of `ldi`: the second of two that share a name, and those whose
+//! name is not in the profile. GNU ld writes such names as they are.
 
 use std::collections::HashMap;
 

@@ -1,6 +1,7 @@
-//! Sections that GNU ld makes writable or executable, or not, where the image of `ldi` has it otherwise: `.text` of
-//! writable input sections, sections of data commands alone. What is loaded stays as it is, with other rights. And the
-//! types of notes and tables of functions, by which other programs find them; to `ldi` all sections with bytes are data.
+//! Gives sections the rights to be written and executed that they have in GNU ld's file: `.text` of writable input
+//! sections and sections of data commands alone have others in the image of `ldi`. The loaded bytes stay. Notes and
+//! tables of functions, which are SHT_PROGBITS in the image of `ldi`, get their types, by which other programs find
+//! them.
 
 use std::collections::HashMap;
 

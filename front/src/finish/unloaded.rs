@@ -1,4 +1,4 @@
-//! Sections that are not loaded, behind those of the image that are.
+//! Appends the sections that are not loaded to those of the image.
 
 use bstr::BString;
 

@@ -1,4 +1,4 @@
-//! The statements of the script with what they took (ld/ldlang.c, `print_statement`).
+//! The statements of the script, each with the input sections that it took (ld/ldlang.c, `print_statement`).
 
 use std::collections::HashMap;
 

@@ -1,5 +1,5 @@
-//! Values at the top of a script as GNU ld finds them once more while it prints a map: `.` is then where the last section
-//! that is printed ends, also of one that is empty and not in the image (ld/ldlang.c, `print_dot`).
+//! Values of statements at the top of a script, which GNU ld evaluates again while it prints a map: `.` is then the end
+//! of the last section that is printed, even if that one is empty and not in the image (ld/ldlang.c, `print_dot`).
 
 use super::Request;
 use crate::script::tree::{BinaryOperator, Expr, ExprKind, Function, Query, UnaryOperator};

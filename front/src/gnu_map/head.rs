@@ -1,4 +1,4 @@
-//! What stands in a map before the script: members of archives, common blocks, sections that are left out, memory.
+//! The part of a map before the script: members of archives, common blocks, sections that are left out, memory.
 
 use std::collections::HashMap;
 

@@ -1,4 +1,4 @@
-//! The inputs taken in their order.
+//! Loads the inputs in their order.
 
 use super::archive::{normalized, shown, Archive, MemberIndex};
 use super::names::{NameState, Names};

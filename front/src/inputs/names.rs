@@ -1,4 +1,5 @@
-//! What is known of names at a point of the command line, as GNU ld keeps it: what decides which members are taken.
+//! The state of each name at a point of the command line, as GNU ld keeps it: it decides which archive members are
+//! taken.
 
 use crate::objects::{Binding, Home, NameFilter, Object, Symbol};
 use crate::quick::QuickMap;

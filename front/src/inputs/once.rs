@@ -1,4 +1,4 @@
-//! Groups of sections and sections of one name that are linked once in a link: the first object that has one has it.
+//! Groups of sections, and sections of one name, that a link takes only once: from the first object that has them.
 
 use super::Loaded;
 use crate::objects::{once_of, Home, Object, OnceKey, SectionIndex, Symbol};

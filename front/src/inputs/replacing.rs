@@ -1,4 +1,4 @@
-//! The same link with other bytes of some objects.
+//! Repeats a link with other bytes of some objects.
 
 use super::names::NameState;
 use super::{Archive, Loaded};

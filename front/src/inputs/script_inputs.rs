@@ -1,4 +1,4 @@
-//! What a script says of files and names: INPUT, GROUP, STARTUP, SEARCH_DIR, EXTERN, ENTRY, and files in statements.
+//! The files and names in a script: INPUT, GROUP, STARTUP, SEARCH_DIR, EXTERN, ENTRY, and files in statements.
 
 use crate::command::OutputFormat;
 use crate::script::tree::{

@@ -1,4 +1,4 @@
-//! GNU ld's list of undefined names: where an object adds one, it goes through archives again.
+//! GNU ld's list of undefined names: if an object adds one, the archives are searched again.
 
 use super::names::{NameState, Names};
 use crate::objects::Object;

@@ -1,4 +1,5 @@
-//! What a layout comes to: plain data for those who write a script of the profile, and for the comparison with an image.
+//! The result of a layout as plain data, from which a script of the profile is written, and with which an image is
+//! compared.
 
 use super::flags::Flags;
 use super::ids::{NameId, OutputId, RegionId, SectionId, StatementId, SymbolId};

@@ -1,6 +1,6 @@
 //! Expressions as GNU ld evaluates them (ldexp.c).
 //!
-//! A value is a number alone, or counts from an output section, or is absolute; it may be not known yet. What GNU ld does
+//! A value is a plain number, relative to an output section, or absolute; or it is not known yet. What GNU ld does
 //! depends on the phase of the link.
 
 use super::evaluation::{Base, Fate};

@@ -1,5 +1,5 @@
-//! What of a script goes by the size of an output section that is not loaded: its strings are merged before that is known
-//! where something does.
+//! Whether a script uses the size of an output section that is not loaded. If so, its strings are merged before that
+//! size is known.
 
 use super::expression::{Binary, Node, Unary};
 use super::flags::Flags;

@@ -1,4 +1,4 @@
-//! Indices of what a layout has, each a type of its own.
+//! Indices into the tables of a layout, each with a type of its own.
 
 macro_rules! id {
     ($(#[$doc:meta])* $name:ident) => {

@@ -1,4 +1,4 @@
-//! INSERT: what the script had before it moves beside an output section (ldlang.c, `process_insert_statements`).
+//! INSERT: the statements before it move next to an output section (ldlang.c, `process_insert_statements`).
 
 use super::ids::{OutputId, StatementId};
 use super::link::Link;

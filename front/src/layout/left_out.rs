@@ -1,5 +1,5 @@
-//! Sections of groups that are left out, as another object has the group: under KEEP they are roots all the same, and what
-//! they refer to stays (elflink.c, `bfd_elf_gc_sections`: nothing tests `kept_section`).
+//! Sections of groups that are left out, since another object has the group. Under KEEP they are roots nevertheless,
+//! and what they refer to stays (elflink.c, `bfd_elf_gc_sections`: nothing tests `kept_section`).
 
 use super::evaluation::InputSection;
 use super::flags::Flags;

@@ -1,5 +1,4 @@
-//! Gives the input sections to the output sections, in the order of the script (ldlang.c,
-//! `map_input_to_output_sections`).
+//! Maps the input sections to output sections, in the order of the script (ldlang.c, `map_input_to_output_sections`).
 
 use super::evaluation::{Fate, InputSection};
 use super::expression::Node;

@@ -1,4 +1,4 @@
-//! The evaluation of a script over objects: the one statement of what GNU ld 2.40 lays out.
+//! The evaluation of a script over objects. This module alone says how GNU ld 2.40 lays out a link.
 //!
 //! ```text
 //! Script, Objects, Settings --> Layout::new     --> rows: which statement matches which input section

@@ -1,4 +1,4 @@
-//! Sections that are where others are (ldlang.c, `lang_check_section_addresses`).
+//! Sections whose addresses overlap (ldlang.c, `lang_check_section_addresses`).
 
 use super::flags::Flags;
 use super::headers::is_tbss;

@@ -1,4 +1,4 @@
-//! A script as the passes go over it: its statements in tables, with what each pass leaves for the next.
+//! A script in the form that the passes use: tables of its statements, with what each pass leaves for the next.
 
 use super::evaluation::{Base, Gap};
 use super::expression::Expressions;

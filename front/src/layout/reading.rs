@@ -1,4 +1,4 @@
-//! What the objects say of the names that something has named.
+//! Looks up in the objects the names that the layout knows so far.
 
 use super::evaluation::Base;
 use super::ids::{SectionId, SymbolId};

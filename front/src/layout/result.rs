@@ -1,4 +1,4 @@
-//! What the passes have found, as an `Evaluation`.
+//! Makes the `Evaluation` from what the passes have found.
 
 use super::evaluation::{
     Base, Definer, Entry, Evaluation, Fate, Gap, InputSection, OutputSection, Placed, Region, Statement, StatementKind,

@@ -1,4 +1,4 @@
-//! The input sections of a link, and which statements match them: what stays when objects change in sizes alone.
+//! The input sections of a link, and which statements match them. This stays the same if only sizes in objects change.
 
 use super::commons;
 use super::evaluation::{Fate, InputSection, Origin};

@@ -1,4 +1,4 @@
-//! What a command line says of a layout.
+//! The settings of a layout, from a command line.
 
 use crate::script::tree::Name;
 

@@ -1,6 +1,6 @@
 //! The passes in which GNU ld finds sizes and addresses (ldlang.c, `lang_size_sections`).
 //!
-//! Each pass goes over all statements; what an expression sees of something that comes later is what the pass before left.
+//! Each pass goes over all statements. Of a later statement an expression sees the value that the previous pass left.
 
 use super::evaluation::{Base, Gap};
 use super::expression::align_power;

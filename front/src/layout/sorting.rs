@@ -1,4 +1,4 @@
-//! The order of what an input statement takes (ldlang.c, `wild_sort`).
+//! The order of the sections that an input statement takes (ldlang.c, `wild_sort`).
 
 use super::evaluation::InputSection;
 use super::matching::Match;

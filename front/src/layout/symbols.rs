@@ -1,4 +1,4 @@
-//! The symbols of a layout: names that are not local, as far as something has named them.
+//! The symbols of a layout: the global names that the link has mentioned so far.
 
 use super::evaluation::Base;
 use super::ids::{OutputId, SectionId, StatementId, SymbolId};

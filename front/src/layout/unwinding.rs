@@ -1,4 +1,4 @@
-//! The entries of `.eh_frame` (Linux Standard Base, 'Exception Frames'), as far as references go by them.
+//! The entries of `.eh_frame` (Linux Standard Base, 'Exception Frames'), as far as references depend on them.
 
 use crate::objects::{Home, Object, SectionIndex, SymbolIndex};
 use std::collections::BTreeMap;

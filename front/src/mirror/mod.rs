@@ -1,4 +1,4 @@
-//! What the session of `ldi` holds: order, bytes and script; the fewest edits that bring it to what a link wants.
+//! The state of the session of `ldi` (order, bytes and script), and the fewest edits that bring it to that of a link.
 
 mod answered;
 mod edits;

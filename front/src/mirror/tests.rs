@@ -1,4 +1,4 @@
-//! A session that is a script of the shell, and what becomes of sessions that end.
+//! Tests with a shell script as the session, and with sessions that end.
 
 use std::io::Write;
 use std::os::unix::fs::PermissionsExt;

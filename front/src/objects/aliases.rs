@@ -1,4 +1,4 @@
-//! An object with other names for places that it has names for already: what a script assigns a symbol of it to.
+//! Adds aliases to an object: the names to which a script assigns its symbols.
 
 use super::draft::Headers;
 use bstr::{BStr, ByteSlice};

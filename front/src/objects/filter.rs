@@ -1,4 +1,4 @@
-//! A quick test whether a name is among some.
+//! A quick test whether a name may be in a set.
 
 use super::elf::hash_of;
 use bstr::BString;

@@ -1,5 +1,5 @@
-//! An object some of whose sections are merged with those of others: it has what stays in it, and refers to what is in
-//! others by names.
+//! An object some of whose sections are merged with those of others: it keeps its own part, and refers by names to what
+//! is in other objects.
 
 use super::draft::Headers;
 use super::merging::{MergeSource, Merged, MergedPart};

@@ -1,7 +1,7 @@
-//! Strings and constants of sections with SHF_MERGE, made one each (bfd/merge.c of GNU ld 2.40).
+//! Merges equal strings and constants of sections with SHF_MERGE (bfd/merge.c of GNU ld 2.40).
 //!
-//! Each section keeps what no section before it has; a string that another one ends with is in that one. So a section gets
-//! shorter or empty, and what was at a place in it is at another place, perhaps in another section.
+//! Each section keeps what no earlier section has; a string that is the end of another one is stored in that one. So a
+//! section gets shorter or empty, and its contents move, some of them to other sections.
 
 use super::{ObjectIndex, Section, SectionFlags, SectionIndex};
 use crate::quick::QuickMap;

@@ -1,4 +1,4 @@
-//! Objects: their sections, symbols and relocations; an object made one of the profile.
+//! Objects: their sections, symbols and relocations, and their conversion into the profile.
 
 mod aliases;
 mod build_note;

@@ -1,4 +1,4 @@
-//! What the objects of a link have of names.
+//! The definitions and references of names in the objects of a link.
 
 use super::{Home, NameFilter, Object, ObjectIndex, Rank, SymbolIndex};
 use crate::quick::QuickMap;

@@ -1,4 +1,4 @@
-//! An object without definitions of some names, which it has undefined.
+//! Makes some names that an object defines undefined in it.
 
 use super::draft::{Draft, Headers};
 use crate::snapshot::Bytes;

@@ -1,4 +1,4 @@
-//! An object made one of the profile: what `ldi` need not know is taken out of it, and names are those of its session.
+//! Converts an object into the profile: what `ldi` need not know is removed, and names become those of its session.
 
 use super::draft::{Draft, Headers};
 use super::relaxing::{relaxed, Reference, Referred};

@@ -1,5 +1,5 @@
-//! References by a global offset table that need none (psABI, B.2 'Optimize GOTPCRELX Relocations'), as GNU ld makes
-//! them in a static image (bfd/elf64-x86-64.c, `elf_x86_64_convert_load_reloc`).
+//! References by a global offset table that need no entry (psABI, B.2 'Optimize GOTPCRELX Relocations'), relaxed as by
+//! GNU ld in a static image (bfd/elf64-x86-64.c, `elf_x86_64_convert_load_reloc`).
 
 use object::elf;
 

@@ -1,4 +1,5 @@
-//! References by a global offset table that need one: they become references to a symbol of the object that has the table.
+//! References by a global offset table that need an entry: they become references to a symbol of the object that has
+//! the table.
 
 use super::draft::{Draft, Headers};
 use super::{Object, SectionIndex, SymbolIndex};

@@ -1,4 +1,4 @@
-//! Links that `ldi` does not make, and GNU ld may: why, in one line. Faults of the program are faults to both.
+//! Why `ldi` does not make a link that GNU ld may make, in one line. Faults of the linked program are faults to both.
 
 use bstr::ByteSlice;
 

@@ -1,4 +1,4 @@
-//! What the words ask for beside a link: version, help, formats, and with `--verbose` the script.
+//! What the arguments ask for besides a link: version, help, formats, and with `--verbose` the script.
 
 use std::io::Write;
 

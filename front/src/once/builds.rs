@@ -1,7 +1,7 @@
-//! What is said once a build, and not for each of its links.
+//! Messages that are printed once a build, not for each of its links.
 //!
-//! A build is known by the outermost `make`, or the like, that this process is under. A file in the user's runtime folder
-//! says what it was told; those of builds that have ended are removed.
+//! A build is identified by the outermost `make`, or the like, above this process. A file in the user's runtime folder
+//! has the messages of a build; those of builds that have ended are removed.
 
 use std::collections::hash_map::DefaultHasher;
 use std::fs::{self, OpenOptions};

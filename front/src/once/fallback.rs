@@ -1,4 +1,4 @@
-//! What this linker cannot do, given to another one: `ld.bfd` or `ld` on PATH, or what LDI_FALLBACK names.
+//! Hands a link over to another linker: the one that LDI_FALLBACK names, or `ld.bfd` or `ld` on PATH.
 
 use std::ffi::{OsStr, OsString};
 use std::os::unix::ffi::{OsStrExt, OsStringExt};

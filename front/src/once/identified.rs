@@ -1,5 +1,5 @@
-//! The file of an image, with what is not loaded, and with its build ID: the file is hashed, the note with the hash is sent
-//! to the session, and the file has the image that it answers then.
+//! The file of an image, with its build ID and with what is not loaded: the file is hashed, the note with the hash is
+//! sent to the session, and the file is made from the image that the session then answers.
 
 use std::ops::Range;
 

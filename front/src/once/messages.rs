@@ -1,4 +1,4 @@
-//! What is said of refused inputs, of faults and of scripts.
+//! Messages about refused inputs, faults and scripts.
 
 use std::ffi::OsStr;
 use std::os::unix::ffi::OsStrExt;

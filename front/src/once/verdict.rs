@@ -1,4 +1,4 @@
-//! What is said of an image beside GNU ld's, and whether it is written.
+//! Messages about where an image differs from GNU ld's, and whether it is written.
 
 use crate::checker::{check, Checked, DifferenceKind, NoImage};
 use crate::layout::evaluation::StatementKind;

@@ -1,7 +1,7 @@
 //! A new file in a folder of its own beside its place, which another process puts there.
 //!
-//! Only this user can enter the folder. So when the file is removed again, nobody who may write beside it can give a
-//! process that was held up something else in its place.
+//! Only this user can enter the folder. So once the file is removed, no other user can put another file in its place
+//! for a process that was delayed.
 
 use super::beside::new_name;
 use super::writing::write_all;

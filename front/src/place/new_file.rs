@@ -1,4 +1,4 @@
-//! What a file is to become.
+//! A new file beside its place, until it is whole.
 
 use super::beside::new_name;
 use super::writing::{take_length_as_error, write_all};

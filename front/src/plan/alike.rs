@@ -1,4 +1,4 @@
-//! The same plan with other bytes of code and data.
+//! Repeats a plan with other bytes of code and data.
 
 use std::path::PathBuf;
 

@@ -1,4 +1,4 @@
-//! What a link is to be: a function of the command and of what was read.
+//! The plan of a link: a function of the command and of what was read.
 //!
 //! [`Inputs::load`] reads scripts and objects; [`LinkPlan::new`] lays the script out over the objects and writes it in the
 //! profile. [`LinkPlan::replan`] is the same plan with other bytes of some objects.

@@ -1,4 +1,4 @@
-//! What a command says of a layout.
+//! The settings of a layout, from a command.
 
 use bstr::{BString, ByteSlice};
 use indexmap::IndexMap;

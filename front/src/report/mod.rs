@@ -1,4 +1,4 @@
-//! What people and editors are told: one type of message, as text or as JSON; faults and refusals of `ldi` as sentences,
+//! Messages for people and editors: one type of message, as text or as JSON; faults and refusals of `ldi` as sentences,
 //! with places in the script and in sources.
 
 mod diagnostic;

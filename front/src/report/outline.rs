@@ -1,4 +1,5 @@
-//! What messages say of the script of a link: its lines, and where it assigns names, has regions and output sections.
+//! What messages need of the script of a link: its lines, and where it assigns names and has regions and output
+//! sections.
 
 use std::collections::{HashMap, HashSet};
 use std::path::Path;

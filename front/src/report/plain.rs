@@ -1,4 +1,4 @@
-//! Bytes of others as text of one line.
+//! Any bytes as readable text of one line.
 
 use std::fmt::Write as _;
 

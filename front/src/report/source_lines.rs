@@ -1,5 +1,5 @@
 //! Source lines of an object, by its debug information (DWARF 2 to 5): of code by `.debug_line`, of variables by
-//! `.debug_info`. Whatever an object has there, nothing fails: what is odd has no line.
+//! `.debug_info`. Malformed debug information is no error; it gives no lines.
 
 use std::collections::HashMap;
 

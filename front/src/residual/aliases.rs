@@ -1,4 +1,4 @@
-//! `a = b;` for a symbol b of an object: a is another name in that object, wherever it comes to be.
+//! `a = b;` for a symbol b of an object: a becomes another name of b in that object.
 
 use super::note::NoteKind;
 use super::versions::Version;

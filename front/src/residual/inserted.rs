@@ -1,4 +1,4 @@
-//! INSERT: what stands in front of it is written behind the output section beside which GNU ld moves it (GNU ld manual,
+//! INSERT: the statements before it are written beside the output section to which GNU ld moves them (GNU ld manual,
 //! 'INSERT'; ldlang.c, `process_insert_statements`).
 
 use std::collections::HashMap;

@@ -1,9 +1,9 @@
-//! A script of GNU ld's language as one of the profile of `ldi` (docs/scripts.md).
+//! Rewrites a script of GNU ld's language into the profile of `ldi` (docs/scripts.md).
 //!
-//! There is one mechanism. What the profile can say stays as it is written, or stands in an equal form by a local rule
-//! (`rules`). While the statements are gone over, the layout that `ldi` will make of what is written is followed, and
-//! compared with GNU ld's own (`layout`) at each place: where the two differ, the value that GNU ld finds is written, with
-//! an ASSERT of it where it is an object's. So a rule need not know where it holds.
+//! There is one mechanism. What the profile can say stays as it is written, or gets an equal form by a local rule
+//! (`rules`). The walk over the statements computes the layout that `ldi` will make of what is written, and compares it
+//! with GNU ld's own (`layout`) at each place. Where the two differ, the value that GNU ld finds is written, with an
+//! ASSERT of it if it is an object's. So a rule need not know where it holds.
 
 mod aliases;
 mod body;

@@ -1,4 +1,4 @@
-//! What became of the constructs of a script.
+//! Notes on how the constructs of a script were rewritten.
 
 use std::fmt;
 

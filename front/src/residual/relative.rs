@@ -1,8 +1,8 @@
-//! What GNU ld makes of an expression by what its parts count from (ldexp.c, `fold_binary`, `fold_unary`).
+//! How GNU ld evaluates an expression whose parts may be relative to a section (ldexp.c, `fold_binary`, `fold_unary`).
 //!
-//! To GNU ld a value is a number, an absolute one, or the distance from the start of an output section. Which it is
-//! decides what an operator works on. Here a value of a section is kept as its address; where GNU ld works on the
-//! distance, the start is taken off first.
+//! To GNU ld a value is a plain number, an absolute one, or the distance from the start of an output section; this
+//! decides what an operator works on. Here a relative value is kept as its address; where GNU ld works on the distance,
+//! the start is subtracted first.
 
 use super::expression::{binary, difference, made, number};
 use super::rules::Around;

@@ -1,6 +1,6 @@
 //! The local rules: an expression of GNU ld's language in an equal form of the profile.
 //!
-//! A rule says nothing of whether the form has the same value in its place; who uses it compares values.
+//! A rule does not say whether the form has the same value in its place; its caller compares the values.
 
 use bstr::BString;
 

@@ -1,4 +1,4 @@
-//! What an expression may name at a place: for the rules, and for the value of what they give.
+//! The names that an expression may use at a place: for the rules, and to evaluate their results.
 
 use super::expression::Known;
 use super::items::for_each_assignment;

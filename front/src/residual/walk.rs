@@ -1,4 +1,4 @@
-//! The way over the statements: what is written, and what `ldi` will make of it so far.
+//! The walk over the statements: the text written so far, and the layout that `ldi` will make of it.
 
 use std::collections::{BTreeMap, HashMap, HashSet};
 

@@ -1,6 +1,6 @@
-//! Names and numbers as `ldi` tells them from marks (docs/scripts.md, 'Tokens'): `x=1` is an assignment there, and one name
-//! for GNU ld. Bytes that no name of the profile has stay in a name where GNU ld has them in one, so that it can be said
-//! what is wrong with the name.
+//! How `ldi` separates names and numbers from marks (docs/scripts.md, 'Tokens'): `x=1` is an assignment to `ldi`, and
+//! one name to GNU ld. A byte that the profile does not have in names stays in a name as in GNU ld, so that a message
+//! can say what is wrong with the name.
 
 use super::lexer::{self, is_file_byte, is_file_start, is_wild_byte, mark, quoted, run, Kind, State};
 use super::words::word;

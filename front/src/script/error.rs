@@ -1,4 +1,4 @@
-//! What a text is refused for as a script, with its place.
+//! Why a text is refused as a script, and where.
 
 use bstr::{BStr, BString, ByteSlice};
 

@@ -1,7 +1,7 @@
-//! A call: has the server of its output link, and puts the new files in place.
+//! A call: asks the server of its output to link, and puts the new files in place.
 //!
-//! The server makes the files beside their places, and says what is to be printed; they are put in place here. So a
-//! server that was stopped never writes over what came later.
+//! The server writes the files beside their places, and says what to print; only the call puts them in place. So a
+//! server that was stopped, and continues later, never overwrites newer files.
 
 use std::ffi::OsString;
 use std::io::{self, Read};

@@ -1,4 +1,4 @@
-//! What tells the server of a call from others: its output, where names lead, the programs, and the variables.
+//! What identifies the server of a call: its output, where names lead, the programs, and the environment variables.
 
 use std::collections::hash_map::DefaultHasher;
 use std::ffi::{OsStr, OsString};

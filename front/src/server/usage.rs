@@ -1,4 +1,4 @@
-//! What processes use of the machine, as `/proc` says it.
+//! The memory and the processor time that processes use, from `/proc`.
 
 use std::ffi::OsString;
 use std::fs;

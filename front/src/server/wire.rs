@@ -1,4 +1,4 @@
-//! What a call and a server say to each other: messages, each of a kind and a list of texts.
+//! The protocol between a call and a server: each message has a kind and a list of texts.
 
 use std::io::{self, Read, Write};
 use std::os::unix::net::UnixStream;

@@ -1,4 +1,4 @@
-//! A file as it was read, and whether it is still that.
+//! A file as it was read, and whether it has changed since.
 
 use super::Bytes;
 use rustix::fs::{cwd, AtFlags, FileType, OFlags, Stat};

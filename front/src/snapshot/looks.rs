@@ -1,4 +1,4 @@
-//! Many files looked at at once, by descriptors of their folders.
+//! Tests many files together, by descriptors of their folders.
 
 use super::file::{folder_of, read_regular, Seen, Stamp};
 use super::with_old_bytes;

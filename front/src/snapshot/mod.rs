@@ -1,7 +1,7 @@
 //! What was read, looked for and missing: bytes, device, inode, size and times; what has changed since.
 //!
-//! The rule is that of docs/watch.md: a file is what was read of it where its device, inode, size and times are those
-//! that it had then; where it had changed shortly before it was read, its bytes are compared.
+//! The rule is that of docs/watch.md: a file is unchanged if its device, inode, size and times are those that it had
+//! when it was read; if it had changed shortly before it was read, its bytes are compared.
 
 mod bytes;
 mod file;

@@ -1,4 +1,4 @@
-//! What stands where in the sections that are not loaded.
+//! The order and places of what is in the sections that are not loaded.
 
 use std::borrow::Cow;
 

@@ -1,4 +1,4 @@
-//! What the image that `ldi` answered says of sections and names.
+//! Sections and names of the image that `ldi` answered.
 
 use bstr::{BStr, ByteSlice};
 use object::elf::{self, FileHeader64, SectionHeader64, Sym64};

@@ -1,5 +1,5 @@
-//! Sections of groups that are left out, and those of the group that is kept: what debug information says of the former is
-//! of the latter, where both have one size (bfd/elflink.c, `_bfd_elf_check_kept_section`).
+//! Sections of groups that are left out, and their counterparts in the group that is kept: what debug information says
+//! of the former holds for the latter, if both have one size (bfd/elflink.c, `_bfd_elf_check_kept_section`).
 
 use std::collections::HashMap;
 

@@ -1,5 +1,5 @@
-//! Strings of sections with SHF_MERGE and SHF_STRINGS, each once, and those that others end with not at all (bfd/merge.c
-//! of GNU ld 2.40: `record_section`, `merge_strings`, `_bfd_merged_section_offset`).
+//! Merges strings of sections with SHF_MERGE and SHF_STRINGS: each is stored once, and not at all if another one ends
+//! with it (bfd/merge.c of GNU ld 2.40: `record_section`, `merge_strings`, `_bfd_merged_section_offset`).
 
 use crate::quick::QuickMap;
 

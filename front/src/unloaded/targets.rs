@@ -1,4 +1,4 @@
-//! What the symbols of relocations stand for.
+//! The addresses that the symbols of relocations stand for.
 
 use bstr::BStr;
 

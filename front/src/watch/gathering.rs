@@ -1,4 +1,4 @@
-//! When events came, and when they are dealt with.
+//! When events came, and when they are handled.
 
 use std::time::{Duration, Instant};
 

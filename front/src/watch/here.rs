@@ -1,4 +1,4 @@
-//! The working folder, which may be removed or renamed, and made anew, while names still go by it.
+//! The working folder, which may be removed or renamed, and made anew, while names are still relative to it.
 
 use std::path::{Path, PathBuf};
 

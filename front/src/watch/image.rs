@@ -1,4 +1,4 @@
-//! What is written of a link: the image, and with it the map and the script of `--gdb`.
+//! The files that are written after a link: the image, the map and the script of `--gdb`.
 
 use std::fs::{File, OpenOptions};
 use std::io::{self, Read, Seek, SeekFrom, Write};

@@ -1,4 +1,4 @@
-//! The inputs of a watch: what was read of them, who writes them, and whether they still are so.
+//! The inputs of a watch: what was read of them, who is writing them, and whether they have changed since.
 
 use std::collections::{HashMap, HashSet};
 use std::path::{Path, PathBuf};

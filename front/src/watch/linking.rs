@@ -1,5 +1,5 @@
-//! How a watch links: as `ldi link`, or as `ld.ldi` where the words or the inputs ask for what that has. That depends on
-//! words and files alone, so that a watch that is started anew makes the same image.
+//! How a watch links: as `ldi link`, or as `ld.ldi` if the arguments or the inputs need that. This depends on arguments
+//! and files alone, so that a watch that is started anew makes the same image.
 
 use std::path::PathBuf;
 use std::process::ExitStatus;

@@ -1,4 +1,5 @@
-//! The commands of a watch: `--make`'s, which is run when sources change, and `--run`'s, which goes with each image.
+//! The commands of a watch: that of `--make`, which runs when sources change, and that of `--run`, which runs after
+//! each image.
 
 use std::io;
 use std::path::{Path, PathBuf};

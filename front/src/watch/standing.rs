@@ -1,4 +1,4 @@
-//! The state that a watch is in, and since when: one that may pass is said only where it stays.
+//! The state that a watch is in, and since when: a state that may pass is reported only if it lasts.
 
 use std::time::{Duration, Instant};
 

@@ -1,4 +1,4 @@
-//! A quick hash of 32 bytes: it takes a fraction of the time of SHA-1, and keeps nobody from seeking two texts of one hash.
+//! A quick hash of 32 bytes. It takes a fraction of the time of SHA-1, and does not resist deliberate collisions.
 
 use super::{Rounds, BLOCK};
 

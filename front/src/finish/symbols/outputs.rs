@@ -1,4 +1,4 @@
-//! The output sections of a layout in the section headers of an image.
+//! Finds the output sections of a layout among the section headers of an image.
 
 use std::collections::HashMap;
 

@@ -1,4 +1,4 @@
-//! Where input sections are in an image: by the layout, or by the map where the image is laid out otherwise.
+//! Where input sections are in an image: by the layout, or by the map if the image is laid out differently.
 
 use std::collections::HashMap;
 use std::sync::Arc;
