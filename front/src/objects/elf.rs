@@ -1,7 +1,8 @@
 //! The tables of an object (ELF-64, x86-64, relocatable; System V gABI, 'Object Files').
 //!
 //! Section headers, symbols and relocations are decoded from the bytes on demand; only the places of the tables, the
-//! names of sections, and a hash of each global name are kept. Any bytes are accepted: what is not in the file is empty.
+//! names of sections, and a hash of each global name are kept. Any bytes are accepted: what is not in the file is
+//! empty.
 
 use super::{Binding, Home, ObjectFault, Relocation, Section, SectionFlags, SectionIndex, SectionKind};
 use super::{Symbol, SymbolIndex, SymbolKind, Visibility};
