@@ -4,10 +4,10 @@
 //! outline SCRIPT [FOLDER ..]      the folders are those in which INCLUDE looks
 //! ```
 //!
-//! Each line has words that are separated by tabs: `entry NAME`; `output NAME`, and for each input statement of it `input
-//! FILE PATTERN ..`, where FILE is `*` without one; `assigned NAME`, also `provided NAME` by PROVIDE; `used NAME` of an
-//! expression, `checked NAME` of an ASSERT, `asked NAME` of DEFINED; `assert START END`, the condition of an ASSERT by its
-//! bytes in the text. `included` says that the text is of several files.
+//! Each line has words that are separated by tabs: `entry NAME`; `output NAME`, and for each input statement of it
+//! `input FILE PATTERN ..`, where FILE is `*` without one; `assigned NAME`, also `provided NAME` by PROVIDE; `used
+//! NAME` of an expression, `checked NAME` of an ASSERT, `asked NAME` of DEFINED; `assert START END`, the condition of
+//! an ASSERT by its bytes in the text. `included` says that the text is of several files.
 
 use std::error::Error;
 use std::io::{self, Write};

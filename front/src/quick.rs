@@ -1,5 +1,5 @@
-//! Hash tables for names and for what else inputs choose: quick, and with a seed of each table's own, so that nobody can
-//! make inputs whose names collide.
+//! Hash tables for names and for what else inputs choose: quick, and with a seed of each table's own, so that nobody
+//! can make inputs whose names collide.
 
 use std::collections::hash_map::RandomState;
 use std::collections::{HashMap, HashSet};

@@ -93,7 +93,8 @@ fn form_of(name: &[u8]) -> (u32, u64) {
     }
 }
 
-/// What stands for `*` in the names that a pattern matches: where one name is taken by an earlier pattern, others are not.
+/// What stands for `*` in the names that a pattern matches: where one name is taken by an earlier pattern, others are
+/// not.
 const STANDS_FOR_ANY: [u8; 2] = *b"wq";
 
 /// A name that a pattern matches.
@@ -155,8 +156,8 @@ pub(crate) fn objects(script: &Script, kind: Kind) -> Vec<Object> {
 struct Outline {
     files: Vec<BString>,
     sections: BTreeSet<BString>,
-    /// Whether constructors are taken into an array, which GNU ld copies in reverse: that is not evaluated, and objects have
-    /// none (elflink.c, `bfd_elf_reverse_ctors`).
+    /// Whether constructors are taken into an array, which GNU ld copies in reverse: that is not evaluated, and objects
+    /// have none (elflink.c, `bfd_elf_reverse_ctors`).
     has_reversed: bool,
     /// Whether a pattern is of common blocks.
     has_commons: bool,

@@ -34,8 +34,8 @@ pub(super) fn lines(script: &Path, result: &Residual, environment: &Environment)
     found.into_iter().map(|one| format!("{}: {}", at(one.line), one.sentence)).collect()
 }
 
-/// The places and sentences for which a given script is refused; none where it is not. Where `readscript` cannot be had,
-/// all that the profile has not counts.
+/// The places and sentences for which a given script is refused; none where it is not. Where `readscript` cannot be
+/// had, all that the profile has not counts.
 pub(super) fn of_given(call: &Call, text: &[u8], environment: &Environment) -> Vec<String> {
     let judgement = judged(text, environment);
     if judgement == Some(Judgement::Accepted) {

@@ -105,8 +105,8 @@ fn add_note(result: &mut Residual, note: Note) {
     result.notes.insert(at, note);
 }
 
-/// The script in the profile, by what GNU ld makes of it over objects. Where these are invented, the objects of the link
-/// may define any name.
+/// The script in the profile, by what GNU ld makes of it over objects. Where these are invented, the objects of the
+/// link may define any name.
 fn adapted_over(
     reading: &Reading,
     objects: &[Object],

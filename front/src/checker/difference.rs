@@ -165,9 +165,9 @@ impl fmt::Display for Difference {
     }
 }
 
-/// Of each difference the construct that explains it, of those that the script of the profile says otherwise: the one that
-/// it stands in, else the last one in front of it, as what follows moves with it; where it is of no statement, the first.
-/// `changed` are the places of these constructs. A difference without any is one that nothing explains.
+/// Of each difference the construct that explains it, of those that the script of the profile says otherwise: the one
+/// that it stands in, else the last one in front of it, as what follows moves with it; where it is of no statement, the
+/// first. `changed` are the places of these constructs. A difference without any is one that nothing explains.
 pub fn explained(differences: &[Difference], changed: &[Span]) -> Vec<Option<Span>> {
     let mut changed = changed.to_vec();
     changed.sort_by_key(|span| (span.start, span.end));

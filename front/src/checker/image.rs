@@ -48,8 +48,8 @@ impl<'a> Image<'a> {
         self.header.e_entry.get(Little)
     }
 
-    /// The sections that take memory and are not empty, with their load addresses by the program headers: each is in one,
-    /// by its place in the file.
+    /// The sections that take memory and are not empty, with their load addresses by the program headers: each is in
+    /// one, by its place in the file.
     pub fn loaded(&self) -> Result<Vec<Loaded<'a>>, NoImage> {
         let segments = self
             .header

@@ -267,8 +267,8 @@ impl File<'_> {
         Some(found)
     }
 
-    /// Why these entries are others; `known` are the CIEs so far. The last entry is filled up to `align`, but that of the
-    /// last object, of which it is 0.
+    /// Why these entries are others; `known` are the CIEs so far. The last entry is filled up to `align`, but that of
+    /// the last object, of which it is 0.
     fn cause(&self, entries: &[Entry], known: &mut HashSet<Key>, align: u64) -> Option<UnwindingCause> {
         let used: HashSet<usize> = entries.iter().filter_map(|entry| entry.common).collect();
         for (number, entry) in entries.iter().enumerate() {
@@ -363,8 +363,8 @@ impl File<'_> {
     }
 }
 
-/// What a CIE says of its entries: where its own instructions begin, the bytes of an address, whether each entry has more
-/// data with their length in front.
+/// What a CIE says of its entries: where its own instructions begin, the bytes of an address, whether each entry has
+/// more data with their length in front.
 struct Common {
     instructions: usize,
     width: usize,

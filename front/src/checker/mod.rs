@@ -29,9 +29,9 @@ pub struct Checked {
     pub not_loaded: Vec<NotLoaded>,
 }
 
-/// Compares an image of `ldi` with the layout of its objects: output sections with their places, load addresses and data,
-/// what fills gaps, the script's symbols, common blocks, bounds of sections and the entry; with the map also the places of
-/// input sections.
+/// Compares an image of `ldi` with the layout of its objects: output sections with their places, load addresses and
+/// data, what fills gaps, the script's symbols, common blocks, bounds of sections and the entry; with the map also the
+/// places of input sections.
 ///
 /// # Errors
 /// The bytes are no image.

@@ -241,9 +241,9 @@ pub struct Command {
     pub wraps: Vec<BString>,
     /// `--section-start`: the address of each section
     pub section_starts: IndexMap<BString, u64>,
-    /// `-Ttext-segment` and its like, `-Ttext`, `-Tdata`, `-Tbss`: what SEGMENT_START of a script gives for `text-segment`,
-    /// `rodata-segment`, `ldata-segment`, `text`, `data` or `bss`; where no SEGMENT_START of the last three is there, the
-    /// address of the section `.text`, `.data` or `.bss`
+    /// `-Ttext-segment` and its like, `-Ttext`, `-Tdata`, `-Tbss`: what SEGMENT_START of a script gives for
+    /// `text-segment`, `rodata-segment`, `ldata-segment`, `text`, `data` or `bss`; where no SEGMENT_START of the last
+    /// three is there, the address of the section `.text`, `.data` or `.bss`
     pub segment_starts: IndexMap<BString, u64>,
     /// How many scripts of `-T` stand before the last of these options.
     pub scripts_before_starts: usize,

@@ -209,7 +209,8 @@ impl FilePlan {
         }
     }
 
-    /// The bytes of sections that are not those of the image, by their numbers. A table of symbols that is not wanted goes.
+    /// The bytes of sections that are not those of the image, by their numbers. A table of symbols that is not wanted
+    /// goes.
     fn own_bytes(&mut self) -> BTreeMap<usize, Vec<u8>> {
         let mut own = BTreeMap::new();
         let table = self.sections.iter().position(|section| section.kind == elf::SHT_SYMTAB);

@@ -1,5 +1,5 @@
-//! The headers of the file in memory, where GNU ld loads them (elf.c, `_bfd_elf_map_sections_to_segments`): a program finds
-//! its program headers by their address there (AT_PHDR).
+//! The headers of the file in memory, where GNU ld loads them (elf.c, `_bfd_elf_map_sections_to_segments`): a program
+//! finds its program headers by their address there (AT_PHDR).
 
 use bstr::{BString, ByteSlice};
 use object::elf;

@@ -181,8 +181,8 @@ pub fn finish_again(
     Ok(Finished { file, notes })
 }
 
-/// Puts an image in the place of that of a file, which is of the form and made of an image that had the same bytes but for
-/// some that are loaded: these are where they were.
+/// Puts an image in the place of that of a file, which is of the form and made of an image that had the same bytes but
+/// for some that are loaded: these are where they were.
 pub fn put_image(file: &mut FileImage, form: &Form, mut image: Answered) -> Result<(), FinishError> {
     rights::write(&mut image, &form.rights)?;
     file.replace_image(image);

@@ -1,7 +1,8 @@
 //! Segments aligned to larger pages than the 4,096 bytes of `ldi`, for `-z max-page-size=N`.
 //!
-//! The segments' places in the file, and `p_align`, become what N asks for: p_offset and p_vaddr are equal modulo p_align
-//! (gABI, 'Program Header'). What is loaded, all addresses and the section headers but for `sh_offset` stay as they are.
+//! The segments' places in the file, and `p_align`, become what N asks for: p_offset and p_vaddr are equal modulo
+//! p_align (gABI, 'Program Header'). What is loaded, all addresses and the section headers but for `sh_offset` stay as
+//! they are.
 
 use super::file_image::{range, FilePlan};
 use super::image::{Image, Section, Segment, ELF_HEADER, PROGRAM_HEADER};

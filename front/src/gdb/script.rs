@@ -1,5 +1,5 @@
-//! A script of gdb from the map of a link: each object is loaded where its sections lie. gdb then has the object's source
-//! lines, static functions and types, which the image does not have.
+//! A script of gdb from the map of a link: each object is loaded where its sections lie. gdb then has the object's
+//! source lines, static functions and types, which the image does not have.
 
 use std::fmt::Write as _;
 use std::os::unix::ffi::OsStrExt;
@@ -16,8 +16,8 @@ use crate::snapshot::Bytes;
 const NOWHERE: u64 = 1 << 63;
 /// Each of them begins on a page of its own.
 const PAGE: u64 = 4096;
-/// A section that is put nowhere where it is not in the image: gdb would count its entries from there, and lose the callers
-/// of functions. Without it gdb finds them by the code of the functions.
+/// A section that is put nowhere where it is not in the image: gdb would count its entries from there, and lose the
+/// callers of functions. Without it gdb finds them by the code of the functions.
 const UNWINDING: &str = ".eh_frame";
 
 /// A script, and what it leaves out.
@@ -88,7 +88,8 @@ fn quoted(word: &[u8]) -> Vec<u8> {
     std::iter::once(b'"').chain(escaped).chain(std::iter::once(b'"')).collect()
 }
 
-/// Whether a piece is what `ld.ldi` has left of strings or constants, so that what is at a place of the section is elsewhere.
+/// Whether a piece is what `ld.ldi` has left of strings or constants, so that what is at a place of the section is
+/// elsewhere.
 fn is_merged(elf: &Elf, piece: &Piece) -> bool {
     let mut own = elf.sections().filter(|section| section.name == piece.section).peekable();
     own.peek().map_or(false, |first| first.flags.has(SectionFlags::MERGE))

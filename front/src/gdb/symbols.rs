@@ -55,8 +55,8 @@ fn by_object(map: &LinkMap) -> indexmap::IndexMap<&BStr, Vec<PlacedPiece<'_>>> {
     result
 }
 
-/// For the sections of an object where they lie. Where several have one name and not all of them are in the output, those
-/// of a size that is not unique are left out.
+/// For the sections of an object where they lie. Where several have one name and not all of them are in the output,
+/// those of a size that is not unique are left out.
 fn places_of<'a>(
     name: &BStr,
     elf: &Elf,

@@ -1,4 +1,5 @@
-//! Archives: plain and thin ones, with symbol tables of System V (`/` and `/SYM64/`), with long names, or without a table.
+//! Archives: plain and thin ones, with symbol tables of System V (`/` and `/SYM64/`), with long names, or without a
+//! table.
 
 use crate::snapshot::Bytes;
 use bstr::{BStr, BString, ByteSlice};
@@ -149,8 +150,8 @@ impl Archive {
         self.is_thin
     }
 
-    /// Whether both are thin and list the same members, in the same order and with the same symbol table: then they are the
-    /// same input, whose members are files of their own.
+    /// Whether both are thin and list the same members, in the same order and with the same symbol table: then they are
+    /// the same input, whose members are files of their own.
     pub fn lists_the_same(&self, other: &Archive) -> bool {
         self.is_thin && other.is_thin && self.members == other.members && self.symbols == other.symbols
     }

@@ -225,8 +225,8 @@ impl<'a> Loader<'a> {
         Ok(())
     }
 
-    /// Whether the objects from a place on add a name to GNU ld's list of undefined ones. Without common blocks a second
-    /// time takes nothing that is not needed; then any object counts.
+    /// Whether the objects from a place on add a name to GNU ld's list of undefined ones. Without common blocks a
+    /// second time takes nothing that is not needed; then any object counts.
     fn adds_undefined(&mut self, begin: usize) -> bool {
         if begin >= self.objects.len() || !self.has_commons {
             return begin < self.objects.len();
@@ -440,8 +440,8 @@ impl<'a> Loader<'a> {
         Ok(())
     }
 
-    /// Goes through a symbol table once; says whether that added undefined names. A name that is defined is not looked at
-    /// once more (`is_done`).
+    /// Goes through a symbol table once; says whether that added undefined names. A name that is defined is not looked
+    /// at once more (`is_done`).
     fn scan_once(
         &mut self,
         archive: &Archive,

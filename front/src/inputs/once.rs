@@ -49,8 +49,8 @@ impl OnceLinked {
         self.dropped.contains(name)
     }
 
-    /// The same for another object at the place of one of the same keys; `None` where it has others, so that other objects
-    /// may change with it.
+    /// The same for another object at the place of one of the same keys; `None` where it has others, so that other
+    /// objects may change with it.
     fn take_again(&self, place: usize, object: Object) -> Option<Object> {
         let own = self.keys.get(&place).map_or(&[][..], Vec::as_slice);
         let found = once_of(&object);
@@ -67,8 +67,8 @@ impl OnceLinked {
         Some(if dropped.is_empty() { object } else { object.without(&dropped) })
     }
 
-    /// Whether a section of one name and a group of that signature are both there: which of them GNU ld takes goes by the
-    /// symbols in them.
+    /// Whether a section of one name and a group of that signature are both there: which of them GNU ld takes goes by
+    /// the symbols in them.
     pub(super) fn mixed(&self) -> Option<&OnceKey> {
         self.first.keys().find(|key| match key {
             OnceKey::Group(_) => false,

@@ -37,9 +37,9 @@ impl Loaded {
         self.objects.get_mut(place).into_iter().for_each(|old| *old = new.clone());
     }
 
-    /// Takes other bytes of some files, which are read; says whether that is the same link but for them. Else nothing is
-    /// taken, and it must be loaded anew: a file is not an object of its own, is none any more, or has another part in the
-    /// choice of members of archives.
+    /// Takes other bytes of some files, which are read; says whether that is the same link but for them. Else nothing
+    /// is taken, and it must be loaded anew: a file is not an object of its own, is none any more, or has another part
+    /// in the choice of members of archives.
     pub fn take_changed(&mut self, command: &Command, snapshot: &mut Snapshot, changed: &[PathBuf]) -> bool {
         let found: Option<Vec<_>> = changed.iter().map(|path| self.objects_of(command, snapshot, path)).collect();
         let is_same = found.is_some();
@@ -51,8 +51,8 @@ impl Loaded {
         is_same
     }
 
-    /// Takes a thin archive that was written anew and lists the members that it listed, as `ar` does after one of them was
-    /// made. Says whether the file is one; its members are files of their own.
+    /// Takes a thin archive that was written anew and lists the members that it listed, as `ar` does after one of them
+    /// was made. Says whether the file is one; its members are files of their own.
     pub fn take_list(&mut self, path: &Path, data: &Bytes) -> bool {
         let is_read_once = self.files.iter().filter(|file| *file == path).count() == 1;
         let old = match self.archives.get_mut(path).filter(|old| is_read_once && old.is_thin()) {

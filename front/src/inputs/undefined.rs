@@ -5,8 +5,8 @@ use crate::objects::Object;
 use crate::quick::QuickMap;
 use bstr::BString;
 
-/// What is known of every name, and how many names were added to the list: an undefined name, or a common block of a name
-/// that was not known (bfd/linker.c, `bfd_link_add_undef`).
+/// What is known of every name, and how many names were added to the list: an undefined name, or a common block of a
+/// name that was not known (bfd/linker.c, `bfd_link_add_undef`).
 #[derive(Debug)]
 pub(super) struct UndefinedNames {
     states: QuickMap<BString, NameState>,

@@ -362,15 +362,15 @@ pub struct Symbol {
     pub section: Option<OutputId>,
     /// Whether the script hides it, by which it is local in the image.
     pub is_local: bool,
-    /// Whether an assignment of it stands in an output section that counts, or outside of all: GNU ld's table of symbols has
-    /// it then, even where it is undefined.
+    /// Whether an assignment of it stands in an output section that counts, or outside of all: GNU ld's table of
+    /// symbols has it then, even where it is undefined.
     pub is_recorded: bool,
     /// Whether GNU ld has given it a value as the start or end of a section, which may not stay.
     pub is_bound: bool,
     /// Its value when GNU ld looks at relocations, before sections have places, of a symbol that the script assigns.
     pub first_value: Option<u64>,
-    /// The symbols that its assignments name alone: it takes the type of the last one, and the visibilities of all (elflink.c,
-    /// `_bfd_elf_copy_link_hash_symbol_type`).
+    /// The symbols that its assignments name alone: it takes the type of the last one, and the visibilities of all
+    /// (elflink.c, `_bfd_elf_copy_link_hash_symbol_type`).
     pub likes: Vec<SymbolId>,
 }
 

@@ -110,7 +110,8 @@ impl Expressions {
         }
     }
 
-    /// The number that GNU ld has for an operation on numbers alone while it reads the script (ldexp.c, `exp_value_fold`).
+    /// The number that GNU ld has for an operation on numbers alone while it reads the script (ldexp.c,
+    /// `exp_value_fold`).
     fn folded(&self, node: Node, span: Option<Span>) -> Result<Node, Stop> {
         match node {
             Node::Unary(word, e) => match (word, self.as_number(e)) {

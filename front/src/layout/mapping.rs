@@ -171,8 +171,8 @@ impl Link<'_> {
         name.map_or(false, |name| patterns.iter().any(|pattern| glob::matches(pattern, name)))
     }
 
-    /// Makes an input section one of an output section, whose flags and alignment follow, or leaves it out; gives whether
-    /// it is one now (ldlang.c, `lang_add_section`).
+    /// Makes an input section one of an output section, whose flags and alignment follow, or leaves it out; gives
+    /// whether it is one now (ldlang.c, `lang_add_section`).
     pub fn add_to(&mut self, id: OutputId, section: SectionId, (wanted, unwanted): (u64, u64)) -> Result<bool, Stop> {
         let (output, input) = match (self.output(id), self.section(section)) {
             (Some(output), Some(input)) => (output, input),

@@ -1,5 +1,5 @@
-//! The input sections that are merged (elflink.c, `_bfd_elf_merge_sections`): those of one output section and one kind with
-//! each other, in the order of objects and headers, before sizes are found.
+//! The input sections that are merged (elflink.c, `_bfd_elf_merge_sections`): those of one output section and one kind
+//! with each other, in the order of objects and headers, before sizes are found.
 
 use super::evaluation::InputSection;
 use super::flags::Flags;
@@ -126,8 +126,8 @@ impl Link<'_> {
         (loaded, beside)
     }
 
-    /// Whether a section that is not loaded is merged here: where something goes by its size, or it may have names, as none
-    /// of debug information and of `.comment` has.
+    /// Whether a section that is not loaded is merged here: where something goes by its size, or it may have names, as
+    /// none of debug information and of `.comment` has.
     fn is_merged_beside(&self, section: &InputSection, followed: &mut QuickMap<OutputId, bool>) -> bool {
         let output = match section.output() {
             None => return false,

@@ -232,8 +232,8 @@ pub(crate) struct Program {
     pub outputs: Vec<Output>,
     /// The output sections in their order.
     pub order: Vec<OutputId>,
-    /// The output sections that are made, as GNU ld lists them: in the order in which that was done, those of orphans at
-    /// their places.
+    /// The output sections that are made, as GNU ld lists them: in the order in which that was done, those of orphans
+    /// at their places.
     pub made: Vec<OutputId>,
     pub outputs_of: QuickMap<NameId, Vec<OutputId>>,
     pub takings: Vec<Taking>,

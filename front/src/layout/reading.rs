@@ -12,7 +12,8 @@ use bstr::ByteSlice;
 const BOUNDS: [&[u8]; 2] = [b"__start_", b"__stop_"];
 
 impl Link<'_> {
-    /// Reads objects, the first ones of all: names that are known so far, and those of bounds, get what these say of them.
+    /// Reads objects, the first ones of all: names that are known so far, and those of bounds, get what these say of
+    /// them.
     pub fn read_objects(&mut self, objects: &[Object], rows: &Rows) {
         let bounds = self
             .program
@@ -97,7 +98,8 @@ impl Link<'_> {
         }
     }
 
-    /// Takes back the bounds of sections that are in no output section of their name (ldlang.c, `lang_undef_start_stop`).
+    /// Takes back the bounds of sections that are in no output section of their name (ldlang.c,
+    /// `lang_undef_start_stop`).
     pub fn undo_bounds(&mut self) {
         for (id, name, _) in self.bounds.clone() {
             let section = match self.symbol(id) {

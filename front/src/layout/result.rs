@@ -142,8 +142,8 @@ impl Link<'_> {
         }
     }
 
-    /// The symbols that the script assigns, wherever it gives them a value, but for output sections that do not count; and
-    /// those that it hides there or by what it assigns (ldelf.c, `ldelf_find_exp_assignment`; ldlang.c,
+    /// The symbols that the script assigns, wherever it gives them a value, but for output sections that do not count;
+    /// and those that it hides there or by what it assigns (ldelf.c, `ldelf_find_exp_assignment`; ldlang.c,
     /// `lang_for_each_statement_worker`).
     fn recorded(&self) -> (HashSet<SymbolId>, HashSet<SymbolId>) {
         let (mut recorded, mut hidden) = (HashSet::new(), HashSet::new());
@@ -190,8 +190,8 @@ impl Link<'_> {
         Statement { span: step.span, output: step.output, dot: step.dot, kind }
     }
 
-    /// The gap of an assignment to `.`. Where an orphan follows that is aligned, GNU ld's statement of the gap is used for
-    /// that alignment once more, and nothing fills what it was for (ldlang.c, `insert_pad`).
+    /// The gap of an assignment to `.`. Where an orphan follows that is aligned, GNU ld's statement of the gap is used
+    /// for that alignment once more, and nothing fills what it was for (ldlang.c, `insert_pad`).
     fn gap_of(&self, step: &Step) -> Option<Gap> {
         let end = step.gap_offset.wrapping_add(step.gap);
         let is_before_orphans = || {
@@ -349,8 +349,8 @@ fn number_of(name: &Name) -> Option<u64> {
     }
 }
 
-/// The first output section of a name that was made, which is not that of the first statement where one before it names that
-/// (section.c, `bfd_get_section_by_name`).
+/// The first output section of a name that was made, which is not that of the first statement where one before it names
+/// that (section.c, `bfd_get_section_by_name`).
 pub(crate) fn first_made(link: &Link<'_>, name: &[u8]) -> Option<OutputId> {
     let outputs = link.program.outputs_of.get(&link.program.names.find(name)?)?;
     let made = outputs.iter().filter_map(|output| Some((link.place(*output)?.number, *output)));

@@ -21,7 +21,8 @@ pub struct Settings {
     pub undefined: Vec<Name>,
     /// `-e`: a symbol or a number.
     pub entry: Option<Name>,
-    /// `--section-start` (and `-Ttext`, `-Tdata`, `-Tbss` with a dot in front of the name): addresses of output sections.
+    /// `--section-start` (and `-Ttext`, `-Tdata`, `-Tbss` with a dot in front of the name): addresses of output
+    /// sections.
     pub section_starts: Vec<(Name, u64)>,
     /// Addresses of SEGMENT_START: `text-segment`, `rodata-segment`, `ldata-segment`, and `text`, `data`, `bss`.
     pub segment_starts: Vec<(Name, u64)>,
@@ -89,8 +90,8 @@ impl Default for Settings {
 }
 
 impl Settings {
-    /// Sets the page sizes from `-z max-page-size` and `-z common-page-size` (ldelf.c: where only one is given, the other
-    /// follows).
+    /// Sets the page sizes from `-z max-page-size` and `-z common-page-size` (ldelf.c: where only one is given, the
+    /// other follows).
     pub fn set_pages(&mut self, max_page: Option<u64>, common_page: Option<u64>) {
         let common = common_page.unwrap_or(0x1000);
         self.max_page = max_page.unwrap_or_else(|| common.max(0x1000));

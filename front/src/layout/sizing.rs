@@ -375,8 +375,8 @@ impl Link<'_> {
         Ok(())
     }
 
-    /// A load address as far from the address as that of the last section of the region; of a section of an OVERLAY but the
-    /// first, the end of that one.
+    /// A load address as far from the address as that of the last section of the region; of a section of an OVERLAY but
+    /// the first, the end of that one.
     fn load_after(&self, id: OutputId, region: RegionId, dot: u64, align: u64) -> u64 {
         let place = match self.place(id) {
             None => return dot,

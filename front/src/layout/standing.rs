@@ -113,8 +113,8 @@ impl Link<'_> {
         }
     }
 
-    /// The section that an address becomes one of (ldlang.c, `section_for_dot`): the last one before it, and the next one
-    /// after an assignment to `.`.
+    /// The section that an address becomes one of (ldlang.c, `section_for_dot`): the last one before it, and the next
+    /// one after an assignment to `.`.
     pub fn section_for_dot(&self, id: StatementId) -> Option<OutputId> {
         let standing = &self.standing;
         let is_after_end = |id: OutputId| standing.after_end.contains(&id);

@@ -187,7 +187,8 @@ fn discarded_sections_are_in_no_output_section() {
     assert_eq!((gone.fate, names(&found)), (Fate::Discarded, vec![".text".to_owned()]));
 }
 
-/// ldlang.c, `lang_end`: a number, the symbol, else the start of `.text`; an entry in a discarded section has its distance.
+/// ldlang.c, `lang_end`: a number, the symbol, else the start of `.text`; an entry in a discarded section has its
+/// distance.
 #[test]
 fn the_entry() {
     let entry = |script: &str| laid(script, &[plain()]).entry;
@@ -229,7 +230,8 @@ fn a_name_gives_flags() {
     assert_eq!(of(".x"), (elf::SHT_PROGBITS, READ_ONLY));
 }
 
-/// ldlang.c, `lang_output_section_statement_lookup`: a statement of a name that there is already is a section of its own.
+/// ldlang.c, `lang_output_section_statement_lookup`: a statement of a name that there is already is a section of its
+/// own.
 #[test]
 fn two_output_sections_of_one_name() {
     let found = laid(
@@ -241,7 +243,8 @@ fn two_output_sections_of_one_name() {
     assert_eq!(bits, [TEXT, DATA, DATA]);
 }
 
-/// Manual, 'Input Section Wildcard Patterns': sorts by name and by alignment, and the first statement that matches takes.
+/// Manual, 'Input Section Wildcard Patterns': sorts by name and by alignment, and the first statement that matches
+/// takes.
 #[test]
 fn sorts() {
     let more = [section(".text.c", TEXT, b"1"), section(".text.a", TEXT, b"1"), section(".text.b", TEXT, b"1")];
@@ -460,7 +463,8 @@ fn refusals() {
     assert_eq!(stopped(none), RefusedReason::NoRegion(".a".into()));
 }
 
-/// ldlang.c, `lang_check_section_addresses`: bytes at one load address, or sections at one address that are no overlays.
+/// ldlang.c, `lang_check_section_addresses`: bytes at one load address, or sections at one address that are no
+/// overlays.
 #[test]
 fn overlaps() {
     let one = "SECTIONS { .a 0x100 : { *(.text) } .b 0x101 : { *(.data) } }";

@@ -49,8 +49,8 @@ impl Link<'_> {
         Ok(())
     }
 
-    /// Reads the file that a statement names without a wildcard, and those in front of it, where they are not read yet: the
-    /// statements that follow know its names (ldlang.c, `lookup_name`).
+    /// Reads the file that a statement names without a wildcard, and those in front of it, where they are not read yet:
+    /// the statements that follow know its names (ldlang.c, `lookup_name`).
     fn read_named(&mut self, taking: usize, objects: &[Object], rows: &Rows) {
         let file = self.program.takings.get(taking).and_then(file_of);
         let is_it = |object: &Object| object.origin().archive.is_none() && Some(&object.origin().name) == file;

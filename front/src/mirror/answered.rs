@@ -29,7 +29,8 @@ impl Answered {
         }
     }
 
-    /// The ranges outside of which it has the bytes of the image that was answered before; `None` where that is not known.
+    /// The ranges outside of which it has the bytes of the image that was answered before; `None` where that is not
+    /// known.
     pub fn changed(&self) -> Option<&[Range<usize>]> {
         self.changed.as_deref()
     }

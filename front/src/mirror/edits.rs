@@ -56,8 +56,8 @@ fn is_in_order(state: &State, objects: &[Held]) -> bool {
     state.order.len() == objects.len() && state.order.iter().zip(objects).all(|(name, held)| *name == held.name)
 }
 
-/// The removals; then each object that is elsewhere, put behind the one before it; then those that are new, the last one
-/// first. So no place depends on whether the session takes a new object.
+/// The removals; then each object that is elsewhere, put behind the one before it; then those that are new, the last
+/// one first. So no place depends on whether the session takes a new object.
 fn arrange<'a>(state: &State, objects: &'a [Held], changes: &mut Vec<Change<'a>>) {
     let wanted: HashMap<&BString, usize> = objects.iter().enumerate().map(|(at, held)| (&held.name, at)).collect();
     let mut order = Vec::with_capacity(objects.len());

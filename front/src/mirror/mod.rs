@@ -60,8 +60,8 @@ pub struct Brought {
     pub edits: usize,
     /// How many were accepted since the last link, after which the session has another one.
     pub accepted: usize,
-    /// Edits of other objects or of the order that were refused, by the names of the objects: the session is not what is
-    /// wanted, and the link is not good.
+    /// Edits of other objects or of the order that were refused, by the names of the objects: the session is not what
+    /// is wanted, and the link is not good.
     pub stuck: Vec<(BString, Refusal)>,
 }
 
@@ -155,8 +155,8 @@ impl Mirror {
         })
     }
 
-    /// The image of the last link; empty where it has faults. Of one after the image that was given back last the session
-    /// answers what has changed.
+    /// The image of the last link; empty where it has faults. Of one after the image that was given back last the
+    /// session answers what has changed.
     pub fn image(&mut self) -> Result<Answered, SessionError> {
         let spare = std::mem::take(&mut self.spare);
         let is_last = spare.number != 0 && spare.number == self.answers;

@@ -395,8 +395,8 @@ impl Session {
         Ok(data)
     }
 
-    /// Asks what has changed in the image since it was answered last, and makes it of the bytes of that answer; gives it and
-    /// the ranges that may be others.
+    /// Asks what has changed in the image since it was answered last, and makes it of the bytes of that answer; gives
+    /// it and the ranges that may be others.
     pub fn changes(&mut self, mut image: Vec<u8>) -> Result<(Vec<u8>, Vec<Range<usize>>), SessionError> {
         let (length, count) = changes(&self.exchange(b"changes\n")?)?;
         let mut ranges = Vec::new();

@@ -1,5 +1,5 @@
-//! Groups of sections (gABI, 'Section Groups'), of which the first of a signature is linked, and sections `.gnu.linkonce.*`,
-//! of which the first of a name is.
+//! Groups of sections (gABI, 'Section Groups'), of which the first of a signature is linked, and sections
+//! `.gnu.linkonce.*`, of which the first of a name is.
 
 use super::draft::{Draft, Headers};
 use super::elf::LINK_ONCE;
@@ -79,8 +79,8 @@ fn signature(elf: &Elf, symbol: SymbolIndex) -> BString {
     }
 }
 
-/// The bytes of an object without some sections: these are null, the names that they define are undefined, and what tables
-/// of exceptions say of them is nothing (bfd/elflink.c, `elf_link_add_object_symbols`, `elf_link_input_bfd`,
+/// The bytes of an object without some sections: these are null, the names that they define are undefined, and what
+/// tables of exceptions say of them is nothing (bfd/elflink.c, `elf_link_add_object_symbols`, `elf_link_input_bfd`,
 /// `_bfd_elf_default_action_discarded`). What other sections still say of local symbols there stays, and is a fault.
 pub(super) fn without(data: &Bytes, dropped: &[SectionIndex]) -> Option<Bytes> {
     let headers = Headers::of(data)?;

@@ -149,8 +149,8 @@ enum Moved {
 }
 
 impl MergeFindings {
-    /// What changes in an object, of whose sections `own` are merged, ascending; `is_loaded` says of a section whether it is
-    /// in the image by more than its own flags. `None` where its tables are not whole.
+    /// What changes in an object, of whose sections `own` are merged, ascending; `is_loaded` says of a section whether
+    /// it is in the image by more than its own flags. `None` where its tables are not whole.
     pub fn of(
         data: &[u8],
         object: ObjectIndex,
@@ -271,8 +271,8 @@ impl MergeFindings {
 }
 
 impl MergeEdits {
-    /// The bytes of an object with the changes, and with what others ask; `anchor` gives the name of a section of an object.
-    /// `None` where its tables are not whole.
+    /// The bytes of an object with the changes, and with what others ask; `anchor` gives the name of a section of an
+    /// object. `None` where its tables are not whole.
     pub fn applied(
         &self,
         asked: &MergeRequests,

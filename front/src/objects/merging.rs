@@ -257,8 +257,8 @@ impl<'a> Table<'a> {
         }
     }
 
-    /// Sorts strings by their ends (merge.c, `strrevcmp`); where all have one alignment that is greater than a character,
-    /// first by what is past it (`strrevcmp_align`).
+    /// Sorts strings by their ends (merge.c, `strrevcmp`); where all have one alignment that is greater than a
+    /// character, first by what is past it (`strrevcmp_align`).
     fn sort(&self, order: &mut [u32]) {
         let entries = &self.entries;
         let content = |number: u32| entries.get(number as usize).map_or(&[][..], |one| one.content);

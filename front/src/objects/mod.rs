@@ -142,9 +142,9 @@ struct Inner {
 impl Object {
     /// An object: its name in the session of `ldi`, where it is from, and its bytes as its file has them.
     ///
-    /// Its bytes become those of the profile of `ldi`: without flags that `ldi` need not know, and without references by a
-    /// global offset table where none is needed. Sections with SHF_GNU_RETAIN are in [`Object::retained`]. Bytes that are
-    /// no object have no sections and no symbols, and [`Object::fault`] says why.
+    /// Its bytes become those of the profile of `ldi`: without flags that `ldi` need not know, and without references
+    /// by a global offset table where none is needed. Sections with SHF_GNU_RETAIN are in [`Object::retained`]. Bytes
+    /// that are no object have no sections and no symbols, and [`Object::fault`] says why.
     pub fn new(name: BString, origin: Origin, data: Bytes) -> Object {
         let Profiled { data, cleared, retained, relaxed, tabled, unique } = Profiled::of(data);
         let (elf, fault) = match Elf::parse_cleared(data.clone(), cleared) {

@@ -29,8 +29,8 @@ struct Known {
     is_hidden: bool,
 }
 
-/// What the objects of a link have of some names: of those that are asked for, since a kernel's objects have 100,000 and
-/// its scripts name 1,000.
+/// What the objects of a link have of some names: of those that are asked for, since a kernel's objects have 100,000
+/// and its scripts name 1,000.
 #[derive(Clone, Debug, Default)]
 pub struct LinkNames {
     known: QuickMap<BString, Known>,

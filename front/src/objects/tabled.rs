@@ -99,9 +99,9 @@ pub struct NamedLocal {
 }
 
 impl Object {
-    /// The same whose references by the table are to its symbols: `place_of` gives the place of an entry in the table, and
-    /// `None` for a name that nothing defines; `named` are local symbols that have one. `None` where its tables are not
-    /// whole.
+    /// The same whose references by the table are to its symbols: `place_of` gives the place of an entry in the table,
+    /// and `None` for a name that nothing defines; `named` are local symbols that have one. `None` where its tables are
+    /// not whole.
     pub fn with_table(&self, place_of: &dyn Fn(SymbolIndex) -> Option<u64>, named: &[NamedLocal]) -> Option<Object> {
         let (data, table) = with_symbols(self.data(), named)?;
         let mut draft = Draft::new(data);
@@ -122,8 +122,8 @@ impl Object {
     }
 }
 
-/// The bytes of an object with more symbols, and the number of the first: TABLE, which is not defined, and global names of
-/// local ones.
+/// The bytes of an object with more symbols, and the number of the first: TABLE, which is not defined, and global names
+/// of local ones.
 fn with_symbols(data: &Bytes, named: &[NamedLocal]) -> Option<(Bytes, u32)> {
     let headers = Headers::of(data)?;
     let (number, table) = headers.iter().find(|(_, header)| header.sh_type(Little) == elf::SHT_SYMTAB)?;
@@ -170,8 +170,8 @@ pub struct TableEntry {
     pub is_weak: bool,
 }
 
-/// How GNU ld begins `.got.plt`, in bytes: the address of `_DYNAMIC`, of which there is none, and two words of the dynamic
-/// linker (bfd/elfxx-x86.h, `GOT_HEADER_SIZE`).
+/// How GNU ld begins `.got.plt`, in bytes: the address of `_DYNAMIC`, of which there is none, and two words of the
+/// dynamic linker (bfd/elfxx-x86.h, `GOT_HEADER_SIZE`).
 const HEADER_SIZE: usize = 24;
 /// The bytes of an entry.
 pub const ENTRY_SIZE: usize = 8;

@@ -68,8 +68,8 @@ pub(crate) fn file_of(
     }
 }
 
-/// Gives a file the image with the ID that the note has now, which stands at a place of it; where that image differs from the
-/// one before in more, it is given, and the file is to be made anew.
+/// Gives a file the image with the ID that the note has now, which stands at a place of it; where that image differs
+/// from the one before in more, it is given, and the file is to be made anew.
 fn with_id(
     plan: &mut LinkPlan,
     file: &mut FileImage,

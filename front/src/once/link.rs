@@ -173,8 +173,8 @@ fn opened(command: &Command, inputs: Inputs, mirror: &mut Mirror) -> Result<Link
     plan_while_sending(command, inputs, mirror)
 }
 
-/// A plan that is made while a session takes the objects: first those that are sent as they were read, whatever the layout
-/// is, then the others.
+/// A plan that is made while a session takes the objects: first those that are sent as they were read, whatever the
+/// layout is, then the others.
 pub(crate) fn plan_while_sending(
     command: &Command,
     inputs: Inputs,

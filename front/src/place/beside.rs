@@ -54,8 +54,8 @@ pub fn remove_left(path: &Path) {
     remove_beside(path, false);
 }
 
-/// The same, and also what a server left beside a path that runs, but does not answer: else a call that is held up would
-/// put it there later.
+/// The same, and also what a server left beside a path that runs, but does not answer: else a call that is held up
+/// would put it there later.
 pub fn remove_apart(path: &Path) {
     remove_beside(path, true);
 }

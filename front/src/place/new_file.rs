@@ -38,8 +38,8 @@ pub struct NewFile {
 }
 
 impl NewFile {
-    /// Makes the new file. A symbolic link stays one, and the file that it names is replaced. The mode is `mode` less the
-    /// umask, or with `keeps_mode` that of the file that is there.
+    /// Makes the new file. A symbolic link stays one, and the file that it names is replaced. The mode is `mode` less
+    /// the umask, or with `keeps_mode` that of the file that is there.
     ///
     /// # Errors
     /// It cannot be made, and then nothing is left of it.
@@ -205,8 +205,8 @@ fn reader_of(beside: &Path, file: &File) -> io::Result<File> {
     }
 }
 
-/// Puts a file in the place of another in one step. Where that is a regular file, the two are exchanged, so that the old
-/// one has the first name now, which is given.
+/// Puts a file in the place of another in one step. Where that is a regular file, the two are exchanged, so that the
+/// old one has the first name now, which is given.
 ///
 /// # Errors
 /// The system says why it cannot be done.

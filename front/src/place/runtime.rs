@@ -6,8 +6,8 @@ use std::io;
 use std::os::unix::fs::{DirBuilderExt, MetadataExt};
 use std::path::{Path, PathBuf};
 
-/// The folder `ldi` in that of `XDG_RUNTIME_DIR`, else a folder of the user's own under `/tmp`; `None` where neither can
-/// be had. Each is this user's and no other's: mode 0700, and no symbolic link.
+/// The folder `ldi` in that of `XDG_RUNTIME_DIR`, else a folder of the user's own under `/tmp`; `None` where neither
+/// can be had. Each is this user's and no other's: mode 0700, and no symbolic link.
 pub fn runtime_folder(xdg_runtime_dir: Option<&OsStr>) -> Option<PathBuf> {
     let above = xdg_runtime_dir.map(Path::new).filter(|above| above.is_absolute() && is_own(above));
     match above {

@@ -13,7 +13,8 @@ use std::sync::{Arc, Once};
 /// The pieces that are written at once; the system takes 1,024.
 const MOST_PIECES: usize = 1000;
 
-/// From now on a file that is longer than this process may write (RLIMIT_FSIZE) is an error, and not a signal that ends it.
+/// From now on a file that is longer than this process may write (RLIMIT_FSIZE) is an error, and not a signal that ends
+/// it.
 pub(super) fn take_length_as_error() {
     static TAKEN: Once = Once::new();
     TAKEN.call_once(|| {

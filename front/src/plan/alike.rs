@@ -11,8 +11,8 @@ use crate::snapshot::Snapshot;
 const UNWINDING: &[u8] = b".eh_frame";
 
 impl LinkPlan {
-    /// Of the files that were written anew, those by which this may be another link: not a thin archive that lists the same
-    /// members as before, which are looked at by themselves.
+    /// Of the files that were written anew, those by which this may be another link: not a thin archive that lists the
+    /// same members as before, which are looked at by themselves.
     pub fn take_lists(&mut self, snapshot: &Snapshot, changed: &[PathBuf]) -> Vec<PathBuf> {
         let loaded = &mut self.inputs.loaded;
         let mut is_list = |path: &PathBuf| snapshot.seen(path).map_or(false, |seen| loaded.take_list(path, &seen.data));

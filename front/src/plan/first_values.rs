@@ -1,5 +1,6 @@
-//! References by a global offset table that GNU ld leaves as they are, since the value that their symbol has before sections
-//! have places fits into no immediate operand (bfd/elf64-x86-64.c, `elf_x86_64_convert_load_reloc`: `abs_relocation`).
+//! References by a global offset table that GNU ld leaves as they are, since the value that their symbol has before
+//! sections have places fits into no immediate operand (bfd/elf64-x86-64.c, `elf_x86_64_convert_load_reloc`:
+//! `abs_relocation`).
 
 use bstr::{BStr, BString};
 use object::elf;

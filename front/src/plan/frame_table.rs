@@ -1,5 +1,5 @@
-//! `.eh_frame_hdr`, which GNU ld makes of `.eh_frame` (elf-eh-frame.c, `_bfd_elf_maybe_strip_eh_frame_hdr`) and `ldi` does
-//! not.
+//! `.eh_frame_hdr`, which GNU ld makes of `.eh_frame` (elf-eh-frame.c, `_bfd_elf_maybe_strip_eh_frame_hdr`) and `ldi`
+//! does not.
 
 use super::notes::leaves_out;
 use super::Scripts;
@@ -13,8 +13,8 @@ const TABLE: &[u8] = b".eh_frame_hdr";
 /// The bytes of a section that has no entry.
 const NO_ENTRY: u64 = 8;
 
-/// What is said where GNU ld makes the table. Where the script does not place the frames, it places no table either: such
-/// a link is GNU ld's.
+/// What is said where GNU ld makes the table. Where the script does not place the frames, it places no table either:
+/// such a link is GNU ld's.
 pub(super) fn note(command: &Command, scripts: &Scripts, evaluation: &Evaluation) -> Option<Note> {
     let script = &scripts.reading.script;
     let frames = evaluation.sections.iter().filter(|section| evaluation.section_name(section) == FRAMES);

@@ -1,7 +1,7 @@
 //! The plan of a link: a function of the command and of what was read.
 //!
-//! [`Inputs::load`] reads scripts and objects; [`LinkPlan::new`] lays the script out over the objects and writes it in the
-//! profile. [`LinkPlan::replan`] is the same plan with other bytes of some objects.
+//! [`Inputs::load`] reads scripts and objects; [`LinkPlan::new`] lays the script out over the objects and writes it in
+//! the profile. [`LinkPlan::replan`] is the same plan with other bytes of some objects.
 
 mod aliases;
 mod alike;
@@ -148,8 +148,8 @@ impl Inputs {
         self.notes.as_ref().map_or(&self.loaded.objects, Notes::objects)
     }
 
-    /// Makes what GNU ld makes of all objects: a note of properties, a global offset table, and the note of a build ID; says
-    /// whether the objects stand where they stood.
+    /// Makes what GNU ld makes of all objects: a note of properties, a global offset table, and the note of a build ID;
+    /// says whether the objects stand where they stood.
     fn compose(&mut self, command: &Command) -> bool {
         let before = self.table.as_ref().map(Table::at);
         self.notes = Notes::of(command, &self.scripts.reading.script, &self.loaded.objects);
@@ -234,8 +234,8 @@ impl LinkPlan {
         LinkPlan { inputs, evaluation, residual, options, form, tables, layout, names, made_loaded, remade, changed }
     }
 
-    /// The same plan where some files have other bytes now; `None` where all must be planned anew, as these files are no
-    /// objects, or decide about members of archives.
+    /// The same plan where some files have other bytes now; `None` where all must be planned anew, as these files are
+    /// no objects, or decide about members of archives.
     pub fn replan(mut self, command: &Command, snapshot: &mut Snapshot, changed: &[PathBuf]) -> Option<LinkPlan> {
         if !self.inputs.loaded.take_changed(command, snapshot, changed) {
             return None;

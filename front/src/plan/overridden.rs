@@ -1,5 +1,5 @@
-//! Names that objects define and to which the script gives other values (ldexp.c, `exp_fold_tree_1`: an assignment defines
-//! a name whatever it was before). To `ldi` that is a fault, so the objects have them undefined.
+//! Names that objects define and to which the script gives other values (ldexp.c, `exp_fold_tree_1`: an assignment
+//! defines a name whatever it was before). To `ldi` that is a fault, so the objects have them undefined.
 
 use bstr::{BStr, ByteSlice};
 

@@ -11,8 +11,8 @@ const CALL_NOP: &[u8] = b"call-nop=";
 /// The form that it has without.
 const PREFIX_ADDR: &[u8] = b"call-nop=prefix-addr";
 
-/// Whether the command wants references by a table that became others to be as they are: they stay so with `--no-relax`, and
-/// have another form with `-z call-nop`.
+/// Whether the command wants references by a table that became others to be as they are: they stay so with
+/// `--no-relax`, and have another form with `-z call-nop`.
 ///
 /// # Errors
 /// It does, and there are some.

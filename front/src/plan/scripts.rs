@@ -1,5 +1,5 @@
-//! The scripts of a link: those of `-T` in their order, as they stand or in a folder of `-L`, else that of `-dT`, else the
-//! default one.
+//! The scripts of a link: those of `-T` in their order, as they stand or in a folder of `-L`, else that of `-dT`, else
+//! the default one.
 
 use std::os::unix::ffi::OsStrExt;
 use std::path::{Path, PathBuf};

@@ -21,7 +21,8 @@ const ENTRIES_SECTION: SectionIndex = SectionIndex(1);
 pub(super) struct Table {
     /// By symbol: where its entry is in the table, in bytes.
     entries: HashMap<Entry, u64>,
-    /// The names that nothing defines, though a reference needs them: these have no entry, and are a fault where they are.
+    /// The names that nothing defines, though a reference needs them: these have no entry, and are a fault where they
+    /// are.
     undefined: HashSet<Entry>,
     /// The place of its object among the others; `None` where no reference that is in the image needs it.
     at: Option<usize>,

@@ -1,4 +1,5 @@
-//! `--wrap` where a script speaks of such a name: GNU ld reads it in expressions as in references (ldexp.c, `fold_name`).
+//! `--wrap` where a script speaks of such a name: GNU ld reads it in expressions as in references (ldexp.c,
+//! `fold_name`).
 
 use bstr::{BStr, ByteSlice};
 

@@ -1,5 +1,6 @@
-//! Why a text is no script of the profile of `ldi` (docs/scripts.md): each place, with what stands there and what to write
-//! instead. The text is read by the parser of GNU ld's language with the profile's tokens, and its tree is gone over.
+//! Why a text is no script of the profile of `ldi` (docs/scripts.md): each place, with what stands there and what to
+//! write instead. The text is read by the parser of GNU ld's language with the profile's tokens, and its tree is gone
+//! over.
 //!
 //! Whether a text is refused is not judged here: the proved reader says that, by a number, and `refused_for` leaves out
 //! what that number excludes.
@@ -92,8 +93,8 @@ pub fn objections(path: &Path, text: &[u8], files: &mut dyn ScriptFiles, folders
     check.finish()
 }
 
-/// Those objections for which a text can be refused with a number: the reader looks for their causes in an order, and has
-/// found none that comes before.
+/// Those objections for which a text can be refused with a number: the reader looks for their causes in an order, and
+/// has found none that comes before.
 #[must_use]
 pub fn refused_for(mut objections: Vec<Objection>, number: u32) -> Vec<Objection> {
     if let Some(cause) = Cause::of_number(number) {

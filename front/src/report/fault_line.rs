@@ -1,7 +1,7 @@
 //! The fault lines of a link, cut into their words (docs/manual.md, 'Fault lines').
 //!
-//! Names of objects, sections and symbols are bytes from `!` to `~`, so a space ends each. The entry symbol of F2 is what
-//! the user gave to `-e`, with spaces and line feeds perhaps; and the message of F15 may have spaces.
+//! Names of objects, sections and symbols are bytes from `!` to `~`, so a space ends each. The entry symbol of F2 is
+//! what the user gave to `-e`, with spaces and line feeds perhaps; and the message of F15 may have spaces.
 
 use bstr::ByteSlice;
 

@@ -83,9 +83,9 @@ impl JsonObject {
 }
 
 impl Diagnostic {
-    /// Adds the message to an object: `severity`, `message` (the line for people) and `line` (that of `ldi`), and as far
-    /// as they are known `place` (`file`, and `line` and `column` from 1), `site`, `sentence`, `notes`, `advice`, `text`
-    /// and `length` (the script's line, and the characters that are meant in it).
+    /// Adds the message to an object: `severity`, `message` (the line for people) and `line` (that of `ldi`), and as
+    /// far as they are known `place` (`file`, and `line` and `column` from 1), `site`, `sentence`, `notes`, `advice`,
+    /// `text` and `length` (the script's line, and the characters that are meant in it).
     #[must_use]
     pub fn add_to(&self, json: JsonObject) -> JsonObject {
         let json = json.text("severity", self.severity.word()).text("message", &self.message());

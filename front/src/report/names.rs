@@ -145,8 +145,8 @@ impl<'a> Names<'a> {
         }
     }
 
-    /// Where the relocation stands at an offset of a section; of several sections of the name the one that has a relocation
-    /// there that is meant.
+    /// Where the relocation stands at an offset of a section; of several sections of the name the one that has a
+    /// relocation there that is meant.
     pub fn site(
         &mut self,
         name: &[u8],
@@ -261,8 +261,8 @@ impl<'a> Names<'a> {
         self.definers.entry(BString::from(name)).or_insert_with(find)
     }
 
-    /// The section, and its object, that a symbol of an object stands for, where that is certain: a local symbol, or the
-    /// one strong definition of its name.
+    /// The section, and its object, that a symbol of an object stands for, where that is certain: a local symbol, or
+    /// the one strong definition of its name.
     pub fn section_of(&mut self, object: &'a Object, symbol: Symbol<'a>) -> Option<String> {
         let (object, symbol) = match symbol.binding {
             Binding::Local => (object, symbol),

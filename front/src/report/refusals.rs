@@ -211,8 +211,8 @@ fn of_symbols(object: &Object) -> Vec<Diagnostic> {
     found
 }
 
-/// The relocations whose types are not linked and need what is meant: of each type and symbol the first one, with its place
-/// in the source.
+/// The relocations whose types are not linked and need what is meant: of each type and symbol the first one, with its
+/// place in the source.
 fn of_relocations(object: &Object, is_meant: &dyn Fn(Need) -> bool) -> Vec<Diagnostic> {
     let mut names = Names::new(std::slice::from_ref(object));
     let mut seen = HashSet::new();
@@ -245,7 +245,8 @@ fn of_relocations(object: &Object, is_meant: &dyn Fn(Need) -> bool) -> Vec<Diagn
 
 // What `readobj` says
 
-/// What `readobj` says of refused bytes, a reason for each place; none where it cannot be asked, or says another number.
+/// What `readobj` says of refused bytes, a reason for each place; none where it cannot be asked, or says another
+/// number.
 fn reasons_of_object(input: &RefusedInput<'_>) -> Vec<String> {
     let output = input.data.and_then(|data| ask(&beside(input.ldi, "readobj"), data)).unwrap_or_default();
     let mut lines = output.lines();

@@ -1,5 +1,5 @@
-//! The psABI's names of all relocation types, and what those need that `ldi` does not link (psABI for x86-64, 'Relocation
-//! Types').
+//! The psABI's names of all relocation types, and what those need that `ldi` does not link (psABI for x86-64,
+//! 'Relocation Types').
 
 /// The names by their numbers; what has none is empty.
 const NAMES: [&str; 43] = [

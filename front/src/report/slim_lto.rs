@@ -1,5 +1,5 @@
-//! Objects of slim LTO in messages: gcc's, with the compiler's inner form of the program and no code. What such an object
-//! defines stands in a table of gcc's own (`lto-symtab`: `gcc/lto-streamer-out.cc`, `write_symbol`).
+//! Objects of slim LTO in messages: gcc's, with the compiler's inner form of the program and no code. What such an
+//! object defines stands in a table of gcc's own (`lto-symtab`: `gcc/lto-streamer-out.cc`, `write_symbol`).
 
 use std::collections::HashSet;
 

@@ -341,8 +341,8 @@ fn load(object: &Object) -> Option<Dwarf<Vec<u8>>> {
     Dwarf::load(read).ok()
 }
 
-/// A debug section with its relocations applied: those to other debug sections, and those to linked ones by addresses that
-/// stand for them.
+/// A debug section with its relocations applied: those to other debug sections, and those to linked ones by addresses
+/// that stand for them.
 fn relocated(elf: &Elf, index: SectionIndex) -> Vec<u8> {
     let mut data = contents(elf, index).unwrap_or_default();
     for relocation in elf.relocations(index) {

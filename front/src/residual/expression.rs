@@ -230,8 +230,8 @@ fn looseness(operator: BinaryOperator) -> u8 {
     CONDITIONAL - operator.level()
 }
 
-/// The text of an expression of the profile, with parentheses where it needs them. Numbers keep their spelling where the
-/// profile has it.
+/// The text of an expression of the profile, with parentheses where it needs them. Numbers keep their spelling where
+/// the profile has it.
 pub(super) fn write(e: &Expr, text: &[u8]) -> String {
     let mut result = String::new();
     put(e, text, CONDITIONAL, &mut result);

@@ -456,16 +456,17 @@ impl<'a> Walk<'a> {
         needed
     }
 
-    /// AT>r, where nothing is known of the objects. Beside >r of the same region a section is loaded where it starts, but
-    /// with an address where r is free; here AT>r moves r to the load end, so without file bytes back. In another region
-    /// GNU ld aligns the load address by the head's ALIGN alone.
+    /// AT>r, where nothing is known of the objects. Beside >r of the same region a section is loaded where it starts,
+    /// but with an address where r is free; here AT>r moves r to the load end, so without file bytes back. In another
+    /// region GNU ld aligns the load address by the head's ALIGN alone.
     fn load_by_region(&mut self, section: &OutputSection, head: &mut Written, needed: u64, at: At) -> Option<u64> {
         let name = section.name.node.clone();
         let load_region = head.load_region.clone()?;
         if head.region.as_ref() != Some(&load_region) {
             let align = section.align.as_ref().and_then(|e| self.value_of(e, at)).unwrap_or(1);
             if align < MOST_ALIGNMENT && section.load_region.is_some() && !section.is_aligned_with_input {
-                let why = "its load address is aligned as the section is; GNU ld aligns it by the head's ALIGN alone                            (--objects says whether that differs)";
+                let why = "its load address is aligned as the section is; GNU ld aligns it by the head's ALIGN alone \
+                           (--objects says whether that differs)";
                 self.note(NoteKind::Changed, at.at, format!("AT>{load_region} of {name}: {why}"));
                 return Some(needed);
             }

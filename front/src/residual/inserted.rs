@@ -74,8 +74,8 @@ pub(super) fn ranks(evaluation: &Evaluation) -> HashMap<StatementId, u32> {
 }
 
 impl<'a> Walk<'a> {
-    /// Whether INSERT can be written: all is known, no name has values one after the other, and nothing is put in front of
-    /// all.
+    /// Whether INSERT can be written: all is known, no name has values one after the other, and nothing is put in front
+    /// of all.
     pub(super) fn can_insert(&self) -> bool {
         self.request.evaluation.is_some()
             && self.request.others.is_none()

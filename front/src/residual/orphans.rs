@@ -1,5 +1,6 @@
-//! Input sections that no statement takes: as GNU ld places them, in output sections of their own that stand in the text
-//! (GNU ld manual, 'Orphan Sections'). Those that go into an output section of the script stand at its end (`body`).
+//! Input sections that no statement takes: as GNU ld places them, in output sections of their own that stand in the
+//! text (GNU ld manual, 'Orphan Sections'). Those that go into an output section of the script stand at its end
+//! (`body`).
 
 use std::collections::HashMap;
 
@@ -182,8 +183,8 @@ impl<'a> Walk<'a> {
         }
     }
 
-    /// `*(NAME)`, where input sections are all those of a name, each at the first place that it may have; with where they
-    /// end, and whether the file has bytes for them.
+    /// `*(NAME)`, where input sections are all those of a name, each at the first place that it may have; with where
+    /// they end, and whether the file has bytes for them.
     fn of_one_name(&self, sections: &[SectionId], body: &Body<'a>) -> Option<(String, u64, bool)> {
         let evaluation = self.request.evaluation?;
         let name = evaluation.section(*sections.first()?)?.name;

@@ -83,8 +83,8 @@ fn check_names(headers: &[&Spanned<ProgramHeader>], members: &[Member<'_>]) -> R
     }
 }
 
-/// The sections of a program header. A section without `:NAME` is in the segments of the one before it. For those before
-/// the first `:NAME` GNU ld takes that one.
+/// The sections of a program header. A section without `:NAME` is in the segments of the one before it. For those
+/// before the first `:NAME` GNU ld takes that one.
 fn inside(segment: &WantedSegment, members: &[Member<'_>]) -> Vec<Name> {
     let first: Vec<&Name> =
         members.iter().find(|(_, names)| !names.is_empty()).map_or_else(Vec::new, |(_, names)| names.clone());

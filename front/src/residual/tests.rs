@@ -293,7 +293,8 @@ fn operators_work_on_distances_of_any_objects() {
     assert_eq!(of_any("m = .;", "a = m - 1 + 2;"), "m = .; } a = m - 1 + 2;");
 }
 
-/// ldlang.c, `lang_size_sections_1`: an assignment to `.` in a section takes a number from its start, an address as it is.
+/// ldlang.c, `lang_size_sections_1`: an assignment to `.` in a section takes a number from its start, an address as it
+/// is.
 #[test]
 fn the_location_counter_moves_through_a_symbol() {
     let next = "ldi.next.1 = ALIGN(8) + 4; . = ldi.next.1 - ldi.start.t; }";

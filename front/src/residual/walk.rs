@@ -368,8 +368,8 @@ impl<'a> Walk<'a> {
 
     // --- expressions ---
 
-    /// The form of the profile that has the value that GNU ld has: that which the rules give, or what GNU ld makes of its
-    /// parts; else the number. Without a value of GNU ld's the first.
+    /// The form of the profile that has the value that GNU ld has: that which the rules give, or what GNU ld makes of
+    /// its parts; else the number. Without a value of GNU ld's the first.
     pub(super) fn settle(&mut self, e: &Expr, at: At, needed: Option<u64>) -> Settled {
         let mut reasons = Reasons::default();
         let own = translate(e, &View { walk: self, at }, &mut reasons);

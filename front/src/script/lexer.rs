@@ -1,5 +1,5 @@
-//! The tokens of GNU ld's scripts. What a token is depends on where the parser stands, so each is read in a state that the
-//! parser names, as by `ldlex.l` of GNU ld: the longest match counts, and among equals the first rule.
+//! The tokens of GNU ld's scripts. What a token is depends on where the parser stands, so each is read in a state that
+//! the parser names, as by `ldlex.l` of GNU ld: the longest match counts, and among equals the first rule.
 
 use std::path::PathBuf;
 

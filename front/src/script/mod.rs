@@ -1,7 +1,7 @@
 //! GNU ld's linker scripts: one lexer, one parser, one tree of the whole language, with places in the text.
 //!
-//! A `Reader` reads the scripts of a command line in their order, with what they include; a `Reading` is their tree, the
-//! text with its places, and what was passed over. Texts that stand alone are read by `parse` and `expression`.
+//! A `Reader` reads the scripts of a command line in their order, with what they include; a `Reading` is their tree,
+//! the text with its places, and what was passed over. Texts that stand alone are read by `parse` and `expression`.
 
 mod dialect;
 mod error;
@@ -49,8 +49,8 @@ impl<'a> Reader<'a> {
         Reader { parser: Parser::new(files, folders), script: Script::default() }
     }
 
-    /// Tells names from marks as `ldi` does, takes what its profile has and GNU ld has not, and goes on after errors: to
-    /// look at a text that `ldi` refuses.
+    /// Tells names from marks as `ldi` does, takes what its profile has and GNU ld has not, and goes on after errors:
+    /// to look at a text that `ldi` refuses.
     #[must_use]
     pub fn in_profile(mut self) -> Reader<'a> {
         self.parser.lexer.dialect = Dialect::Profile;

@@ -1,5 +1,5 @@
-//! The text of a script with the files that INCLUDE names, each in the place of the statement that names it, and the file
-//! and line of an offset.
+//! The text of a script with the files that INCLUDE names, each in the place of the statement that names it, and the
+//! file and line of an offset.
 
 use std::fmt;
 use std::io;

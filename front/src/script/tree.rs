@@ -469,8 +469,8 @@ pub enum DataText {
 pub struct Fill {
     /// The value.
     pub value: Expr,
-    /// The bytes of a literal `0x..` that has no suffix and is the whole expression: all its digits count. Else the fill
-    /// is the low four bytes of the value, the highest first.
+    /// The bytes of a literal `0x..` that has no suffix and is the whole expression: all its digits count. Else the
+    /// fill is the low four bytes of the value, the highest first.
     pub literal: Option<Vec<u8>>,
 }
 

@@ -1,5 +1,5 @@
-//! The words of the language, with the states of the lexer in which each is one (`ldlex.l` of GNU ld); elsewhere they are
-//! names.
+//! The words of the language, with the states of the lexer in which each is one (`ldlex.l` of GNU ld); elsewhere they
+//! are names.
 
 use super::lexer::State;
 

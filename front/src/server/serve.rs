@@ -40,7 +40,8 @@ const BEAT: Duration = Duration::from_millis(30);
 const LONGEST_PLACING: Duration = Duration::from_secs(10);
 /// The time in which neither a link's threads nor its session have worked, after which it is given up, and the server.
 const LONGEST_REST: Duration = Duration::from_secs(5);
-/// The time that a call has to say what it wants. Nobody waits for it, and on a busy machine it may not run for a while.
+/// The time that a call has to say what it wants. Nobody waits for it, and on a busy machine it may not run for a
+/// while.
 const LONGEST_ASKING: Duration = Duration::from_secs(10);
 /// The time in which a message goes on that has begun, and in which a call takes what came of its link.
 const MESSAGE: Duration = Duration::from_secs(1);

@@ -77,7 +77,8 @@ pub struct Snapshot {
     files: IndexMap<PathBuf, Option<Seen>>,
     questions: IndexMap<(Question, PathBuf), bool>,
     before: HashMap<PathBuf, Seen>,
-    /// The files of which it is not known yet that each process finds them; symbolic links, which may lead elsewhere, stay.
+    /// The files of which it is not known yet that each process finds them; symbolic links, which may lead elsewhere,
+    /// stay.
     unproved: HashSet<PathBuf>,
     looks: Option<Looks>,
     is_of_regular_files: bool,
@@ -209,8 +210,8 @@ impl Snapshot {
         self.questions.iter().map(|((question, path), answer)| (*question, path.as_path(), *answer))
     }
 
-    /// Whether a later look, also of another process, can tell of each file whether it is the same: all are regular, none
-    /// changed while it was read, and none is in `/dev` or `/proc`.
+    /// Whether a later look, also of another process, can tell of each file whether it is the same: all are regular,
+    /// none changed while it was read, and none is in `/dev` or `/proc`.
     pub fn is_provable(&mut self) -> bool {
         let is_stamped = self.files.values().flatten().all(|seen| seen.stamp.is_some());
         let files = &self.files;

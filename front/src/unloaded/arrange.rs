@@ -173,8 +173,8 @@ impl<'a> Making<'a> {
         object.zip(section.number()).map_or(&[], |(object, number)| object.contents(number))
     }
 
-    /// The bytes of a section and its alignment, as they were before they were compressed; zeros of one that has none, as a
-    /// `.bss` in a section of type INFO.
+    /// The bytes of a section and its alignment, as they were before they were compressed; zeros of one that has none,
+    /// as a `.bss` in a section of type INFO.
     fn content(&self, section: &InputSection) -> Result<Content<'a>, NotMade> {
         let align = section.align.max(1);
         if section.kind == elf::SHT_NOBITS {

@@ -1,5 +1,5 @@
-//! Sections that are in the file and not loaded, as GNU ld writes them: debug information, `.comment`, and what a script
-//! places so that it is not loaded.
+//! Sections that are in the file and not loaded, as GNU ld writes them: debug information, `.comment`, and what a
+//! script places so that it is not loaded.
 //!
 //! ```text
 //! Evaluation, Objects --> Arrangement: what stands where, with strings merged

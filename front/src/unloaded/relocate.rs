@@ -1,4 +1,5 @@
-//! Relocations of sections that are not loaded (psABI, 'Relocation Types'; bfd/elf64-x86-64.c, `x86_64_elf_howto_table`).
+//! Relocations of sections that are not loaded (psABI, 'Relocation Types'; bfd/elf64-x86-64.c,
+//! `x86_64_elf_howto_table`).
 
 use object::elf;
 
@@ -71,8 +72,8 @@ impl Field {
     }
 }
 
-/// Writes a value into the field of a relocation; `None`: what it names is not in the output, and `placeholder` stands for
-/// it.
+/// Writes a value into the field of a relocation; `None`: what it names is not in the output, and `placeholder` stands
+/// for it.
 pub(super) fn apply(
     bytes: &mut [u8],
     relocation: &Relocation,

@@ -92,7 +92,8 @@ impl Watcher {
         self.inotify.as_ref()
     }
 
-    /// Watches a folder too, if it is there; `look` tries those again that are not. Says whether it is watched only now.
+    /// Watches a folder too, if it is there; `look` tries those again that are not. Says whether it is watched only
+    /// now.
     ///
     /// # Errors
     /// The system watches no more folders.
@@ -274,9 +275,9 @@ fn kind_of(path: &Path, mask: EventMask, asked: Option<bool>) -> Kind {
     }
 }
 
-/// Whether a name that came by no rename is that of a file with a writer, who will close it, as far as the file tells: a
-/// link's file has another name still, or was last written before it got this one. What has been written to a new file has
-/// events that follow.
+/// Whether a name that came by no rename is that of a file with a writer, who will close it, as far as the file tells:
+/// a link's file has another name still, or was last written before it got this one. What has been written to a new
+/// file has events that follow.
 fn is_written(path: &Path) -> bool {
     match std::fs::symlink_metadata(path) {
         Ok(found) => {

@@ -39,8 +39,8 @@ pub(super) enum ImageFault {
 
 /// A file that is written. Its stages are `prepare` or `take`, and then `commit` or `drop`.
 ///
-/// A name of something that is no regular file, as /dev/null, is written in place, by `commit`. A symbolic link stays one,
-/// and the file that it names is the one that is written.
+/// A name of something that is no regular file, as /dev/null, is written in place, by `commit`. A symbolic link stays
+/// one, and the file that it names is the one that is written.
 #[derive(Debug)]
 struct Output {
     path: PathBuf,
@@ -177,8 +177,8 @@ impl Output {
     }
 }
 
-/// Writes to something that is no regular file. A pipe that nobody reads is an error; one that is full is waited for, until
-/// a signal ends the program.
+/// Writes to something that is no regular file. A pipe that nobody reads is an error; one that is full is waited for,
+/// until a signal ends the program.
 fn write_in_place(path: &Path, mut data: &[u8], stops: &Stops) -> io::Result<()> {
     let flags = libc::O_NONBLOCK | libc::O_NOCTTY;
     let mut file = OpenOptions::new().write(true).custom_flags(flags).open(path)?;

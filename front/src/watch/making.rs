@@ -23,9 +23,9 @@ const LONGEST_PAUSE: Duration = Duration::from_secs(60);
 /// Runs a command, once at a time, when it is wanted.
 ///
 /// inotify does not say who wrote a file. A source whose bytes differ from those that it had when the command began is
-/// made once more, however often: it may be a save. Where it changes in one run after the other, the command may write it:
-/// then there are pauses between the runs. What came for the first time in a run is the command's own, and there is a
-/// pause as soon as it changes in another run. What has the same bytes as before is no change.
+/// made once more, however often: it may be a save. Where it changes in one run after the other, the command may write
+/// it: then there are pauses between the runs. What came for the first time in a run is the command's own, and there is
+/// a pause as soon as it changes in another run. What has the same bytes as before is no change.
 #[derive(Debug)]
 pub(super) struct Making {
     pub(super) command: Command,

@@ -174,8 +174,8 @@ fn said_of_lists<'a>(lists: impl Iterator<Item = &'a PathBuf>, text: &str, line:
     Found::Refused(lists.map(said).collect())
 }
 
-/// The script with this symbol as its ENTRY, and all lines where they are; `None` where it cannot be written there, and the
-/// symbol is an option of the session.
+/// The script with this symbol as its ENTRY, and all lines where they are; `None` where it cannot be written there, and
+/// the symbol is an option of the session.
 fn with_entry(script: &[u8], symbol: &BStr) -> Option<Vec<u8>> {
     if !is_profile_name(symbol) {
         return None;

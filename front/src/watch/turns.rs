@@ -1,7 +1,7 @@
 //! The loop: waits for events, brings the session in step with the files, and puts the image in place.
 //!
-//! The rule of truth: the image is put in place only where the session's link has no fault, no input is refused, missing or
-//! being written, and each input's file is still what was last read of it. `place` alone does so.
+//! The rule of truth: the image is put in place only where the session's link has no fault, no input is refused,
+//! missing or being written, and each input's file is still what was last read of it. `place` alone does so.
 
 use std::io;
 use std::os::unix::io::{AsFd, AsRawFd};

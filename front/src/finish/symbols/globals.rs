@@ -77,8 +77,8 @@ impl<'a> ImageNames<'a> {
 /// No entry.
 const NONE: u32 = u32::MAX;
 
-/// Writes the names: first those that are local in the image, after a file without a name where there is one with. Those in
-/// use by relocations are written in any case.
+/// Writes the names: first those that are local in the image, after a file without a name where there is one with.
+/// Those in use by relocations are written in any case.
 pub(super) fn write(
     writer: &mut Writer,
     names: &Names<'_>,
@@ -141,8 +141,8 @@ impl<'a> Names<'a> {
         Names { objects: symbols.objects, places, linked: symbols.names, evaluation, outputs, own, options, sources }
     }
 
-    /// The entry of a name, and whether it is local in the image; `None` where it has no value, and no relocation in the
-    /// file uses it.
+    /// The entry of a name, and whether it is local in the image; `None` where it has no value, and no relocation in
+    /// the file uses it.
     fn entry_of(&self, number: usize, one: &LinkedName, is_used: bool) -> Option<(Entry, bool)> {
         let found = match self.own.get(number) {
             Some(found) => found,
@@ -174,8 +174,8 @@ impl<'a> Names<'a> {
         Some((entry, is_local))
     }
 
-    /// The number of the section that a name of an object is in; of one that GNU ld takes out, which may be one of several
-    /// of its name, that which takes its names.
+    /// The number of the section that a name of an object is in; of one that GNU ld takes out, which may be one of
+    /// several of its name, that which takes its names.
     fn section_of(&self, one: &LinkedName, number: u16) -> u16 {
         let nearby = || {
             let (object, index) = one.defined_by?;
@@ -190,9 +190,9 @@ impl<'a> Names<'a> {
         found.map_or_else(|| self.outputs.stands_for(number), |output| output.number)
     }
 
-    /// The entry of a symbol that counts from an output section that is never made: undefined, with its value. It is left
-    /// out where it is local, where objects refer to it and all do so weakly, and where nothing but that section assigns it
-    /// (`elf_link_output_extsym`; `mark` is by `bfd_elf_record_link_assignment`).
+    /// The entry of a symbol that counts from an output section that is never made: undefined, with its value. It is
+    /// left out where it is local, where objects refer to it and all do so weakly, and where nothing but that section
+    /// assigns it (`elf_link_output_extsym`; `mark` is by `bfd_elf_record_link_assignment`).
     fn nowhere(&self, one: &LinkedName, known: &Symbol, is_used: bool) -> Option<(Entry, bool)> {
         let binding = match (known.is_local, one.is_referred && !one.is_needed) {
             (true, _) => elf::STB_LOCAL,

@@ -143,8 +143,8 @@ impl OwnLocals<'_> {
     }
 }
 
-/// The entry of a local symbol, and whether it is in a section of merged constants; `None` where its section is not in the
-/// image.
+/// The entry of a local symbol, and whether it is in a section of merged constants; `None` where its section is not in
+/// the image.
 fn entry_of(symbol: &Symbol<'_>, object: usize, places: &Places) -> Option<(Entry, bool)> {
     let (section, value, is_merged) = match symbol.home {
         Home::Absolute => (elf::SHN_ABS, symbol.value, false),

@@ -1,5 +1,5 @@
-//! The symbol table that GNU ld writes: local symbols object by object, then names in the order of its table (bfd/elflink.c,
-//! `bfd_elf_final_link`, `elf_link_input_bfd`, `elf_link_output_extsym`).
+//! The symbol table that GNU ld writes: local symbols object by object, then names in the order of its table
+//! (bfd/elflink.c, `bfd_elf_final_link`, `elf_link_input_bfd`, `elf_link_output_extsym`).
 //!
 //! The values of names are those of the image of `ldi`; a local symbol is at the place of its input section there.
 

@@ -24,7 +24,8 @@ pub struct LinkedNames {
     /// The objects that they are of, and the names of the script.
     objects: Vec<Object>,
     of_script: Vec<(usize, Name)>,
-    /// The places of the names of the script and of GNU ld itself, each with the number of objects that are read before.
+    /// The places of the names of the script and of GNU ld itself, each with the number of objects that are read
+    /// before.
     spoken: Vec<(usize, u32)>,
     /// By object: where its names begin in `mentions`, which has their places.
     first: Vec<usize>,
@@ -203,8 +204,8 @@ impl LinkedNames {
         }
     }
 
-    /// The numbers of the entries of these names in an image with a table of names, which `find` finds; those of the last
-    /// image where the table is the same.
+    /// The numbers of the entries of these names in an image with a table of names, which `find` finds; those of the
+    /// last image where the table is the same.
     pub(super) fn numbers_in(&self, table: &[u8], find: impl FnOnce() -> Vec<u32>) -> Arc<[u32]> {
         let mut last = match self.last.lock() {
             Ok(last) => last,

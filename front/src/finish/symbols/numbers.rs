@@ -49,8 +49,8 @@ impl<'a> Numbers<'a> {
         self.sections.get_mut(section).into_iter().for_each(|own| *own = number);
     }
 
-    /// Keeps the numbers of an object's local symbols, which count from a number on; of those that the file does not have
-    /// there is none.
+    /// Keeps the numbers of an object's local symbols, which count from a number on; of those that the file does not
+    /// have there is none.
     pub(super) fn set_locals(&mut self, object: usize, own: &[Option<u32>], from: u32) {
         let start = self.first.get(object).copied().unwrap_or(usize::MAX);
         for (number, own) in self.locals.iter_mut().skip(start).zip(own) {

@@ -138,7 +138,8 @@ impl Outputs {
         OtherSections { relocations, missing: self.missing, dropped: self.dropped }
     }
 
-    /// Gives sections that are not loaded their numbers, from the first one on: those that are not empty, in their order.
+    /// Gives sections that are not loaded their numbers, from the first one on: those that are not empty, in their
+    /// order.
     fn take_unloaded(&mut self, wanted: &[Wanted<'_>], unloaded: &[Unloaded], first: usize) {
         let mut rest = wanted.iter();
         for (number, one) in (first..).zip(unloaded) {

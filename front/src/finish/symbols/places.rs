@@ -184,7 +184,8 @@ struct Moved<'a> {
     piece: &'a Piece,
 }
 
-/// The pieces of an object's sections, by name and size, which `size_of` gives of those in the image: these have their order.
+/// The pieces of an object's sections, by name and size, which `size_of` gives of those in the image: these have their
+/// order.
 fn found_in<'a>(
     object: &Object,
     pieces: &[Moved<'a>],
@@ -234,7 +235,8 @@ fn stands_for(number: usize, objects: &[Object]) -> usize {
     others.into_iter().find(|(_, object)| !is_own_object(object)).map_or(number, |(number, _)| number)
 }
 
-/// The input sections of an output section with contents, in the order of its statements (ldwrite.c, `build_link_order`).
+/// The input sections of an output section with contents, in the order of its statements (ldwrite.c,
+/// `build_link_order`).
 fn copied_in<'a>(evaluation: &'a Evaluation, output: &'a OutputSection) -> impl Iterator<Item = SectionId> + 'a {
     let body = output.in_image().filter(|place| place.flags.has(Flags::CONTENTS)).map(|_| output.body.iter());
     body.into_iter()

@@ -1,5 +1,5 @@
-//! Reads the texts of scripts into a tree, by the grammar of GNU ld (`ldgram.y`) and in the lexer's states that it sets.
-//! A token after an expression is read in the state of expressions, as there.
+//! Reads the texts of scripts into a tree, by the grammar of GNU ld (`ldgram.y`) and in the lexer's states that it
+//! sets. A token after an expression is read in the state of expressions, as there.
 
 mod expressions;
 mod inputs;
