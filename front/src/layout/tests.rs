@@ -136,7 +136,8 @@ fn an_assignment_takes_the_place_of_a_definition() {
 #[test]
 fn empty_sections_are_left_out() {
     let found = laid(
-        "SECTIONS { .one : { *(.none) } .two : { here = .; } .three : { . = . + 4; } .four : { . = . + 0; } .text : { *(.text) } }",
+        "SECTIONS { .one : { *(.none) } .two : { here = .; } .three : { . = . + 4; } .four : { . = . + 0; } \
+         .text : { *(.text) } }",
         &[plain()],
     );
     let made = names(&found);

@@ -35,7 +35,10 @@ pub(super) enum NoIdentity {
     #[error("--build-id: the script discards {BUILD_ID_SECTION}, so the image has no build ID")]
     Discarded,
     /// No statement takes it.
-    #[error("--build-id: no statement takes {BUILD_ID_SECTION}, and what none takes is discarded: the image has no build ID")]
+    #[error(
+        "--build-id: no statement takes {BUILD_ID_SECTION}, and what none takes is discarded: the image has no \
+         build ID"
+    )]
     NotTaken,
 }
 

@@ -284,7 +284,8 @@ impl Sentences<'_> {
         Diagnostic::error(format!("the image would have {length} bytes, more than {MOST_IMAGE_BYTES}"))
             .of_file(self.inputs.script_path)
             .with_advice(
-                "close the gaps in sections with file bytes, or keep what has no contents in sections of its own at the end",
+                "close the gaps in sections with file bytes, or keep what has no contents in sections of its own at \
+                 the end",
             )
     }
 

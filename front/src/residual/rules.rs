@@ -134,7 +134,8 @@ fn decided(test: &Expr, around: &dyn Around, reasons: &mut Reasons) -> Option<bo
 fn say_defined(name: &Name, is_defined: bool, around: &dyn Around, reasons: &mut Reasons) {
     if !is_defined && around.is_without_objects() {
         reasons.changed.push(format!(
-            "DEFINED({name}) is taken as 0: --objects says whether an object defines it, and `--defsym {name}=VALUE` does"
+            "DEFINED({name}) is taken as 0: --objects says whether an object defines it, and `--defsym {name}=VALUE` \
+             does"
         ));
     }
     if is_defined && around.is_provided(name) {

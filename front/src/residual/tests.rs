@@ -224,7 +224,8 @@ fn an_entry_that_nothing_defines_is_written_as_an_address() {
 #[test]
 fn program_headers_are_noted() {
     let done = adapted(
-        "PHDRS { a PT_LOAD FLAGS(5); b 1 AT(0x2000); } SECTIONS { . = 0x1000; .t : { *(.text) } :a .u : { *(.x) } .d : { *(.data) } :b }",
+        "PHDRS { a PT_LOAD FLAGS(5); b 1 AT(0x2000); } SECTIONS { . = 0x1000; .t : { *(.text) } :a .u : { *(.x) } \
+         .d : { *(.data) } :b }",
     );
     let segments = done.segments.unwrap();
     assert_eq!(segments[0].sections, [".t", ".u"]);
@@ -238,9 +239,11 @@ fn comments_of_a_line_are_those_of_the_profile() {
 
 #[test]
 fn no_text_makes_it_panic() {
-    let script = "ENTRY(a) MEMORY { r (rx!w) : ORIGIN = 0x1000, LENGTH = 1M } PHDRS { a PT_LOAD; } SECTIONS { . = 0x1000; \
+    let script = "ENTRY(a) MEMORY { r (rx!w) : ORIGIN = 0x1000, LENGTH = 1M } PHDRS { a PT_LOAD; } \
+                  SECTIONS { . = 0x1000; \
                   .t ALIGN(8) (NOLOAD) : AT(ADDR(.t) - 4) SUBALIGN(4) { a = .; *(.text .[a-z]*) FILL(0x90) . = 4; \
-                  KEEP(*x.o(SORT(.x) .y)) BYTE(1) ASSERT(. > 1, \"m\") } >r AT>r :a =0x9090 /DISCARD/ : { *(.z) } } b = .;";
+                  KEEP(*x.o(SORT(.x) .y)) BYTE(1) ASSERT(. > 1, \"m\") } >r AT>r :a =0x9090 \
+                  /DISCARD/ : { *(.z) } } b = .;";
     for length in 0..script.len() {
         for changed in [&script[..length], &script[length..]] {
             if let Ok(reading) = crate::script::parse(Path::new("t.ld"), changed.as_bytes()) {

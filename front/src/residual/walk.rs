@@ -507,7 +507,9 @@ impl<'a> Walk<'a> {
             _ => return None,
         };
         let section = evaluation.section(id)?;
-        let takes = |statement: &&Statement| matches!(&statement.kind, StatementKind::Input { sections, .. } if sections.contains(&id));
+        let takes = |statement: &&Statement| {
+            matches!(&statement.kind, StatementKind::Input { sections, .. } if sections.contains(&id))
+        };
         let span = evaluation.statements.iter().find(takes)?.span?;
         let more = match symbol.value?.address.wrapping_sub(evaluation.section_address(section)?) {
             0 => String::new(),
@@ -516,7 +518,8 @@ impl<'a> Walk<'a> {
         let object = self.request.objects.get(section.object.0 as usize)?;
         Some(format!(
             "{name} is an object's symbol and has no address while the layout goes on: before line {} write \
-             `. = ALIGN({}); here = .{more}; {object}({})`, use `here` for {name}, and add `ASSERT(here == {name}, \"..\")`",
+             `. = ALIGN({}); here = .{more}; {object}({})`, use `here` for {name}, and add `ASSERT(here == {name}, \
+             \"..\")`",
             self.request.source.place(span.start).line,
             section.own_align,
             evaluation.section_name(section),
@@ -526,8 +529,8 @@ impl<'a> Walk<'a> {
     fn why_missing(&self, name: &BString) -> String {
         if self.is_left_out(name) {
             return format!(
-                "the section of {name} is not in the image, so that its value cannot be written: take it in, under KEEP \
-                 where --gc-sections leaves it out"
+                "the section of {name} is not in the image, so that its value cannot be written: take it in, under \
+                 KEEP where --gc-sections leaves it out"
             );
         }
         if let Some(advice) = self.advice(name) {
@@ -538,8 +541,8 @@ impl<'a> Walk<'a> {
         }
         match (self.request.defines)(name.as_bstr()) {
             true => format!(
-                "an object's symbol has no address while the layout goes on: write `here = .;` before the statement that \
-                 takes its section, use `here` for {name}, and add `ASSERT(here == {name}, \"..\")`"
+                "an object's symbol has no address while the layout goes on: write `here = .;` before the statement \
+                 that takes its section, use `here` for {name}, and add `ASSERT(here == {name}, \"..\")`"
             ),
             false => format!("{name} has no value here"),
         }

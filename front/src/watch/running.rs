@@ -112,8 +112,8 @@ impl Commands {
         for path in &making.paused_for {
             let name = making.sources.name(path);
             let text = format!(
-                "it has changed in each of the last runs of `{}`, which is run once more; --sources '!{name}' leaves it \
-                 out, if the command writes it",
+                "it has changed in each of the last runs of `{}`, which is run once more; --sources '!{name}' leaves \
+                 it out, if the command writes it",
                 making.command.text
             );
             teller.note(&name, &text)?;

@@ -47,8 +47,8 @@ fn f1_with_source_lines_of_functions_and_variables() {
         };
     let objects = [object("a.o", first), object("b.o", again)];
     check(SCRIPT, "F1 f b.o a.o\nF1 v b.o a.o\n", &objects, &[
-        "/project/text.c:1: (b.o .text+0x0): multiple definition of `f'; /project/text.c:3: (a.o .text+0x0): first defined \
-         here [F1 f b.o a.o]",
+        "/project/text.c:1: (b.o .text+0x0): multiple definition of `f'; /project/text.c:3: (a.o .text+0x0): first \
+         defined here [F1 f b.o a.o]",
         "/project/text.c:3: (b.o .data.v+0x0): multiple definition of `v'; /project/text.c:6: (a.o .data.v+0x0): first \
          defined here [F1 v b.o a.o]",
     ]);
@@ -80,7 +80,10 @@ fn f3_with_the_size_of_the_section() {
     let objects = [object("a.o", four), object("b.o", one), object("c.o", two)];
     let advice = "add one that does, or /DISCARD/, or --orphan-handling=discard";
     let text = |object: &str, section: &str, size: &str| {
-        format!("{object}: ({section}): no statement of image.ld takes this section{size}; {advice} [F3 {object} {section}]")
+        format!(
+            "{object}: ({section}): no statement of image.ld takes this section{size}; {advice} \
+             [F3 {object} {section}]"
+        )
     };
     let wanted = [text("a.o", ".data", " of 4 bytes"), text("b.o", ".data", " of 1 byte"), text("c.o", ".d", "")];
     let wanted: Vec<&str> = wanted.iter().map(String::as_str).collect();
@@ -154,8 +157,8 @@ fn f7_with_what_does_not_fit_and_the_numbers_of_the_region() {
     ] {
         let numbers = "(image.ld:1: ORIGIN = 0x1000, LENGTH = 4 + 4)";
         let wanted = format!(
-            "image.ld:5: section `.d' will not fit in region `r' {numbers}: its {what} do not lie there; raise LENGTH, or \
-             place less there [F7 .d r]"
+            "image.ld:5: section `.d' will not fit in region `r' {numbers}: its {what} do not lie there; raise \
+             LENGTH, or place less there [F7 .d r]"
         );
         check(&format!("{memory} .d : {{ *(.d) }} {tail} }}"), "F7 .d r\n", &[], &[&wanted]);
     }
@@ -168,8 +171,8 @@ fn f9_f10_and_f11() {
         "image.ld:2: the addresses of section `.e' overlap those of `.d' (image.ld:1); move one of the two [F9 .e .d]",
         "image.ld:2: the load addresses of section `.e' overlap those of `.d' (image.ld:1); correct AT(..), or use AT> \
          [F10 .e .d]",
-        "image.ld: the image would have 268439928 bytes, more than 268435456; close the gaps in sections with file bytes, \
-         or keep what has no contents in sections of its own at the end [F11 268439928]",
+        "image.ld: the image would have 268439928 bytes, more than 268435456; close the gaps in sections with file \
+         bytes, or keep what has no contents in sections of its own at the end [F11 268439928]",
     ]);
     let twice = "SECTIONS { .a : { } .b : { } .a : { } }";
     check(
@@ -280,8 +283,8 @@ fn f14_of_each_type_that_has_a_range() {
         };
         let fault = format!("F14 a.o .data 0000000000000004 {number} {value:016x}");
         let wanted = format!(
-            "a.o: (.data+0x4): relocation truncated to fit: R_X86_64_{kind} against `far'; its value {shown}: {advice}{end} \
-             [{fault}]"
+            "a.o: (.data+0x4): relocation truncated to fit: R_X86_64_{kind} against `far'; its value {shown}: \
+             {advice}{end} [{fault}]"
         );
         check(SCRIPT, &fault, &[object("a.o", data)], &[&wanted]);
     }
@@ -307,10 +310,18 @@ fn f15_with_the_message_and_the_names_that_nothing_defines() {
     let text = "ASSERT(SIZEOF(.text) <= 3, \"\") ASSERT(x < end + LENGTH(r) + x, \"a  b\")";
     let script = format!("MEMORY {{ r : ORIGIN = 0, LENGTH = 1 }} {SCRIPT}\n{text}");
     if !objects.is_empty() {
-        check(&script, "F15 2 \nF15 2 a  b\n", &objects, &[
-            &format!("image.ld:2: assertion failed: {text} [F15 2 ]"),
-            &format!("image.ld:2: assertion failed: a  b; nothing defines `x'; nothing defines `end': {text} [F15 2 a  b]"),
-        ]);
+        check(
+            &script,
+            "F15 2 \nF15 2 a  b\n",
+            &objects,
+            &[
+                &format!("image.ld:2: assertion failed: {text} [F15 2 ]"),
+                &format!(
+                    "image.ld:2: assertion failed: a  b; nothing defines `x'; nothing defines `end': {text} \
+                     [F15 2 a  b]"
+                ),
+            ],
+        );
     }
 }
 

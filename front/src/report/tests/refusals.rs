@@ -37,8 +37,8 @@ fn refusals_that_are_not_of_the_bytes() {
             "\u{e4}.o",
             6,
             b"",
-            "\u{e4}.o: its name has the byte 0xc3: an object's name has 1 to 255 bytes, each from `!' to `~' [\u{e4}.o: \
-             refused 6 0]",
+            "\u{e4}.o: its name has the byte 0xc3: an object's name has 1 to 255 bytes, each from `!' to `~' \
+             [\u{e4}.o: refused 6 0]",
         ),
     ] {
         assert_eq!(texts(&refusals_of_object(&input(name, number, 0, Some(data)), None)), [wanted]);
@@ -72,8 +72,8 @@ fn a_relocation_is_named_with_its_type_symbol_and_place() {
     };
     let found = refusals_of_object(&input("a.o", 4, 11, None), Some(&object("a.o", data)));
     let wanted = "/project/text.c:4: (a.o .text+0x0): R_X86_64_GOT32 against `g' needs a global offset table, and \
-        there is none; compile with -fno-pic -mcmodel=small, or -mcmodel=kernel for the upper 2 GB, and without -fno-plt \
-        [a.o: refused 4 11]";
+        there is none; compile with -fno-pic -mcmodel=small, or -mcmodel=kernel for the upper 2 GB, and without \
+        -fno-plt [a.o: refused 4 11]";
     assert_eq!(texts(&found), [wanted]);
 }
 

@@ -276,7 +276,8 @@ fn input_statements() {
     same(&[
         "SECTIONS { .a : { *(.a .b*) a.o *a.o:b.o(.c) [ .d .e ] } }",
         "SECTIONS { .a : { KEEP(*(.a)) KEEP([ .a ]) KEEP(a.o) } }",
-        "SECTIONS { .a : { *(EXCLUDE_FILE(a.o b.o) .a .b) EXCLUDE_FILE(c.o) *(.c) SORT_BY_NAME(EXCLUDE_FILE(d) *)(.d) } }",
+        "SECTIONS { .a : { *(EXCLUDE_FILE(a.o b.o) .a .b) EXCLUDE_FILE(c.o) *(.c) SORT_BY_NAME(EXCLUDE_FILE(d) *)(.d) \
+         } }",
         "SECTIONS { .a : { *(SORT_BY_NAME(.a) SORT_BY_ALIGNMENT(.b) SORT_NONE(.c) SORT_BY_INIT_PRIORITY(.d)) } }",
         "SECTIONS { .a : { *(SORT_BY_NAME(SORT_BY_ALIGNMENT(.a)) SORT_BY_ALIGNMENT(SORT_BY_NAME(.b))) } }",
         "SECTIONS { .a : { *(REVERSE(.a) REVERSE(SORT_BY_NAME(.b)) SORT_BY_NAME(REVERSE(.c))) SORT_NONE(*)(.d) } }",
@@ -300,7 +301,8 @@ fn a_comma_is_part_of_a_pattern() {
 fn overlays_and_groups() {
     same(&[
         "SECTIONS { OVERLAY : { } }",
-        "SECTIONS { OVERLAY 4 : NOCROSSREFS AT(1) SUBALIGN(2) { .a { *(.a) } :one =0x90, .b { } } >ram AT>rom :two =0, }",
+        "SECTIONS { OVERLAY 4 : NOCROSSREFS AT(1) SUBALIGN(2) { .a { *(.a) } :one =0x90, .b { } } >ram AT>rom :two \
+         =0, }",
     ]);
     become_of(&[
         ("SECTIONS { GROUP 4 : { .a : { } x = 1; } }", "SECTIONS { . = 4; .a : { } x = 1; }"),
