@@ -116,6 +116,14 @@ pub struct Statement {
     pub kind: StatementKind,
 }
 
+impl Statement {
+    /// Whether it is an input statement that takes this section.
+    #[must_use]
+    pub fn takes(&self, section: SectionId) -> bool {
+        matches!(&self.kind, StatementKind::Input { sections, .. } if sections.contains(&section))
+    }
+}
+
 /// What a statement is, with what the passes found.
 #[derive(Clone, PartialEq, Eq, Debug)]
 pub enum StatementKind {

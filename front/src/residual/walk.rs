@@ -507,10 +507,7 @@ impl<'a> Walk<'a> {
             _ => return None,
         };
         let section = evaluation.section(id)?;
-        let takes = |statement: &&Statement| {
-            matches!(&statement.kind, StatementKind::Input { sections, .. } if sections.contains(&id))
-        };
-        let span = evaluation.statements.iter().find(takes)?.span?;
+        let span = evaluation.statements.iter().find(|statement| statement.takes(id))?.span?;
         let more = match symbol.value?.address.wrapping_sub(evaluation.section_address(section)?) {
             0 => String::new(),
             more => format!(" + {more:#x}"),
