@@ -489,7 +489,8 @@ fn a_file_of_a_statement_in_another_folder_has_another_name() {
 #[test]
 fn a_script_says_what_is_linked() {
     let found = script_inputs(
-        "STARTUP(first.o) INPUT(a.o -lb AS_NEEDED(c.o)) GROUP(d.a) SEARCH_DIR(dir) EXTERN(x y) ENTRY(start) OUTPUT(image)
+        "STARTUP(first.o) INPUT(a.o -lb AS_NEEDED(c.o)) GROUP(d.a) SEARCH_DIR(dir) EXTERN(x y) ENTRY(start)
+         OUTPUT(image)
          SECTIONS { ENTRY(inner) .text : { vec.o(.text) *(.text) lib.a:m.o(.x) [a-z].o(.y) KEEP(far.o(.data)) alone.o }
          .data : { vec.o(.data) EXCLUDE_FILE(z.o) *(.z) } }",
     );
