@@ -89,12 +89,13 @@ MEMORY = [
          "SECTIONS { .text : { *(.text) } >rom .data : ALIGN_WITH_INPUT { *(.data) } >ram AT>rom .ro : "
          "ALIGN_WITH_INPUT { *(.rodata) } >ram AT>rom a = LOADADDR(.data); b = LOADADDR(.ro); REST >ram AT>ram " + TAIL
          + " }", "r", known=True),
-    _row("`.` after ALIGN_WITH_INPUT", "MEMORY { rom : ORIGIN = 0x1001, LENGTH = 4K ram : ORIGIN = 0x8003, LENGTH = 1M } "
-         "SECTIONS { .text : { *(.text) } >rom .data : ALIGN_WITH_INPUT { *(.data) } >ram AT>rom after = .; . = ALIGN(8); "
-         "then = .; REST >ram AT>ram " + TAIL + " }", "r", known=True),
+    _row("`.` after ALIGN_WITH_INPUT",
+         "MEMORY { rom : ORIGIN = 0x1001, LENGTH = 4K ram : ORIGIN = 0x8003, LENGTH = 1M } "
+         "SECTIONS { .text : { *(.text) } >rom .data : ALIGN_WITH_INPUT { *(.data) } >ram AT>rom after = .; "
+         ". = ALIGN(8); then = .; REST >ram AT>ram " + TAIL + " }", "r", known=True),
     _row("AT> of the same region", "MEMORY { ram : ORIGIN = 0x8003, LENGTH = 1M } SECTIONS { .b : { *(.bss) } >ram "
-         "AT>ram .heap : { . += 0x20; } >ram AT>ram .d : { *(.data) } >ram a = LOADADDR(.b); b = LOADADDR(.d); REST >ram "
-         + TAIL + " }", "r"),
+         "AT>ram .heap : { . += 0x20; } >ram AT>ram .d : { *(.data) } >ram a = LOADADDR(.b); b = LOADADDR(.d); "
+         "REST >ram " + TAIL + " }", "r"),
     _row("`.` around AT>r", "MEMORY { rom : ORIGIN = 0x1001, LENGTH = 4K ram : ORIGIN = 0x8003, LENGTH = 1M } SECTIONS "
          "{ .text : { *(.text) } >rom . = 0x8100; .data . : { *(.data) } >ram AT>rom after = .; .ro ALIGN(64) : "
          "ALIGN_WITH_INPUT { *(.rodata) } >ram AT>rom last = .; a = LOADADDR(.data); b = LOADADDR(.ro); REST >ram "
@@ -117,7 +118,8 @@ MEMORY = [
 HEADS = [
     _row("two of one name", ".text : { *(.text) } . = 0x410000; .text : { *(.text.*) a = .; } b = SIZEOF(.text); REST "
          + TAIL, "c"),
-    _row("NOLOAD of gaps", "REST .heap (NOLOAD) : { low = .; . += 64; . = ALIGN(32); } .stack (NOLOAD) : { . += 16; high "
+    _row("NOLOAD of gaps",
+         "REST .heap (NOLOAD) : { low = .; . += 64; . = ALIGN(32); } .stack (NOLOAD) : { . += 16; high "
          "= .; } " + TAIL, "d"),
     _row("NOLOAD of gaps and NOBITS", ".b (NOLOAD) : { . = ALIGN(32); *(.bss) . += 8; } REST " + TAIL, "d", known=True),
     _row("NOLOAD", ".nothing (NOLOAD) : { *(.bss) *(COMMON) } REST " + TAIL, "d", known=True),
@@ -282,14 +284,15 @@ LEFT = [
     _row("OUTPUT_FORMAT binary", "OUTPUT_FORMAT(binary) SECTIONS { REST " + TAIL + " }", "c"),
 ]
 UNKNOWN = [
-    _row("regions by attributes, of unknown objects", "MEMORY { rom (rx) : ORIGIN = 0x1000, LENGTH = 4K ram (w) : ORIGIN "
+    _row("regions by attributes, of unknown objects",
+         "MEMORY { rom (rx) : ORIGIN = 0x1000, LENGTH = 4K ram (w) : ORIGIN "
          "= 0x8000, LENGTH = 1M } SECTIONS { .text : { *(.text) } .ro : { *(.rodata .rodata.*) } .data : { *(.data "
          ".data.*) } REST " + TAIL + " }", "cdr"),
     _row("ONLY_IF_RO of unknown objects", ".x : ONLY_IF_RO { *(.rodata) } .x : ONLY_IF_RW { *(.rodata) q = .; } REST "
          + TAIL, "cd"),
     _row("NOLOAD of unknown objects", ".b (NOLOAD) : { *(.bss) } .d (NOLOAD) : { *(.data) } REST " + TAIL, "cd"),
-    _row("nested sorts of unknown objects", ".t : { *(SORT_BY_NAME(SORT_BY_ALIGNMENT(.text.*))) *(.data SORT(.none.*)) } "
-         "REST " + TAIL, "cr"),
+    _row("nested sorts of unknown objects",
+         ".t : { *(SORT_BY_NAME(SORT_BY_ALIGNMENT(.text.*))) *(.data SORT(.none.*)) } " "REST " + TAIL, "cr"),
     _row("AT> of unknown objects", "MEMORY { rom : ORIGIN = 0x1001, LENGTH = 4K ram : ORIGIN = 0x8000, LENGTH = 1M } "
          "SECTIONS { .text : { *(.text) } >rom .data : { *(.data) } >ram AT>rom REST >ram " + TAIL + " }", "cr",
          different=("load", "symbol")),
@@ -297,10 +300,11 @@ UNKNOWN = [
          "__stack = 2;"),
     _row("ALIGNOF of unknown objects", "REST a = ALIGNOF(.rest); " + TAIL, "l"),
     _row("a file of unknown objects", ".t : { b.o(.text) } REST " + TAIL, "c", different=("symbol",)),
-    _row("through later symbols", ".t : { *(.text) a = b & 7; } b = c - 1; .d : { *(.data) c = .; d1 = SIZEOF(.d) + 1; } "
-         "REST " + TAIL),
-    _row("input sections in an unaligned section", ".t 0x400003 : { *(.text) *(.data) x = .; . = ALIGN(8); } REST " + TAIL, ""),
-    _row("`. = e` moved on by conditions", ".t : { *(.text) . = MAX(., 0x30); x = .; . = . & ~7 ? ALIGN(16) + 2 : 0x40; "
-         "y = .; } REST " + TAIL),
+    _row("through later symbols",
+         ".t : { *(.text) a = b & 7; } b = c - 1; .d : { *(.data) c = .; d1 = SIZEOF(.d) + 1; } " "REST " + TAIL),
+    _row("input sections in an unaligned section",
+         ".t 0x400003 : { *(.text) *(.data) x = .; . = ALIGN(8); } REST " + TAIL, ""),
+    _row("`. = e` moved on by conditions",
+         ".t : { *(.text) . = MAX(., 0x30); x = .; . = . & ~7 ? ALIGN(16) + 2 : 0x40; " "y = .; } REST " + TAIL),
 ]
 ROWS = COMMANDS + MEMORY + HEADS + INPUTS + DATA + DOT + VALUES + UNKNOWN

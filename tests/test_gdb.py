@@ -171,7 +171,8 @@ class SymbolsTest(ImageTest):
         self.write("main.o", (self.folder / "text.o").read_bytes())
         self.write("other.map", text.replace(b"section .bss", b"section .bsx"))
         self.write("no image", "no image")
-        for image, link_map, why in (("hello", "hello.map", "has changed"), ("hello", "other.map", "not that of the image"),
+        for image, link_map, why in (("hello", "hello.map", "has changed"),
+                                     ("hello", "other.map", "not that of the image"),
                                      ("no image", "hello.map", "the image: ")):
             done = self.run_program(LDI_GDB, "--symbols", image, link_map, "-o", "out")
             self.assertEqual((done.returncode, len(done.stderr.splitlines())), (2, 1), done.stderr)

@@ -81,7 +81,8 @@ class AliasesTest(OutsideTest):
                     self.assertEqual(said.count("is a symbol of the object"), 5, said)
 
     def test_others(self) -> None:
-        """What is none: numbers, expressions, names that are assigned twice, of common blocks, or that an object has."""
+        """What is none: numbers, expressions, names that are assigned twice, of common blocks, or that an object
+        has."""
         self.compile("more.c", "int block[3]; __attribute__((weak)) int three = 5; __asm__(\".globl n\\n n = 77\");",
                      "-fcommon")
         self.script("one = n; two = first + 4; again = function;", back="one = second; two = first;")

@@ -122,7 +122,8 @@ class CollectingTest(BesideGnu):
                '.section .data.once,"awG",@progbits,once,comdat\n.weak once\nonce: .quad of_{0}\n'
         names = [self.compile(f"{name}.s", text.format(name)) for name in ("_start", "other", "third")]
         for kept in ("KEEP(*(.data.once))", "KEEP(third.o(.data.*)) *(.data.once)", "*(.data.once)"):
-            self.write("t.ld", "ENTRY(_start) SECTIONS { . = 0x1000; .text : { *(.text .text.*) } .data : { %s } }" % kept)
+            self.write("t.ld",
+                       "ENTRY(_start) SECTIONS { . = 0x1000; .text : { *(.text .text.*) } .data : { %s } }" % kept)
             self.collects(*names)
 
     def test_bounds(self) -> None:

@@ -72,7 +72,8 @@ class HandedOverTest(OutsideTest):
         self.compile("b.s", '.section .one, "a"\n.long 1\n.section .two, "a"\n.long 2\n')
         begin, end = PLAIN.split(". = ALIGN(4096);")
         self.write("overlay.ld", f"{begin} OVERLAY : {{ .one {{ *(.one) }} .two {{ *(.two) }} }} {end}")
-        self.write("insert.ld", "x = 1; x = 2; SECTIONS { .one : { *(.one) } .two : { *(.two) } } INSERT AFTER .rodata;\n")
+        self.write("insert.ld",
+                   "x = 1; x = 2; SECTIONS { .one : { *(.one) } .two : { *(.two) } } INSERT AFTER .rodata;\n")
         self.hands_over("-T", "overlay.ld", "a.o", "b.o", why="overlay.ld:2")
         self.hands_over("-T", "insert.ld", "-T", "t.ld", "a.o", "b.o", why="INSERT")
 

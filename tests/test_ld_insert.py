@@ -26,9 +26,12 @@ nop
 .long 7
 """
 INSERTS = {
-    "after.ld": "SECTIONS {\n  .one : { extra = .; *(.one) extra_end = .; }\n  .foo : { *(.text.foo) }\n} INSERT AFTER .text;\n",
-    "before.ld": "mark = 5;\nSECTIONS { . = ALIGN(64); here = .; .two : { *(.two) . = ALIGN(16); } }\nINSERT BEFORE .data;\n",
-    "chain.ld": "SECTIONS { .two : { *(.two) } } INSERT AFTER .one; SECTIONS { .one : { *(.one) } } INSERT AFTER .data;\n",
+    "after.ld": "SECTIONS {\n  .one : { extra = .; *(.one) extra_end = .; }\n  .foo : { *(.text.foo) }\n} INSERT "
+                "AFTER .text;\n",
+    "before.ld": "mark = 5;\nSECTIONS { . = ALIGN(64); here = .; .two : { *(.two) . = ALIGN(16); } }\nINSERT BEFORE "
+                 ".data;\n",
+    "chain.ld": "SECTIONS { .two : { *(.two) } } INSERT AFTER .one; SECTIONS { .one : { *(.one) } } INSERT AFTER "
+                ".data;\n",
     "data.ld": "SECTIONS { .new : { LONG(4) new_end = .; } } INSERT AFTER .data;\n",
 }
 
@@ -65,8 +68,8 @@ class InsertTest(OutsideTest):
 
     def test_scripts(self) -> None:
         """Before a script, several of them, assignments among them, orphans beside them."""
-        for scripts in (("after.ld",), ("before.ld",), ("after.ld", "before.ld"), ("before.ld", "after.ld"), ("chain.ld",),
-                        ("data.ld", "after.ld", "before.ld")):
+        for scripts in (("after.ld",), ("before.ld",), ("after.ld", "before.ld"), ("before.ld", "after.ld"),
+                        ("chain.ld",), ("data.ld", "after.ld", "before.ld")):
             words = [word for script in (*scripts, "t.ld") for word in ("-T", script)]
             self.both(*words, "a.o")
             self.both("--gc-sections", *words, "a.o")
@@ -81,9 +84,11 @@ class InsertTest(OutsideTest):
         """Edits of the object and of the script that is inserted."""
         words = ("-T", "after.ld", "-T", "before.ld", "-T", "t.ld", "a.o")
         after = INSERTS["after.ld"]
-        for name, text in (("a.s", OBJECT), ("a.s", OBJECT + ".section .two\n.long 3\n"), ("a.s", OBJECT + ".text\nnop\n"),
+        for name, text in (("a.s", OBJECT), ("a.s", OBJECT + ".section .two\n.long 3\n"),
+                           ("a.s", OBJECT + ".text\nnop\n"),
                            ("after.ld", after.replace("*(.one)", "LONG(9) *(.one)")), ("after.ld", after),
-                           ("a.s", OBJECT.replace(".orphan", ".other")), ("after.ld", after.replace("AFTER .text", "AFTER .data"))):
+                           ("a.s", OBJECT.replace(".orphan", ".other")),
+                           ("after.ld", after.replace("AFTER .text", "AFTER .data"))):
             if name.endswith(".s"):
                 self.compile(name, text)
             else:

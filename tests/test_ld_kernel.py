@@ -204,7 +204,8 @@ class KernelTest(LinkTest):
         self.assertFalse((self.folder / "kernel").exists())
 
     def test_large_pages(self) -> None:
-        """Segments of -z max-page-size=: places equal to addresses modulo it; bytes, addresses and sections as before."""
+        """Segments of -z max-page-size=: places equal to addresses modulo it; bytes, addresses and sections as
+        before."""
         self.links("-T", "kernel.ld", "-o", "plain", *self.objects)
         self.links("-T", "kernel.ld", "-o", "large", "-z", f"max-page-size={LARGE_PAGE:#x}", *self.objects)
         plain, large = ((self.folder / name).read_bytes() for name in ("plain", "large"))
@@ -223,7 +224,8 @@ class KernelTest(LinkTest):
 
 @needs("ld.bfd")
 class SmpTest(OutsideTest):
-    """The script of a kernel for several processors: data at address 0, and a place by the bits of an object's symbol."""
+    """The script of a kernel for several processors: data at address 0, and a place by the bits of an object's
+    symbol."""
 
     def _same(self) -> None:
         """Section headers, program headers, bytes, symbols and relocations are those of GNU ld's file."""

@@ -299,7 +299,8 @@ SECTIONS { . = 0; .header : { *(.header) } . = ALIGN(512); .text : { *(.data) . 
                 for more in ("", "x = .;", ". = 0x40; .more : { LONG(7) LONG(end) }", ".rest 0x80 : { LONG(8) }"):
                     self.write("t.ld", script % (form, taken, more))
                     self.assertEqual(self.compare(*words, "-T", "t.ld", "a.o", env=NONE), "", (taken, more))
-                for more in (".more : { LONG(7) }", ".more : { LONG(end) } x = .; z = .; .last 0x60 (NOLOAD) : { . += 4; y = .; }"):
+                for more in (".more : { LONG(7) }",
+                             ".more : { LONG(end) } x = .; z = .; .last 0x60 (NOLOAD) : { . += 4; y = .; }"):
                     self.write("t.ld", script % (form, taken, more))
                     self.compare(*words, "-T", "t.ld", "a.o", env={})
 

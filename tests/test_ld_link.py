@@ -72,8 +72,8 @@ class ExampleTest(LinkTest):
         if shutil.which("clang"):
             drivers.append(["clang", f"--ld-path={LD_LDI}"])
         for driver in drivers:
-            done = self.run_program(*driver, "-static", "-nostdlib", "-Wl,-T,linux.ld,-Map,hello.map,--Map-format=ldi", "-o", "hello",
-                                    objects[0], objects[2], "-L.", "-ltext")
+            done = self.run_program(*driver, "-static", "-nostdlib", "-Wl,-T,linux.ld,-Map,hello.map,--Map-format=ldi",
+                                    "-o", "hello", objects[0], objects[2], "-L.", "-ltext")
             self.assertEqual(done.returncode, 0, done.stderr)
             self.assertIn("primes below 100: 25", self.run_tool("./hello"))
             pieces = read_map((self.folder / "hello.map").read_bytes()).pieces()

@@ -50,7 +50,8 @@ class MapTest(OutsideTest):
         self.must("ar", "rcs", "libx.a", "l.o", "m.o")
 
     def lines(self, name: str) -> list[str]:
-        """The lines of a map, without empty sections of dynamic relocations, which GNU ld makes in a static link too."""
+        """The lines of a map, without empty sections of dynamic relocations, which GNU ld makes in a static link
+        too."""
         text = re.sub(r"\n \.rela\.[\w.]+\s+0x[0-9a-f]+\s+0x0 .*", "", self.read(name).decode())
         text = re.sub(r"\n\.rela\.[\w.]+\s*(0x[0-9a-f]+\s+0x0)?(?=\n)", "\n.rela", text)
         return text.splitlines()
@@ -67,13 +68,15 @@ class MapTest(OutsideTest):
 
     def test_script(self) -> None:
         """A script with regions, fills, data and assertions, the files before it, behind it and around it."""
-        for words in (["-T", "t.ld", "a.o", "libx.a"], ["a.o", "libx.a", "-T", "t.ld"], ["a.o", "-T", "t.ld", "-L.", "-lx"],
+        for words in (["-T", "t.ld", "a.o", "libx.a"], ["a.o", "libx.a", "-T", "t.ld"],
+                      ["a.o", "-T", "t.ld", "-L.", "-lx"],
                       ["-T", "t.ld", "--start-group", "a.o", "libx.a", "--end-group", "s.o"]):
             self.assertIn("libx.a(l.o) (dep)", "\n".join(self.same(*words)))
 
     def test_options(self) -> None:
         """Sections that are left out, all members, names that are asked for, `--cref`, a build ID, `--no-demangle`."""
-        for words in (["--gc-sections"], ["-u", "unused"], ["--cref"], ["-S"], ["--no-demangle"], ["--cref", "--gc-sections"]):
+        for words in (["--gc-sections"], ["-u", "unused"], ["--cref"], ["-S"], ["--no-demangle"],
+                      ["--cref", "--gc-sections"]):
             self.same(*words, "-T", "t.ld", "a.o", "s.o", "libx.a")
         self.same("-T", "t.ld", "a.o", "s.o", "--whole-archive", "libx.a")
 
@@ -93,8 +96,8 @@ class MapTest(OutsideTest):
         self.write("c.cc", text)
         for name in ("one", "other"):
             self.must("g++", "-O0", "-fno-pic", "-ffreestanding", "-fno-exceptions", "-fno-rtti", "-ffunction-sections",
-                      "-fno-threadsafe-statics", "-fno-asynchronous-unwind-tables", f"-DNAME={name}", "-c", "c.cc", "-o",
-                      f"{name}.o")
+                      "-fno-threadsafe-statics", "-fno-asynchronous-unwind-tables", f"-DNAME={name}", "-c", "c.cc",
+                      "-o", f"{name}.o")
         found = self.same("--no-demangle", "-T", "t.ld", "a.o", "libx.a", "one.o", "other.o")
         self.assertIn(" .group         0x0000000000000000        0xc other.o", found)
 

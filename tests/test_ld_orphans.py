@@ -70,7 +70,8 @@ class OrphansTest(OutsideTest):
         self.write("t.ld", before + SCRIPT.format(middle=middle, end=end, after=after))
 
     def both(self, *words: str) -> Done:
-        """Links by both; the images have the same sections, bytes and symbols, and nothing is said but of the orphans."""
+        """Links by both; the images have the same sections, bytes and symbols, and nothing is said but of the
+        orphans."""
         self.must("ld.bfd", *words, "-o", "gnu")
         done = self.links(*words, "-o", "own", env={"LDI_FALLBACK": "none"})
         gnu, own = self.image("gnu"), self.image("own")
@@ -191,7 +192,8 @@ class OrphansTest(OutsideTest):
         """Edits by which orphans come, grow, change their kind and go."""
         self.script(end="end = .;")
         words = ("-T", "t.ld", "a.o", "b.o", "-o", "served")
-        for number, text in enumerate((OTHER, OTHER.replace(".byte 1", ".byte 1, 2, 3"), OTHER + ".section .new,\"a\"\n.long 1\n",
+        for number, text in enumerate((OTHER, OTHER.replace(".byte 1", ".byte 1, 2, 3"),
+                                       OTHER + ".section .new,\"a\"\n.long 1\n",
                                        OTHER.replace('table,"aw"', 'table,"ax"'), "nop\n", OTHER)):
             with self.subTest(number=number):
                 self.compile("b.s", text)

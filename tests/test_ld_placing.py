@@ -92,7 +92,8 @@ class PlacingTest(OutsideTest):
         """The instructions of an image that are no gaps."""
         lines = self.must("objdump", "-d", "--no-show-raw-insn", name).splitlines()
         found = [line.split("\t", 1) for line in lines if "\t" in line]
-        return [f"{at.strip()} {code.strip()}" for at, code in found if not re.search(r"nop|add +%al,\(%rax\)|\.\.\.", code)]
+        return [f"{at.strip()} {code.strip()}" for at, code in found
+                if not re.search(r"nop|add +%al,\(%rax\)|\.\.\.", code)]
 
     def test_wrap(self) -> None:
         """References of other objects, and of an object that has what they are to; archives; two names."""
@@ -147,7 +148,8 @@ class PlacingTest(OutsideTest):
         self.compile("image.s", SYMBOLS + ".globl __bss_start, _edata, _end\n__bss_start: _edata: _end: .long 1\n")
         self.write("image.ld", IMAGE)
         self.must("ld.bfd", "-T", "image.ld", "image.o", "-o", "image")
-        self.compile("uses.s", ".globl _start, own\n_start: call entry\n mov $counter, %eax\n mov $_end, %ecx\n mov own, %edx\n"
+        self.compile("uses.s",
+                     ".globl _start, own\n_start: call entry\n mov $counter, %eax\n mov $_end, %ecx\n mov own, %edx\n"
                                ".weak _end\n.data\nown: .quad own, counter, block\n.comm block, 8, 8\n.quad soft\n")
         self.both("-R", "image", "uses.o")
         self.write("names.ld", SCRIPT.replace(".bss :", "counter = .; own = . + 8; .bss :").replace(
@@ -182,7 +184,8 @@ class PlacingTest(OutsideTest):
 
     def test_unique(self) -> None:
         """--unique: orphans apart, and sections of a name apart though statements match them."""
-        self.compile("orphans.s", '.section .own,"a"\n.byte 1\n.section .data.z,"aw"\n.byte 2\n.section .own2,"aw"\n.byte 3')
+        self.compile("orphans.s",
+                     '.section .own,"a"\n.byte 1\n.section .data.z,"aw"\n.byte 2\n.section .own2,"aw"\n.byte 3')
         self.compile("others.s", '.section .own,"a"\n.byte 4\n.section .own2,"aw"\n.byte 5\n')
         for words in (("--unique",), ("--unique=.own",), ("--unique=.data.*",), ("--unique=.own*", "--unique=.text.z")):
             self.both(*words, "-T", "t.ld", "sections.o", "orphans.o", "others.o", "start.o", "has.o")
@@ -190,8 +193,8 @@ class PlacingTest(OutsideTest):
     def test_addresses(self) -> None:
         """--section-start, -Ttext and its like, of sections of the script and of orphans."""
         self.compile("orphans.s", '.section .own,"a"\n.byte 1\n')
-        for words in (("-Ttext=0x500000",), ("-Tdata", "600000"), ("-Tbss=0x700000",), ("--section-start=.own=0x800000",),
-                      ("-Ttext=0x500000", "--section-start=.rodata=0x900000")):
+        for words in (("-Ttext=0x500000",), ("-Tdata", "600000"), ("-Tbss=0x700000",),
+                      ("--section-start=.own=0x800000",), ("-Ttext=0x500000", "--section-start=.rodata=0x900000")):
             self.both(*words, "-T", "t.ld", "sections.o", "orphans.o", "start.o", "has.o")
         done = self.links("--section-start=.nothing=0x5000", "-T", "t.ld", "sections.o", "-o", "own")
         self.assertIn(".nothing: the script has no such section", done.stderr)

@@ -53,7 +53,8 @@ class RelocationTest(SymbolTest):
     def test_names_of_what_is_not_loaded(self) -> None:
         """Names and local symbols that relocations of sections that are not loaded refer to alone."""
         self.write("t.ld", "SECTIONS { . = 0x1000; .text : { *(.text) } .info (INFO) : { *(.data) } }")
-        name = self.compile("a.s", ".globl start\nstart: nop\n.weak nowhere, here\n.data\n.quad nowhere\n.section .own\n"
+        name = self.compile("a.s",
+                            ".globl start\nstart: nop\n.weak nowhere, here\n.data\n.quad nowhere\n.section .own\n"
                             ".quad here, local\n.section .rodata.str1.1,\"aMS\",@progbits,1\nlocal: .string \"a\"\n"
                             ".section .note.GNU-stack\n")
         for words in ((), ("-x",)):
@@ -62,13 +63,15 @@ class RelocationTest(SymbolTest):
     def test_bounds_that_go(self) -> None:
         """`__start_NAME` that GNU ld takes back, as no output section NAME has the sections: its visibility stays."""
         self.write("t.ld", "SECTIONS { . = 0x1000; .text : { *(.text) *(cmds) } }")
-        self.same_relocations("-e", "start", "-T", "t.ld", self.compile("a.s", ".globl start\nstart: .weak __start_cmds\n"
+        self.same_relocations("-e", "start", "-T", "t.ld",
+                              self.compile("a.s", ".globl start\nstart: .weak __start_cmds\n"
                               '.quad __start_cmds\n.section cmds,"a"\n.byte 1\n.section .note.GNU-stack\n'))
 
     def test_first_values(self) -> None:
         """GNU ld keeps an entry where a symbol is no 32 bits before sections have places: that is said."""
         self.write("t.ld", "SECTIONS { . = 0x1000; .text : { *(.text) } .data : { far = -1; near = 2; LONG(0) } }")
-        name = self.compile("a.s", ".globl start\nstart: cmpl far@GOTPCREL(%rip), %eax\ncmpl near@GOTPCREL(%rip), %eax\n"
+        name = self.compile("a.s",
+                            ".globl start\nstart: cmpl far@GOTPCREL(%rip), %eax\ncmpl near@GOTPCREL(%rip), %eax\n"
                             ".section .note.GNU-stack\n")
         done = self.links("-e", "start", "-T", "t.ld", name, "-o", "own", env=NONE)
         self.assertIn("changed: references by a global offset table to far: GNU ld has entries of .got", done.stderr)

@@ -131,7 +131,8 @@ class SameTest(unittest.TestCase):
                 self.assertEqual(self.came(script, *words, defsym, inner=inner), SAME)
 
     def test_what_is_said(self) -> None:
-        """What the image cannot be is said: bytes that are not loaded. A section before those of its segment is in it."""
+        """What the image cannot be is said: bytes that are not loaded. A section before those of its segment is in
+        it."""
         script = "SECTIONS { . = 0x400000; .n (NOLOAD) : { *(.data*) } REST }"
         self.assertEqual(self.came(script), CHANGED)
         script = ("PHDRS { one PT_LOAD; two PT_LOAD; } SECTIONS { . = 0x400000; .a : { *(.text.*) } .b : { BYTE(1) } "

@@ -1,4 +1,5 @@
-"""Strings and constants of sections with SHF_MERGE, which are merged; each link beside GNU ld's image of the same words."""
+"""Strings and constants of sections with SHF_MERGE, which are merged; each link beside GNU ld's image of the same
+words."""
 from __future__ import annotations
 
 import subprocess
@@ -134,7 +135,8 @@ class MergedTest(StringTest):
         for lines in ((section(".rodata.a", 3), *text), (section(".rodata.a", 2), '.ascii "abc"', *text),
                       (section(".rodata.a"), *text, '.ascii "ab"'), (section(".rodata.a"), *text, ".quad _start"),
                       (section(".rodata.a", 8, "aM", 8), ".quad _start, _start"), (section(".rodata.a"),),
-                      (section(".rodata.a", 1, "aMS", 64), *text), (section(".rodata.a", 8, "aMS", 1), ".quad 1, 0, 1, 0")):
+                      (section(".rodata.a", 1, "aMS", 64), *text),
+                      (section(".rodata.a", 8, "aMS", 1), ".quad 1, 0, 1, 0")):
             with self.subTest(lines=lines):
                 self.assembled((*lines, ".data", ".quad .rodata.a + 1"), (*lines, ".data", ".quad .rodata.a"))
 
@@ -157,7 +159,8 @@ class PlacedTest(StringTest):
         """Those of one output section, one alignment and one kind, whatever their names and other flags are."""
         for body in ("*(.rodata*)", "*(.rodata*) *(.data.str*) *(.text.str*)", "*(SORT_BY_ALIGNMENT(.rodata*))",
                      "*(SORT(.rodata*)) o2.o(.data.str*)", "o2.o(.rodata*) *(.rodata*)",
-                     "*(EXCLUDE_FILE(*o1.o) .rodata*) } .second : { *(.rodata*)", "KEEP(*(.rodata.str1.8)) *(.rodata*)"):
+                     "*(EXCLUDE_FILE(*o1.o) .rodata*) } .second : { *(.rodata*)",
+                     "KEEP(*(.rodata.str1.8)) *(.rodata*)"):
             with self.subTest(body=body):
                 self.write("s.ld", SCRIPT.replace(".text : { *(.text .text.*) } =0x90909090 .rodata : { *(.rodata*) }",
                                                   f".text : {{ *(.text) }} .rodata : {{ {body} }} =0 "
@@ -194,7 +197,8 @@ class PlacedTest(StringTest):
     def test_archive(self) -> None:
         """Members of an archive."""
         for number, name in enumerate(("one", "two", "three")):
-            self.compile(f"{name}.s", assembly(f".globl {name}", f"{name}: call next_{number}" if number else f"{name}: nop",
+            self.compile(f"{name}.s",
+                         assembly(f".globl {name}", f"{name}: call next_{number}" if number else f"{name}: nop",
                                                ".weak next_1, next_2", section(".rodata.str"), f'.string "of {name}"',
                                                '.string "shared"', ".data", ".quad .rodata.str + 4"))
         self.must("ar", "rc", "lib.a", "one.o", "two.o", "three.o")
@@ -246,7 +250,8 @@ class EditTest(StringTest):
     def source(self, name: str, texts: tuple[str, ...], count: int) -> None:
         """Compiles a source with some strings and as many bytes of code."""
         letter = name[0]
-        self.compile(name, assembly(f".globl s{letter}", f"s{letter}: .fill {count}, 1, 0x90", section(".rodata.str1.1"),
+        self.compile(name,
+                     assembly(f".globl s{letter}", f"s{letter}: .fill {count}, 1, 0x90", section(".rodata.str1.1"),
                                     *texts, ".data", *([".quad .rodata.str1.1 + 2"] if texts else [])))
 
     def begin(self) -> None:
@@ -281,7 +286,8 @@ class EditTest(StringTest):
                     self.source(name, texts, count)
                     self.must("ld.bfd", *self.WORDS, "-o", "gnu")
                     wanted = read_image(self.read("gnu")).places()
-                    self.wait(lambda wanted=wanted: self.watched() == wanted, "the image is another")  # type: ignore[misc]
+                    self.wait(lambda wanted=wanted: self.watched() == wanted,
+                              "the image is another")  # type: ignore[misc]
             watching.terminate()
 
     def watched(self) -> object:

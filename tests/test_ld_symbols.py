@@ -153,13 +153,15 @@ class OptionTest(SymbolTest):
                 self.same("--gc-sections", *word, "-T", "t.ld", *objects)
 
     def test_types_of_what_is_left_out(self) -> None:
-        """A symbol has the type of the name that it is assigned, also of one that `--gc-sections` leaves out, or of itself."""
+        """A symbol has the type of the name that it is assigned, also of one that `--gc-sections` leaves out, or of
+        itself."""
         self.write("t.ld", "SECTIONS { alias = block; . = 0x1000; .text : { *(.text) } alias = .; }")
         name = self.compile("a.s", ".globl start\nstart: nop\n.comm block, 8, 8\n.type f, @function\n"
                             ".section .text.f\n.globl f\nf: nop\n.section .note.GNU-stack\n")
         table = self.same("--gc-sections", "-e", "start", "-T", "t.ld", name)
         self.assertEqual([entry.kind for entry in table.entries if entry.name == "alias"] if table else [], ["OBJECT"])
-        self.write("t.ld", "alias = block; SECTIONS { . = 0x1000; .text : { *(.text*) alias = alias; } .bss : { *(COMMON) } }")
+        self.write("t.ld",
+                   "alias = block; SECTIONS { . = 0x1000; .text : { *(.text*) alias = alias; } .bss : { *(COMMON) } }")
         self.same("-e", "start", "-T", "t.ld", name)
 
     def test_sections_that_are_not_made(self) -> None:
@@ -187,10 +189,14 @@ class OptionTest(SymbolTest):
         self.same("-e", "start", "-T", "t.ld", *objects)
 
     def test_sections_of_one_name(self) -> None:
-        """The right one of several output sections of a name: not an empty one, and the first that was made of `.text`."""
-        self.write("t.ld", "SECTIONS { . = 0x1000; .info : { . = ALIGN(16); } .text : { *(.nothing) } .code : { *(.text) }"
-                   " .info (COPY) : { *(.own) } .d : { *(.data) } .text : AT(ADDR(.text)) { end = 2; } .r : { BYTE(1) } }")
-        name = self.compile("a.s", ".globl start\nstart: nop\n.data\n.long 1\n.section .own,\"a\"\n.globl own\n.byte 1\n"
+        """The right one of several output sections of a name: not an empty one, and the first that was made of
+        `.text`."""
+        self.write("t.ld",
+                   "SECTIONS { . = 0x1000; .info : { . = ALIGN(16); } .text : { *(.nothing) } .code : { *(.text) }"
+                   " .info (COPY) : { *(.own) } .d : { *(.data) } .text : AT(ADDR(.text)) { end = 2; }"
+                   " .r : { BYTE(1) } }")
+        name = self.compile("a.s",
+                            ".globl start\nstart: nop\n.data\n.long 1\n.section .own,\"a\"\n.globl own\n.byte 1\n"
                             "own: .byte 2\n.section .note.GNU-stack\n")
         self.same("-e", "start", "-T", "t.ld", name)
 
@@ -249,7 +255,8 @@ class ObjectTest(SymbolTest):
         static int local() { return 1; }
         """
         flags = "-fno-rtti", "-fno-exceptions", "-fno-threadsafe-statics"
-        objects = [self.compile("a.cc", text + "int one() { A<int> a; A<long> b; return a.f(3) + b.f(4) + local(); }", *flags),
+        objects = [self.compile("a.cc", text + "int one() { A<int> a; A<long> b; return a.f(3) + b.f(4) + local(); }",
+                                *flags),
                    self.compile("b.cc", text + "int one(); extern \"C\" int start() { A<int> a; A<char> b; "
                                 "return a.f(3) + b.f(4) + one() + local(); }", *flags)]
         self.same("-T", "t.ld", *objects)
@@ -271,7 +278,8 @@ class LaterTest(SymbolTest):
     EDITS = (
         ("b.c", SECOND.replace("return x + local_data", "return x * 7 - local_data * x + 3")),
         ("b.c", SECOND.replace("local_data", "renamed_data")),
-        ("b.c", SECOND + "static __attribute__((used)) int more(void) { return 9; }\nint new_name(void) { return 4; }\n"),
+        ("b.c",
+         SECOND + "static __attribute__((used)) int more(void) { return 9; }\nint new_name(void) { return 4; }\n"),
         ("a.c", FIRST.replace("static __attribute__((used)) int unused", "int unused")),
         ("a.c", FIRST),
         ("b.c", SECOND),

@@ -162,7 +162,8 @@ class UnloadedTest(OutsideTest):
  .section .own,"",@progbits\n .quad _start, 5\n .long .Lhere\n .Lhere: .byte 1\n .section .strings,"MS",@progbits,1
  .string "abc"\n .string "bc"\n .byte 0,0\n .string "c"\n .section .refers,""\n .long .strings + 4, .strings + 5, .strings
  .long .strings + 9\n .section .info,"a"\n .quad _start\n .byte 7\n"""
-        words = [self.compile("a.s", text), self.compile("b.s", text.replace("_start", "other").replace("x y", "z x y"))]
+        words = [self.compile("a.s", text),
+                 self.compile("b.s", text.replace("_start", "other").replace("x y", "z x y"))]
         for script in (SCRIPT.replace("*(.note*)", "*(.note*) *(.info)"), TYPES):
             self.write("own.ld", script)
             found = {one.name for one in self.same("-T", "own.ld", *words)}
@@ -177,7 +178,8 @@ class UnloadedTest(OutsideTest):
         names = [self.compile(f"{name}.s", text.replace("NAME", name)) for name in ("_start", "start", "other")]
         sections = ".comment : { *(.comment) }", ".info (INFO) : { *(.rodata*) }", ".info (INFO) : { *(.rodata*) BYTE(1) }"
         for section in sections:
-            self.write("own.ld", f"SECTIONS {{ . = 0x1000; .text : {{ *(.text) }} {section} .data : {{ LONG(1) }} last = .; "
+            self.write("own.ld",
+                       f"SECTIONS {{ . = 0x1000; .text : {{ *(.text) }} {section} .data : {{ LONG(1) }} last = .; "
                        "size = SIZEOF(.comment); .comment 0 : { *(.comment) } .own 0 : { *(.own) } }")
             self.same("-T", "own.ld", *names)
             self.assertEqual(read_table(self.read("own")), read_table(self.read("gnu")))

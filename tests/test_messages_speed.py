@@ -21,7 +21,8 @@ class SpeedTest(MessageTest):
     def test_undefined(self) -> None:
         """F12 in objects with debug information, with lines that each are looked up."""
         calls = "\n".join(f"  y += f{k}(y);" for k in range(CALLS))
-        source = "".join(f"int f{k}(int);\n" for k in range(CALLS)) + f"static int g(int y)\n{{\n{calls}\n  return y;\n}}"
+        source = "".join(f"int f{k}(int);\n" for k in range(CALLS))
+        source += f"static int g(int y)\n{{\n{calls}\n  return y;\n}}"
         data = compiled(source + "\nint (*const v)(int) = g;".replace("const v", "const __attribute__((weak)) v"), "-g")
         objects = {f"o{k}.o": data for k in range(OBJECTS)}
         before = used()

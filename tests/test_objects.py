@@ -376,7 +376,8 @@ int {0}(int a) {{ return {0}_cold(a) + {0}_late(a); }}
 
     def test_other_order(self) -> None:
         """Code in another order than the objects: the tables follow it."""
-        for code in (".text : { c.o(.text) *(.text .text.*) }", ".late : { *(.text.late) } .text : { *(.text .text.*) }",
+        for code in (".text : { c.o(.text) *(.text .text.*) }",
+                     ".late : { *(.text.late) } .text : { *(.text .text.*) }",
                      ".text : { *(.text) c.o(.text.late) *(.text.late) }"):
             with self.subTest(code=code):
                 self.write("t.ld", SCRIPT.replace(".text : { *(.text .text.*) }", code))

@@ -68,8 +68,8 @@ class MountTest(ProjectTest):
     def shell(self, text: str, *words: str) -> None:
         """Runs a shell's text in a mount namespace of its own; `"$@"` is a call with these words."""
         done = subprocess.run(["unshare", "-m", "sh", "-ec", text, "sh", LD_LDI, *(words or WORDS)], cwd=self.folder,
-                              env=self.env(**self.serving()), capture_output=True, text=True, timeout=LIMIT, check=False,
-                              stdin=subprocess.DEVNULL)
+                              env=self.env(**self.serving()), capture_output=True, text=True, timeout=LIMIT,
+                              check=False, stdin=subprocess.DEVNULL)
         if "unshare" in done.stderr or "mount:" in done.stderr:
             raise unittest.SkipTest(done.stderr.strip())
         self.assertEqual(done.returncode, 0, done.stderr)

@@ -174,7 +174,8 @@ class PlaceTest(unittest.TestCase):
             (self.folder / stem).touch()
             image, other = stem + "1", stem + "2"
             words = ["-T", "t.ld", "-o", image, "--Map", other, "--once", *self.folder.names]
-            done = subprocess.run([LDI_WATCH, *words], cwd=self.folder.path, capture_output=True, text=True, timeout=PATIENCE)
+            done = subprocess.run([LDI_WATCH, *words], cwd=self.folder.path, capture_output=True, text=True,
+                                  timeout=PATIENCE)
             self.assertEqual((done.returncode, done.stderr), (0, ""))
             self.assertEqual((self.folder / image).read_bytes(), self.folder.link("--Map", "linked.map"))
             self.assertEqual((self.folder / other).read_bytes(), (self.folder / "linked.map").read_bytes())

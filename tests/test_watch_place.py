@@ -101,7 +101,8 @@ class SignalTest(WatchTest):
     def test_early(self) -> None:
         """A signal ends it whenever it comes, without a traceback."""
         begun = time.monotonic()
-        # What is ignored when it starts stays so, as SIGHUP under nohup, and SIGINT of what a shell has in the background.
+        # What is ignored when it starts stays so, as SIGHUP under nohup, and SIGINT of what a shell has in the
+        # background.
         numbers = [number for number in (signal.SIGINT, signal.SIGTERM, signal.SIGHUP)
                    if signal.getsignal(number) is not signal.SIG_IGN]
         for step in range(400):

@@ -77,7 +77,8 @@ class TextTest(FolderTest):
         self.begin()
         self.calls(2, "old", "f0")
         self.assertEqual([line.partition(" [")[0] for line in self.lines("the old image stays")],
-                         ["o2.o: (.text+0x1): undefined reference to `old'", "1 error, after o2.o; the old image stays"])
+                         ["o2.o: (.text+0x1): undefined reference to `old'",
+                          "1 error, after o2.o; the old image stays"])
         self.calls(1, "new", "f2")
         self.calls(2, "f0", "old", "newer")
         found = [self.lines("the old image stays")]
@@ -119,7 +120,8 @@ class TextTest(FolderTest):
         self.assertEqual(refused["inputs"][0]["line"], "o1.o: refused 4 1")
         os.unlink(self.folder / "o1.o")
         waiting = watching.next()
-        self.assertEqual((waiting["event"], waiting["reasons"]), ("waiting", [{"name": "o1.o", "why": "it is not there"}]))
+        self.assertEqual((waiting["event"], waiting["reasons"]),
+                         ("waiting", [{"name": "o1.o", "why": "it is not there"}]))
         for one in (linked, faults, refused, waiting):
             self.assertEqual(one["image"], "image")
             self.assertGreater(one["time"], 1e9)

@@ -39,7 +39,8 @@ class UsageTest(FolderTest):
         """First the regions, then sections that grew or shrank and regions that have more or less; nothing else."""
         self.begin("--print-memory-usage")
         first = sum(len(one) for one in (b"x" * 16 * 3, b"x" * (32 + 8) * 3))
-        self.assertRegex(self.line(), rf"^image: [0-9.]+ ms after t\.ld and 3 more; rom {first / 10:.1f} %, ram 0\.0 %$")
+        self.assertRegex(self.line(),
+                         rf"^image: [0-9.]+ ms after t\.ld and 3 more; rom {first / 10:.1f} %, ram 0\.0 %$")
         self.folder.renew(1, 2)
         self.assertRegex(self.line(), rf"^image: [0-9.]+ ms after o1\.o; \.text \+16, rom {(first + 16) / 10:.1f} %$")
         self.folder.renew(1, 5)

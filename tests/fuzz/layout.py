@@ -1,4 +1,5 @@
-"""Random scripts over random small objects: what `layout` makes of them beside what GNU ld does (`tools/fuzz-layout`)."""
+"""Random scripts over random small objects: what `layout` makes of them beside what GNU ld does
+(`tools/fuzz-layout`)."""
 from __future__ import annotations
 
 import os
@@ -236,7 +237,8 @@ def with_overlay(one: Case, seed: int) -> Case:
     lines = one.script.split("\n")
     at = next((i for i, line in enumerate(lines) if REST_OF.search(line)), None)
     if at is not None and random.random() < 0.6:
-        head = random.choice(["", " 0x700000", " . + 8"]) + " :" + random.choice(["", " AT(0x3000000)", " AT(0x3000004)"])
+        head = random.choice(["", " 0x700000", " . + 8"]) + " :"
+        head += random.choice(["", " AT(0x3000000)", " AT(0x3000004)"])
         tail = random.choice(["", " =0x90", " =0x1122"])
         bodies = random.sample(["*(.tab*)", "*(cmds)", "*(.rodata.*) LONG(1)", "*(.data)", "BYTE(1) . = ALIGN(8);"], 3)
         sections = " ".join(f".ov{i} {{ {body} }}" for i, body in enumerate(bodies))

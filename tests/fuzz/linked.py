@@ -49,8 +49,8 @@ def prepare(one: Case) -> None:
 
 def by_ldi(words: list[str]) -> tuple[int, str]:
     """The status of `ld.ldi`, and what it says; no other linker links in its place."""
-    done = subprocess.run([LD_LDI, *words], capture_output=True, text=True, errors="replace", timeout=LIMIT, check=False,
-                          env={**os.environ, "LDI_FALLBACK": "none", "LDI_SERVER": "0"})
+    done = subprocess.run([LD_LDI, *words], capture_output=True, text=True, errors="replace", timeout=LIMIT,
+                          check=False, env={**os.environ, "LDI_FALLBACK": "none", "LDI_SERVER": "0"})
     if done.returncode < 0 or done.returncode > 4:
         raise RuntimeError(f"status {done.returncode}: {done.stderr}")
     return done.returncode, done.stdout + done.stderr
@@ -101,7 +101,8 @@ def main(words: list[str]) -> int:
     tally: Counter[str] = Counter()
     for seed in range(first, first + count):
         if {"--commons", "--objects"}.intersection(given) and (seed == first or seed % 10 == 0):
-            objects.make(".", seed // 10 if "--commons" in given else None, seed // 10 if "--objects" in given else None)
+            objects.make(".", seed // 10 if "--commons" in given else None,
+                         seed // 10 if "--objects" in given else None)
         one = case(seed, "--gc-sections" in given, TWICE, "--objects" in given)
         if "--orphans" in given:
             one = without_rest(one, seed)

@@ -201,8 +201,8 @@ def groups(name: str, random: Random) -> str:
             lines += [f'.section {data}.{number},"awG",{rest}', f".weak {owner}_data", f"{owner}_data: .quad {owner}"]
         lines += [".data", f".quad {owner}"]
     if random.randrange(6) == 0:
-        lines += ['.section .text.linkonce,"ax"', ".byte 1", '.section .gnu.linkonce.t.once,"ax",@progbits', ".weak once",
-                  f"once: .byte {random.randrange(256)}, 3"]
+        lines += ['.section .text.linkonce,"ax"', ".byte 1", '.section .gnu.linkonce.t.once,"ax",@progbits',
+                  ".weak once", f"once: .byte {random.randrange(256)}, 3"]
     return "\n".join(lines) + "\n"
 
 
@@ -213,7 +213,8 @@ OPERATIONS = ["movq {0}@GOTPCREL(%rip), %rax", "movq {0}@GOTPCREL(%rip), %r12", 
 
 
 def references(name: str, text: str, random: Random) -> str:
-    """References by a global offset table: to names of the object, of others (which may not be there), to a local one."""
+    """References by a global offset table: to names of the object, of others (which may not be there), to a local
+    one."""
     own = own_names(text)
     lines = [f'.section .text.got{random.randrange(3)},"ax"', f"near_{name}: nop"]
     for _ in range(random.randrange(4)):
@@ -267,8 +268,8 @@ def ordered(name: str, random: Random) -> str:
     for number in range(random.randrange(3)):
         code = f".text.{random.choice('zyx')}{number}{name}"
         table = random.choice([".tab.order", "cmds", ".rodata.order"])
-        lines += [f'.section {code},"ax"', f"code_{name}_{number}: .byte 0x90", f'.section {table},"ao",@progbits,{code}',
-                  f".quad code_{name}_{number}"]
+        lines += [f'.section {code},"ax"', f"code_{name}_{number}: .byte 0x90",
+                  f'.section {table},"ao",@progbits,{code}', f".quad code_{name}_{number}"]
     return "\n".join(lines) + "\n"
 
 
@@ -291,7 +292,8 @@ def orphans(name: str, random: Random) -> str:
         if random.randrange(3) == 0:
             lines += [f".globl {name}_{place.replace('.', '_')}", f"{name}_{place.replace('.', '_')}:"]
     if random.randrange(2):
-        bounds = [f"__{word}_{place}" for word in ("start", "stop") for place in random.choice([["table"], ["other", "cmds"]])]
+        bounds = [f"__{word}_{place}" for word in ("start", "stop")
+                  for place in random.choice([["table"], ["other", "cmds"]])]
         lines += [".data", f".weak {', '.join(bounds)}", f".quad {', '.join(bounds)}"]
     return "\n".join(lines) + "\n"
 

@@ -365,8 +365,8 @@ def case(seed: int, collects: bool = False, twice: int = 3, with_tables: bool = 
 def without_rest(one: Case, seed: int) -> Case:
     """A case with orphans: some of the patterns that take all are left out."""
     random = Random(seed)
-    for name in ("*(.data .data.*)", "*(.bss .bss.*)", "*(.tab*)", "*(cmds)", "*(.text .text.*)", "*(.rodata .rodata.*)",
-                 "*(COMMON)", "*(.note.x)", "*(.vectors)", "*(.ramfunc)", "*(.noinit)"):
+    for name in ("*(.data .data.*)", "*(.bss .bss.*)", "*(.tab*)", "*(cmds)", "*(.text .text.*)",
+                 "*(.rodata .rodata.*)", "*(COMMON)", "*(.note.x)", "*(.vectors)", "*(.ramfunc)", "*(.noinit)"):
         if random.random() < 0.3:
             one.script = one.script.replace(name, "")
     return one
