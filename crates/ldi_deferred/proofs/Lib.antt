@@ -6,3 +6,5 @@ pub mod DeferredReplies
 pub mod DeferredHeads
 pub mod ImageChanges
 pub mod RangeTexts
+pub mod EqualLines
+pub mod Copying

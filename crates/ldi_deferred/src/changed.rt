@@ -6,9 +6,13 @@ ghost use Rattle.ldmodel_deferred.specs.Changes.{AreChanges};
 use ldmodel::memory::NoMemory;
 use ldmodel_deferred::changes::ByteRange;
 use std::alloc::Global;
+use std::simd::prelude::*;
 
 /// Images are compared by blocks of this many bytes.
 const BLOCK: usize = 4096;
+
+/// Blocks are compared by lines of this many bytes, a vector each.
+const LINE: usize = 64;
 
 /// Where the block at `from` ends: the last one ends with the image.
 fn block_end(from: usize, length: usize) -> usize
@@ -23,13 +27,51 @@ fn block_end(from: usize, length: usize) -> usize
     }
 }
 
+/// Whether two images have the same bytes in the line from `from` on.
+fn is_same_line(given: &[u8], image: &[u8], from: usize) -> bool
+    requires given { from + 64 ≤ length given.now }
+    requires image { from + 64 ≤ length image.now }
+    ensures { result ≡ true → (at : ℕ) → from ≤ at → at < from + 64
+        → slice_get given.now at ≡ slice_get image.now at }
+{
+    let before = u8x64::from_slice(&given[from..]);
+    let now = u8x64::from_slice(&image[from..]);
+    before.simd_ne(now).to_bitmask() == 0
+}
+
+/// The end of the lines from `from` on that are the same in both; no line goes past `end`.
+fn skip_lines(given: &[u8], image: &[u8], from: usize, end: usize) -> usize
+    requires ascending { from ≤ end }
+    requires given { end ≤ length given.now }
+    requires image { end ≤ length image.now }
+    ensures after { from ≤ result }
+    ensures within { result ≤ end }
+    ensures same { (at : ℕ) → from ≤ at → at < result → slice_get given.now at ≡ slice_get image.now at }
+{
+    let mut at = from;
+    while end - at >= LINE {
+        if !is_same_line(given, image, at) {
+            break;
+        }
+        at += LINE;
+    }
+    at
+}
+
 /// Whether an image has the same bytes as another in a range, which lies in the first.
 fn is_same(given: &[u8], image: &[u8], from: usize, end: usize) -> bool
     requires ascending { from ≤ end }
     requires within { end ≤ length image.now }
     ensures { result ≡ true → (at : ℕ) → from ≤ at → at < end → slice_get given.now at ≡ slice_get image.now at }
 {
-    end <= given.len() && given[from..end] == image[from..end]
+    if end > given.len() {
+        return false;
+    }
+    let at = skip_lines(given, image, from, end);
+    if end - at >= LINE {
+        return false;
+    }
+    given[at..end] == image[at..end]
 }
 
 /// The end of the blocks from `from` on that are the same in both.

@@ -14,7 +14,7 @@ ghost use Rattle.ldi_deferred.specs.Stepped.{EditStepped, Stepped};
 use crate::answer::{write_accepted, write_changes};
 use crate::changed::changed_ranges;
 use crate::head::{DeferredHead, read_deferred_head};
-use crate::remember::remember;
+use crate::remember::{remember, remember_changes};
 use ldi_stream::Status;
 use ldi_stream::answer::{write_bytes, write_linked, write_malformed, write_refused};
 use ldi_stream::devices::{Sink, Source};
@@ -190,7 +190,7 @@ fn serve_changes<W: Sink, L: DeferredLinker>(
     let image = linker.image();
     match changed_ranges(alloc, given, image) {
         Ok(ranges) => {
-            remember(given, image);
+            remember_changes(given, image, &ranges);
             write_changes(sink, image, &ranges)
         }
         Err(_) => {
