@@ -1,5 +1,6 @@
 """The two programs: `session` answers a stream of commands, `link` links files once."""
 import argparse
+import contextlib
 import os
 import sys
 
@@ -43,11 +44,11 @@ def session(options, is_deferred):
         return DEVICE
 
 
-def write(data):
-    """All of the bytes to standard output."""
+def write(data, number=1):
+    """All of the bytes to standard output, or to the file of this number."""
     left = memoryview(data)
     while left:
-        left = left[os.write(1, left):]
+        left = left[os.write(number, left):]
 
 
 def clash(given):
@@ -72,8 +73,8 @@ def link_files(given, options):
     """Reads all files, the script first; sets the script, adds the objects in order, and links once."""
     try:
         script, objects = contents(given.T), [(word, contents(word)) for word in given.objects]
-    except OSError:
-        return ended("device", DEVICE)
+    except FileFault as fault:
+        return ended(f"device\n{fault}", DEVICE)
     line = clash(given)
     if line is not None:
         return ended(line, REFUSED)
@@ -108,30 +109,57 @@ def write_files(given, linked):
         for file, data in outputs:
             if os.path.isfile(file) or not os.path.lexists(file):
                 beside[file] = f"{os.path.realpath(file)}.beside"
-                put(beside[file], data)
+                put(beside[file], file, data)
         for file, data in outputs:
             if file not in beside:
-                put(file, data)
+                put(file, file, data)
         for file, written in beside.items():
-            os.replace(written, os.path.realpath(file))
-    except OSError:
+            with doing("replaced", file):
+                os.replace(written, os.path.realpath(file))
+    except FileFault as fault:
         for written in beside.values():
             if os.path.exists(written):
                 os.remove(written)
-        return ended("device", DEVICE)
+        return ended(f"device\n{fault}", DEVICE)
     return linked.status
 
 
-def put(file, data):
-    """Writes a file."""
-    with open(file, "wb") as out:
-        out.write(data)
+class FileFault(Exception):
+    """What could not be done with which file, and the system's reason."""
+
+    def __init__(self, done, file, error):
+        super().__init__(f"{file}: cannot be {done}: {error.strerror} (os error {error.errno})")
+
+
+@contextlib.contextmanager
+def doing(done, file):
+    """An error of the system in this block is a fault of the file."""
+    try:
+        yield
+    except OSError as error:
+        raise FileFault(done, file, error) from error
+
+
+def put(path, file, data):
+    """Writes a file at a path."""
+    with doing("opened", file):
+        number = os.open(path, os.O_WRONLY | os.O_CREAT | os.O_TRUNC, 0o666)
+    try:
+        with doing("written", file):
+            write(data, number)
+    finally:
+        os.close(number)
 
 
 def contents(file):
     """The bytes of a file."""
-    with open(file, "rb") as opened:
-        return opened.read()
+    with doing("opened", file):
+        number = os.open(file, os.O_RDONLY)
+    try:
+        with doing("read", file):
+            return b"".join(iter(lambda: os.read(number, 1 << 20), b""))
+    finally:
+        os.close(number)
 
 
 def ended(line, status):

@@ -469,17 +469,22 @@ def object_cases(result):
 def program_cases(result):
     """`link` over files: statuses, standard error, and which files are made."""
     program = os.path.join(os.path.dirname(os.path.dirname(os.path.abspath(__file__))), "model")
+
+    def device(name):
+        return f"device\n{name}: cannot be opened: No such file or directory (os error 2)\n".encode()
+
     with tempfile.TemporaryDirectory() as folder:
         for name, content in (("t.ld", T.encode()), ("a.o", A), ("c.o", B), ("bad.ld", b"SECTIONS"), ("bad.o", b"")):
             with open(os.path.join(folder, name), "wb") as out:
                 out.write(content)
         table = [
             ("-T t.ld -o out --Map m a.o", 0, b"", True), ("-T t.ld -o out a.o a.o", 2, b"a.o: refused 1 0\n", False),
-            ("-T t.ld -o out no.o", 3, b"device\n", False), ("-T bad.ld -o out no.o", 3, b"device\n", False),
+            ("-T t.ld -o out no.o", 3, device("no.o"), False), ("-T bad.ld -o out no.o", 3, device("no.o"), False),
             ("-T bad.ld -o out bad.o", 2, b"script: refused 5 2\n", False),
             ("-T t.ld -o out bad.o", 2, b"bad.o: refused 4 1\n", False), ("-T t.ld -o out", 0, b"", True),
             ("-T t.ld -o out --Map m c.o", 1, b"F12 c.o .text 0000000000000001 w\n", False),
-            ("-T t.ld -o no/out a.o", 3, b"device\n", False), ("-T t.ld -o out -e nope a.o", 1, b"F2 nope\n", False)]
+            ("-T t.ld -o no/out a.o", 3, device("no/out"), False),
+            ("-T t.ld -o out -e nope a.o", 1, b"F2 nope\n", False)]
         for words, status, errors, made in table:
             for name in ("out", "m"):
                 if os.path.exists(os.path.join(folder, name)):

@@ -1,3 +1,4 @@
 pub mod Exit
 pub mod Session
 pub mod DeferredSession
+pub mod Fault

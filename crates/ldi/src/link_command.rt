@@ -1,11 +1,14 @@
 //! `ldi link`: reads the files, the script first, links once, and writes the image and the map.
 
-ghost use Rattle.std.specs.Prelude.{◌≡◌, ◌↔◌, IsSome, IfSome, Ok};
+ghost use Rattle.std.specs.Prelude.{◌≡◌, ◌↔◌, ◌∷◌, [], IsSome, IfErr, IfSome, Ok};
 ghost use Rattle.relink.specs.driver.Answer.{answer_of};
 ghost use Rattle.ldmodel.specs.LinkCommand.{link_status};
+ghost use Rattle.ldi_files.specs.Fault.{IsOutputFault};
+ghost use Rattle.ldi.specs.Fault.{IsFaultAmong, inputs, outputs};
 
 use crate::{DEVICE, NO_MEMORY, REFUSED};
 use ldi_files::clash::{Clash, Outputs, Role};
+use ldi_files::fault::FileFault;
 use ldi_files::reading::FileReader;
 use ldi_files::writing::{NewFile, write_files};
 use ldmodel::edit::MAX_PAYLOAD;
@@ -44,22 +47,65 @@ pub struct FileNames {
 
 /// Why files are not linked, or not written.
 #[derive(Drop)]
-enum FileFault {
-    /// One cannot be read or written; of kind `OutOfMemory` if memory ran out.
-    Device(io::Error),
+enum CommandFault<'a> {
+    /// One cannot be read or written, or memory ran out.
+    File(FileFault<'a>),
+    /// The system gives no seed for hash tables.
+    Seed(io::Error),
     /// One that is written is named a second time.
     Clash(Clash),
 }
 
-impl From<io::Error> for FileFault {
-    fn from(error: io::Error) -> FileFault {
-        FileFault::Device(error)
+impl<'a> From<FileFault<'a>> for CommandFault<'a> {
+    ghost use Rattle.std.specs.Prelude.{◌≡◌};
+    ghost use Rattle.ldi.specs.declared.link_command.CommandFault.TheVariants.{File};
+
+    ghost from_gives = { λ fault given. given ≡ File fault };
+
+    fn from(fault: FileFault<'a>) -> Self {
+        CommandFault::File(fault)
     }
 }
 
-impl From<AllocError> for FileFault {
-    fn from(error: AllocError) -> FileFault {
-        FileFault::Device(io::Error::from(error))
+impl From<AllocError> for CommandFault<'_> {
+    ghost use Rattle.std.specs.Prelude.{◌≡◌};
+    ghost use Rattle.ldi_files.specs.declared.fault.FileFault.TheVariants.{Memory};
+    ghost use Rattle.ldi.specs.declared.link_command.CommandFault.TheVariants.{File};
+
+    ghost from_gives = { λ _ given. given ≡ File Memory };
+
+    fn from(error: AllocError) -> Self {
+        CommandFault::File(FileFault::from(error))
+    }
+}
+
+impl CommandFault<'_> {
+    ghost use Rattle.std.specs.Prelude.{◌≡◌};
+    ghost use Rattle.ldi.specs.Fault.{fault_status};
+
+    /// Says on standard error why, and gives the status to end with. If that cannot be written, the status alone says
+    /// it.
+    fn report(&self, rt: &impl Eprint) -> u8
+        ensures { result ≡ fault_status self.now }
+    {
+        match self {
+            CommandFault::File(FileFault::Memory) => {
+                let _ = eprintln!(rt; "memory");
+                NO_MEMORY
+            }
+            CommandFault::File(fault) => {
+                let _ = eprintln!(rt; "device\n{fault}");
+                DEVICE
+            }
+            CommandFault::Seed(error) => {
+                let _ = eprintln!(rt; "device\nrandom bytes: {error}");
+                DEVICE
+            }
+            CommandFault::Clash(clash) => {
+                clash.report(rt);
+                REFUSED
+            }
+        }
     }
 }
 
@@ -68,7 +114,9 @@ impl From<AllocError> for FileFault {
 /// # Errors
 ///
 /// If image and map are one file.
-fn outputs(rt: &HostRuntime, names: &FileNames) -> Result<Outputs, FileFault> {
+fn outputs<'a>(rt: &HostRuntime, names: &'a FileNames) -> Result<Outputs, CommandFault<'a>>
+    ensures { IfErr result (IsFaultAmong [] []) }
+{
     let image = names.image.as_str();
     let map = match &names.map {
         Some(map) => Some(map.as_str()),
@@ -76,7 +124,7 @@ fn outputs(rt: &HostRuntime, names: &FileNames) -> Result<Outputs, FileFault> {
     };
     let outputs = Outputs::of(rt, image, map)?;
     match outputs.own_clash(rt.alloc(), image)? {
-        Some(clash) => Err(FileFault::Clash(clash)),
+        Some(clash) => Err(CommandFault::Clash(clash)),
         None => Ok(outputs),
     }
 }
@@ -86,16 +134,18 @@ fn outputs(rt: &HostRuntime, names: &FileNames) -> Result<Outputs, FileFault> {
 /// # Errors
 ///
 /// If it cannot be read, or is one of the outputs.
-fn read_input(
+fn read_input<'a>(
     rt: &HostRuntime,
     reader: &mut FileReader,
     outputs: &Outputs,
     role: Role,
-    name: &str,
-) -> Result<Vec<u8>, FileFault> {
+    name: &'a str,
+) -> Result<Vec<u8>, CommandFault<'a>>
+    ensures { IfErr result (IsFaultAmong (name.now ∷ []) []) }
+{
     let file = reader.read(rt, name)?;
     match outputs.clash_with(rt.alloc(), file.id, role, name)? {
-        Some(clash) => Err(FileFault::Clash(clash)),
+        Some(clash) => Err(CommandFault::Clash(clash)),
         None => Ok(file.bytes),
     }
 }
@@ -112,11 +162,13 @@ struct Inputs {
 /// # Errors
 ///
 /// As `read_input`, for the first that fails.
-fn read_inputs(
+fn read_inputs<'a>(
     rt: &HostRuntime,
-    names: &FileNames,
+    names: &'a FileNames,
     outputs: &Outputs,
-) -> Result<Inputs, FileFault> {
+) -> Result<Inputs, CommandFault<'a>>
+    ensures { IfErr result (IsFaultAmong (inputs names.now) []) }
+{
     let mut reader = FileReader::new(rt.alloc(), MOST)?;
     let script = read_input(
         rt,
@@ -137,14 +189,19 @@ fn read_inputs(
 }
 
 /// Reads all files, the script first, and links. Without a file for the map none is made.
-fn link_read(
+fn link_read<'a>(
     rt: &HostRuntime,
-    names: &FileNames,
+    names: &'a FileNames,
     options: Options,
-) -> Result<Result<Output, LinkFault>, FileFault> {
+) -> Result<Result<Output, LinkFault>, CommandFault<'a>>
+    ensures { IfErr result (IsFaultAmong (inputs names.now) []) }
+{
     let outputs = outputs(rt, names)?;
     let Inputs { script, objects } = read_inputs(rt, names, &outputs)?;
-    let seed = RandomState::new(rt)?;
+    let seed = match RandomState::new(rt) {
+        Ok(seed) => seed,
+        Err(error) => return Err(CommandFault::Seed(error)),
+    };
     let alloc = rt.alloc();
     Ok(match names.map {
         Some(_) => link(alloc, seed, script, objects, options),
@@ -164,7 +221,13 @@ fn good_output(outcome: &Result<Output, LinkFault>) -> Option<&Output>
 }
 
 /// Writes the map and the image.
-fn write_output(rt: &HostRuntime, names: &FileNames, output: &Output) -> io::Result<()> {
+fn write_output<'a>(
+    rt: &HostRuntime,
+    names: &'a FileNames,
+    output: &Output,
+) -> Result<(), FileFault<'a>>
+    ensures { IfErr result (IsOutputFault (outputs names.now)) }
+{
     let image = NewFile {
         name: names.image.as_str(),
         mode: IMAGE_MODE,
@@ -185,11 +248,13 @@ fn write_output(rt: &HostRuntime, names: &FileNames, output: &Output) -> io::Res
 
 /// Writes the image and the map of a good link, or what else there is to say on standard error. Gives the status to end
 /// with.
-fn end_with(
+fn end_with<'a>(
     rt: &HostRuntime,
-    names: &FileNames,
+    names: &'a FileNames,
     outcome: &Result<Output, LinkFault>,
-) -> io::Result<u8> {
+) -> Result<u8, FileFault<'a>>
+    ensures { IfErr result (IsOutputFault (outputs names.now)) }
+{
     match good_output(outcome) {
         Some(output) => write_output(rt, names, output)?,
         None => {
@@ -201,7 +266,13 @@ fn end_with(
 }
 
 /// Links files, and gives the status to end with.
-fn link_named(rt: &HostRuntime, names: &FileNames, options: Options) -> Result<u8, FileFault> {
+fn link_named<'a>(
+    rt: &HostRuntime,
+    names: &'a FileNames,
+    options: Options,
+) -> Result<u8, CommandFault<'a>>
+    ensures { IfErr result (IsFaultAmong (inputs names.now) (outputs names.now)) }
+{
     let outcome = link_read(rt, names, options)?;
     Ok(end_with(rt, names, &outcome)?)
 }
@@ -211,17 +282,6 @@ fn link_named(rt: &HostRuntime, names: &FileNames, options: Options) -> Result<u
 pub fn link_files(rt: &HostRuntime, names: &FileNames, options: Options) -> u8 {
     match link_named(rt, names, options) {
         Ok(status) => status,
-        Err(FileFault::Clash(clash)) => {
-            clash.report(rt);
-            REFUSED
-        }
-        Err(FileFault::Device(error)) if error.kind() == io::ErrorKind::OutOfMemory => {
-            let _ = eprintln!(rt; "memory");
-            NO_MEMORY
-        }
-        Err(FileFault::Device(_)) => {
-            let _ = eprintln!(rt; "device");
-            DEVICE
-        }
+        Err(fault) => fault.report(rt),
     }
 }

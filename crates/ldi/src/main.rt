@@ -7,7 +7,7 @@
 //!
 //! `ldi link` reads a script and objects, links once, and writes the image and the map. It ends with 0 when they are
 //! written, with 1 after fault lines on standard error, with 2 if a file or the words of the command line are refused,
-//! with 3 if a file cannot be read or written, and with 4 out of memory.
+//! with 3 if a file cannot be read or written, which standard error names, and with 4 out of memory.
 #![tactic(auto)]
 
 ghost use Rattle.std.specs.Prelude.{◌≡◌};

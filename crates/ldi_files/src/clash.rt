@@ -1,8 +1,7 @@
 //! A file that is written and that another word of the command line names too.
 
 use crate::place::{FileId, Place};
-use std::alloc::Global;
-use std::io;
+use std::alloc::{AllocError, Global};
 use std::rt::Files;
 
 /// What a word of the command line names.
@@ -59,12 +58,12 @@ impl Outputs {
     ///
     /// # Errors
     ///
-    /// Of kind `OutOfMemory` if memory runs out.
+    /// If memory runs out.
     pub fn of<R: Files + AllocGlobal>(
         rt: &R,
         image: &str,
         map: Option<&str>,
-    ) -> io::Result<Outputs> {
+    ) -> Result<Outputs, AllocError> {
         Ok(Outputs {
             image: Place::of(rt, image)?,
             map: match map {
@@ -79,7 +78,7 @@ impl Outputs {
     /// # Errors
     ///
     /// If memory runs out.
-    pub fn own_clash(&self, alloc: Global, name: &str) -> io::Result<Option<Clash>> {
+    pub fn own_clash(&self, alloc: Global, name: &str) -> Result<Option<Clash>, AllocError> {
         match &self.map {
             Some(map) if map.is_same(&self.image) => {
                 let name = String::from_str(alloc, name)?;
@@ -115,7 +114,7 @@ impl Outputs {
         file: Option<FileId>,
         other: Role,
         name: &str,
-    ) -> io::Result<Option<Clash>> {
+    ) -> Result<Option<Clash>, AllocError> {
         let Some(written) = file.and_then(|file| self.role_of(file)) else {
             return Ok(None);
         };

@@ -1,11 +1,12 @@
 //! Which file a name leads to.
 
+use std::alloc::AllocError;
+use std::fs;
 use std::fs::Metadata;
 use std::io::ErrorKind;
 use std::os::unix::fs::MetadataExt;
 use std::path::PathBuf;
 use std::rt::Files;
-use std::{fs, io};
 
 /// How many links are followed that lead to no file: as many as Linux follows.
 const MOST_LINKS: usize = 40;
@@ -48,8 +49,8 @@ impl Place {
     ///
     /// # Errors
     ///
-    /// Of kind `OutOfMemory` if memory runs out.
-    pub fn of<R: Files + AllocGlobal>(rt: &R, name: &str) -> io::Result<Place> {
+    /// If memory runs out.
+    pub fn of<R: Files + AllocGlobal>(rt: &R, name: &str) -> Result<Place, AllocError> {
         match fs::metadata(rt, name) {
             Ok(metadata) => Ok(FileId::of_regular(&metadata).map_or(Place::Other, Place::File)),
             Err(_) => new_place(rt, name),
@@ -77,7 +78,7 @@ impl Place {
 }
 
 /// The path that a name is, after links that lead to no file.
-fn behind_links<R: Files + AllocGlobal>(rt: &R, name: &str) -> io::Result<PathBuf> {
+fn behind_links<R: Files + AllocGlobal>(rt: &R, name: &str) -> Result<PathBuf, AllocError> {
     let mut path = PathBuf::from_str(rt.alloc(), name)?;
     for _ in 0..MOST_LINKS {
         match fs::read_link(rt, path.as_path()) {
@@ -85,7 +86,7 @@ fn behind_links<R: Files + AllocGlobal>(rt: &R, name: &str) -> io::Result<PathBu
                 path.pop();
                 path.push(target.as_path())?;
             }
-            Err(error) if error.kind() == ErrorKind::OutOfMemory => return Err(error),
+            Err(error) if error.kind() == ErrorKind::OutOfMemory => return Err(AllocError),
             Err(_) => break,
         }
     }
@@ -93,7 +94,7 @@ fn behind_links<R: Files + AllocGlobal>(rt: &R, name: &str) -> io::Result<PathBu
 }
 
 /// Where a name leads that leads to no file.
-fn new_place<R: Files + AllocGlobal>(rt: &R, name: &str) -> io::Result<Place> {
+fn new_place<R: Files + AllocGlobal>(rt: &R, name: &str) -> Result<Place, AllocError> {
     let path = behind_links(rt, name)?;
     let (Some(folder), Some(last)) = (path.parent(), path.file_name()) else {
         return Ok(Place::Other);

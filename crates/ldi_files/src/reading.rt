@@ -1,10 +1,12 @@
 //! The bytes of a file.
 
-ghost use Rattle.std.specs.Prelude.{◌≡◌, ◌≤◌, ◌⊎◌, ◌++◌, take, length, IfOk, IfSome};
+ghost use Rattle.std.specs.Prelude.{◌≡◌, ◌≤◌, ◌⊎◌, ◌++◌, ◌∷◌, [], take, length, IfErr, IfOk, IfSome};
 ghost use Rattle.std.specs.Io.KnownBytes.{Consumes};
+ghost use Rattle.ldi_files.specs.Fault.{IsInputFault};
 
+use crate::fault::{Action, FileFault};
 use crate::place::FileId;
-use std::alloc::Global;
+use std::alloc::{AllocError, Global};
 use std::fs::{File, OpenFile};
 use std::io;
 use std::io::{ErrorKind, Read};
@@ -97,7 +99,7 @@ impl FileReader {
     /// # Errors
     ///
     /// If memory runs out.
-    pub fn new(alloc: Global, most: usize) -> io::Result<FileReader> {
+    pub fn new(alloc: Global, most: usize) -> Result<FileReader, AllocError> {
         let buffer = vec![in alloc; 0; AT_ONCE]?;
         Ok(FileReader { buffer, most })
     }
@@ -106,13 +108,29 @@ impl FileReader {
     ///
     /// # Errors
     ///
-    /// If the file can't be read; of kind `OutOfMemory` if memory runs out.
-    pub fn read<R: Files + AllocGlobal>(&mut self, rt: &R, name: &str) -> io::Result<ReadFile> {
-        let file = File::open(rt, name)?;
+    /// If the file can't be opened or read, or memory runs out.
+    pub fn read<'a, R: Files + AllocGlobal>(
+        &mut self,
+        rt: &R,
+        name: &'a str,
+    ) -> Result<ReadFile, FileFault<'a>>
+        ensures { IfErr result (IsInputFault (name.now ∷ [])) }
+    {
+        let file = File::open(rt, name).map_err(|error| FileFault::of(Action::Open, name, error))?;
+        self.read_opened(rt.alloc(), file)
+            .map_err(|error| FileFault::of(Action::Read, name, error))
+    }
+
+    /// A file that is open.
+    fn read_opened<F: OpenFile + Read + Drop>(
+        &mut self,
+        alloc: Global,
+        file: F,
+    ) -> io::Result<ReadFile> {
         let metadata = file.metadata()?;
         let size = usize::try_from(metadata.len()).unwrap_or(self.most);
         let room = self.buffer.len().min(self.most);
-        let bytes = read_bytes(rt.alloc(), file, size, self.most, &mut self.buffer[..room])?;
+        let bytes = read_bytes(alloc, file, size, self.most, &mut self.buffer[..room])?;
         Ok(ReadFile {
             id: FileId::of_regular(&metadata),
             bytes,

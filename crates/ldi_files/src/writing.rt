@@ -1,6 +1,10 @@
 //! The files that a link makes. A regular file is written beside its place, and put there once all files are written:
 //! where one cannot be written, the old ones stay as they were.
 
+ghost use Rattle.std.specs.Prelude.{◌∷◌, [], map, IfErr};
+ghost use Rattle.ldi_files.specs.Fault.{IsOutputFault, name_of};
+
+use crate::fault::{Action, FileFault};
 use std::fs::{OpenFile, OpenOptions};
 use std::io::{ErrorKind, Write};
 use std::os::unix::fs::OpenOptionsExt;
@@ -11,14 +15,14 @@ use std::{fs, io};
 
 /// A file that is to be written.
 #[derive(Clone, Copy)]
-pub struct NewFile<'a> {
+pub struct NewFile<'a, 'b> {
     /// Its name.
     pub name: &'a str,
     /// The permission bits that it is made with. The system takes away the bits of the umask, as of each file that is
     /// made.
     pub mode: u32,
     /// Its bytes.
-    pub bytes: &'a [u8],
+    pub bytes: &'b [u8],
 }
 
 /// A file that is written and not yet in its place.
@@ -57,17 +61,25 @@ fn unused_name<R: RandomSource + AllocGlobal>(rt: &R) -> io::Result<String> {
     Ok(format!(in rt.alloc(); ".ldi-{number:016x}.new")?)
 }
 
+/// The path beside its place under which a file is written.
+fn temporary_path<R: RandomSource + AllocGlobal>(rt: &R, place: &PathBuf) -> io::Result<PathBuf> {
+    let name = unused_name(rt)?;
+    Ok(place.with_file_name(rt.alloc(), name.as_str())?)
+}
+
 /// Writes a file beside its place; gives nothing if it is to be written in place, as a device is, or a file in a folder
 /// where none may be made.
-fn write_beside<R: Files + RandomSource + AllocGlobal>(
+fn write_beside<'a, R: Files + RandomSource + AllocGlobal>(
     rt: &R,
-    file: &NewFile<'_>,
-) -> io::Result<Option<Beside>> {
-    let Some(place) = place_beside(rt, file.name)? else {
+    file: &NewFile<'a, '_>,
+) -> Result<Option<Beside>, FileFault<'a>>
+    ensures { IfErr result (IsOutputFault (name_of file.now ∷ [])) }
+{
+    let not_opened = |error| FileFault::of(Action::Open, file.name, error);
+    let Some(place) = place_beside(rt, file.name).map_err(not_opened)? else {
         return Ok(None);
     };
-    let name = unused_name(rt)?;
-    let temporary = place.with_file_name(rt.alloc(), name.as_str())?;
+    let temporary = temporary_path(rt, &place).map_err(not_opened)?;
     let opened = OpenOptions::new()
         .write(true)
         .create_new(true)
@@ -76,34 +88,39 @@ fn write_beside<R: Files + RandomSource + AllocGlobal>(
     let mut out = match opened {
         Ok(out) => out,
         Err(error) if error.kind() == ErrorKind::PermissionDenied => return Ok(None),
-        Err(error) => return Err(error),
+        Err(error) => return Err(not_opened(error)),
     };
     if let Err(error) = out.write_all(file.bytes) {
         let _ = fs::remove_file(rt, temporary.as_path());
-        return Err(error);
+        return Err(FileFault::of(Action::Write, file.name, error));
     }
     Ok(Some(Beside { temporary, place }))
 }
 
 /// Writes a file in place of what it held. If that fails, no part of the bytes is left of it.
-fn write_in_place<R: Files>(rt: &R, file: &NewFile<'_>) -> io::Result<()> {
+fn write_in_place<'a, R: Files>(rt: &R, file: &NewFile<'a, '_>) -> Result<(), FileFault<'a>>
+    ensures { IfErr result (IsOutputFault (name_of file.now ∷ [])) }
+{
     let mut out = OpenOptions::new()
         .write(true)
         .create(true)
         .truncate(true)
         .mode(file.mode)
-        .open(rt, file.name)?;
+        .open(rt, file.name)
+        .map_err(|error| FileFault::of(Action::Open, file.name, error))?;
     let written = out.write_all(file.bytes);
     if written.is_err() {
         // a device has no length to set
         let _ = out.set_len(0);
     }
-    written
+    written.map_err(|error| FileFault::of(Action::Write, file.name, error))
 }
 
 /// Puts a file that is written into its place. Where the system does not let another file have the name, as that of a
 /// mounted file or of another user's in a folder for all, it is written in place.
-fn put<R: Files>(rt: &R, file: &NewFile<'_>, beside: &Beside) -> io::Result<()> {
+fn put<'a, R: Files>(rt: &R, file: &NewFile<'a, '_>, beside: &Beside) -> Result<(), FileFault<'a>>
+    ensures { IfErr result (IsOutputFault (name_of file.now ∷ [])) }
+{
     match fs::rename(rt, beside.temporary.as_path(), beside.place.as_path()) {
         Ok(()) => Ok(()),
         Err(error) => match error.kind() {
@@ -112,18 +129,20 @@ fn put<R: Files>(rt: &R, file: &NewFile<'_>, beside: &Beside) -> io::Result<()> 
                 let _ = fs::remove_file(rt, beside.temporary.as_path());
                 Ok(())
             }
-            _ => Err(error),
+            _ => Err(FileFault::of(Action::Rename, file.name, error)),
         },
     }
 }
 
 /// Writes all files: each regular one beside its place, then the others in place, and then puts the regular ones into
 /// their places.
-fn write_all_files<R: Files + RandomSource + AllocGlobal>(
+fn write_all_files<'a, R: Files + RandomSource + AllocGlobal>(
     rt: &R,
-    files: &[NewFile<'_>],
+    files: &[NewFile<'a, '_>],
     beside: &mut Vec<Option<Beside>>,
-) -> io::Result<()> {
+) -> Result<(), FileFault<'a>>
+    ensures { IfErr result (IsOutputFault (map name_of files.now)) }
+{
     for file in files {
         beside.push(write_beside(rt, file)?)?;
     }
@@ -144,12 +163,14 @@ fn write_all_files<R: Files + RandomSource + AllocGlobal>(
 ///
 /// # Errors
 ///
-/// If one cannot be written. Then each regular file is as it was, or does not exist if it did not; a file behind a link
-/// that led to no file, or in a folder where none may be made, is empty. Of kind `OutOfMemory` if memory runs out.
-pub fn write_files<R: Files + RandomSource + AllocGlobal>(
+/// If one cannot be written, or memory runs out. Then each regular file is as it was, or does not exist if it did not;
+/// a file behind a link that led to no file, or in a folder where none may be made, is empty.
+pub fn write_files<'a, R: Files + RandomSource + AllocGlobal>(
     rt: &R,
-    files: &[NewFile<'_>],
-) -> io::Result<()> {
+    files: &[NewFile<'a, '_>],
+) -> Result<(), FileFault<'a>>
+    ensures { IfErr result (IsOutputFault (map name_of files.now)) }
+{
     let mut beside = Vec::with_capacity(rt.alloc(), files.len())?;
     let written = write_all_files(rt, files, &mut beside);
     if written.is_err() {
