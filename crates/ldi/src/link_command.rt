@@ -48,11 +48,11 @@ pub struct FileNames {
 /// Why files are not linked, or not written.
 #[derive(Drop)]
 enum CommandFault<'a> {
-    /// One cannot be read or written, or memory ran out.
+    /// A file cannot be read or written, or memory ran out.
     File(FileFault<'a>),
     /// The system gives no seed for hash tables.
     Seed(io::Error),
-    /// One that is written is named a second time.
+    /// An output is named a second time.
     Clash(Clash),
 }
 
@@ -83,8 +83,7 @@ impl CommandFault<'_> {
     ghost use Rattle.std.specs.Prelude.{◌≡◌};
     ghost use Rattle.ldi.specs.Fault.{fault_status};
 
-    /// Says on standard error why, and gives the status to end with. If that cannot be written, the status alone says
-    /// it.
+    /// Prints the reason on standard error, and returns the exit status. If that fails, only the status reports it.
     fn report(&self, rt: &impl Eprint) -> u8
         ensures { result ≡ fault_status self.now }
     {
@@ -109,7 +108,7 @@ impl CommandFault<'_> {
     }
 }
 
-/// Where the outputs lead.
+/// The files that the names of the outputs lead to.
 ///
 /// # Errors
 ///
@@ -209,7 +208,7 @@ fn link_read<'a>(
     })
 }
 
-/// What a link writes to files: its output, if it is one without faults.
+/// The output of a link without faults, which is written to files.
 fn good_output(outcome: &Result<Output, LinkFault>) -> Option<&Output>
     ensures good { IsSome result ↔ link_status (answer_of outcome.now) ≡ 0 }
     ensures output { IfSome result (λ output. outcome.now ≡ Ok output.now) }
@@ -246,8 +245,8 @@ fn write_output<'a>(
     }
 }
 
-/// Writes the image and the map of a good link, or what else there is to say on standard error. Gives the status to end
-/// with.
+/// Writes the image and the map of a good link, or the message of any other outcome on standard error. Returns the exit
+/// status.
 fn end_with<'a>(
     rt: &HostRuntime,
     names: &'a FileNames,
@@ -265,7 +264,7 @@ fn end_with<'a>(
     Ok(exit_status(outcome))
 }
 
-/// Links files, and gives the status to end with.
+/// Links files, and returns the exit status.
 fn link_named<'a>(
     rt: &HostRuntime,
     names: &'a FileNames,
@@ -277,8 +276,8 @@ fn link_named<'a>(
     Ok(end_with(rt, names, &outcome)?)
 }
 
-/// Links files, and gives the status to end with: 0 if the image and the map are written, 1 after fault lines, 2 if an
-/// edit is refused or a file that is written is named twice, 3 if a file can't be read or written, 4 if memory ran out.
+/// Links files, and returns the exit status: 0 if the image and the map are written, 1 after fault lines, 2 if an edit
+/// is refused or an output is named twice, 3 if a file can't be read or written, 4 if memory ran out.
 pub fn link_files(rt: &HostRuntime, names: &FileNames, options: Options) -> u8 {
     match link_named(rt, names, options) {
         Ok(status) => status,

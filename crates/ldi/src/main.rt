@@ -1,13 +1,13 @@
 //! `ldi`: a static linker that links again after every edit.
 //!
 //! `ldi session` reads commands from standard input and answers them on standard output; with `--deferred` it links
-//! only at the command `link`. It ends with the status of the link (0 or 1), with 2 after bytes that begin no command,
-//! or if the words of the command line are refused, with 3 if a device failed or the system gives no seed for hash
-//! tables, and with 4 without memory to begin.
+//! only at the command `link`. The exit status is that of the link (0 or 1), 2 after bytes that begin no command, or if
+//! the arguments are refused, 3 if a device failed or the system gives no seed for hash tables, and 4 if there is no
+//! memory to begin.
 //!
-//! `ldi link` reads a script and objects, links once, and writes the image and the map. It ends with 0 when they are
-//! written, with 1 after fault lines on standard error, with 2 if a file or the words of the command line are refused,
-//! with 3 if a file cannot be read or written, which standard error names, and with 4 out of memory.
+//! `ldi link` reads a script and objects, links once, and writes the image and the map. The exit status is 0 when they
+//! are written, 1 after fault lines on standard error, 2 if a file or the arguments are refused, 3 if a file cannot be
+//! read or written, which standard error names, and 4 if memory ran out.
 #![tactic(auto)]
 
 ghost use Rattle.std.specs.Prelude.{◌≡◌};
@@ -28,7 +28,7 @@ mod deferred_command;
 mod link_command;
 mod session_command;
 
-/// The words of the command line are refused.
+/// The arguments are refused.
 const REFUSED: u8 = 2;
 /// The system gives no seed, or a file cannot be read or written.
 const DEVICE: u8 = 3;
@@ -46,12 +46,12 @@ fn exit_status(outcome: Result<Status, RunFault>) -> u8
     }
 }
 
-/// The words of the command line, with the program's name first.
+/// The arguments, with the program's name first.
 fn arguments(rt: &HostRuntime) -> io::Result<Vec<String>> {
     Ok(env::args(rt)?.collect(rt.alloc())?)
 }
 
-/// Answers the commands of standard input on standard output, and gives the status to end with.
+/// Answers the commands of standard input on standard output, and returns the exit status.
 fn answer_commands(rt: &HostRuntime, options: Options) -> u8 {
     let Ok(seed) = RandomState::new(rt) else {
         return DEVICE;
@@ -62,7 +62,7 @@ fn answer_commands(rt: &HostRuntime, options: Options) -> u8 {
     }
 }
 
-/// Answers the commands of a deferred session on standard input, and gives the status to end with.
+/// Answers the commands of a deferred session on standard input, and returns the exit status.
 fn answer_deferred_commands(rt: &HostRuntime, options: Options) -> u8 {
     let Ok(seed) = RandomState::new(rt) else {
         return DEVICE;
@@ -79,13 +79,13 @@ fn answer_deferred_commands(rt: &HostRuntime, options: Options) -> u8 {
     }
 }
 
-/// Says why the call is not made, and gives the status to end with.
+/// Prints why the arguments are refused, and returns the exit status.
 fn refuse(rt: &HostRuntime, reason: &str) -> u8 {
     let _ = eprintln!(rt; "{reason}");
     REFUSED
 }
 
-/// Says of the words of a call that is refused what GNU ld's `-Map` is called here: the text of `clap` is of an option
+/// Prints what GNU ld's `-Map` is called here, if the refused arguments have it: the text of `clap` speaks of an option
 /// `-M`.
 fn say_map_option(rt: &HostRuntime, args: &[String]) {
     for word in args {
@@ -96,7 +96,7 @@ fn say_map_option(rt: &HostRuntime, args: &[String]) {
     }
 }
 
-/// Says why the words of the command line make no call, and gives the status to end with.
+/// Prints why the arguments make no call, and returns the exit status.
 fn report(rt: &HostRuntime, args: &[String], fault: &WordsFault) -> u8 {
     if fault.exit_status() == REFUSED {
         say_map_option(rt, args);
@@ -104,7 +104,7 @@ fn report(rt: &HostRuntime, args: &[String], fault: &WordsFault) -> u8 {
     fault.report(rt)
 }
 
-/// Makes the call of the command line, and gives the status to end with.
+/// Makes the call that the arguments ask for, and returns the exit status.
 fn run_words(rt: &HostRuntime, args: &[String]) -> u8 {
     match words(rt.alloc(), args) {
         Ok(Call::Session(options)) => answer_commands(rt, options),

@@ -1,10 +1,10 @@
-//! A file that is written and that another word of the command line names too.
+//! An output that another argument of the command line names too.
 
 use crate::place::{FileId, Place};
 use std::alloc::{AllocError, Global};
 use std::rt::Files;
 
-/// What a word of the command line names.
+/// What an argument of the command line names.
 #[derive(Clone, Copy, PartialEq, Eq, Debug)]
 pub enum Role {
     /// The linker script.
@@ -18,7 +18,7 @@ pub enum Role {
 }
 
 impl Role {
-    /// The option that names it, or what it is.
+    /// The option that names it; of an object, what it is.
     fn text(self) -> &'static str {
         match self {
             Role::Script => "-T",
@@ -29,7 +29,7 @@ impl Role {
     }
 }
 
-/// A file that is written and that another word of the command line names too.
+/// An output that another argument of the command line names too.
 #[derive(Debug, Drop)]
 pub struct Clash {
     written: Role,
@@ -38,7 +38,7 @@ pub struct Clash {
 }
 
 impl Clash {
-    /// Says on standard error which file it is. If that cannot be written, the status alone says it.
+    /// Prints on standard error which file it is. If that fails, only the exit status reports it.
     pub fn report(&self, rt: &impl Eprint) {
         let (written, other) = (self.written.text(), self.other.text());
         let name = self.name.as_str();
@@ -92,7 +92,7 @@ impl Outputs {
         }
     }
 
-    /// Which of the files that are written this one is.
+    /// Which output this file is.
     fn role_of(&self, file: FileId) -> Option<Role> {
         if self.image.is_file(file) {
             return Some(Role::Image);
@@ -103,7 +103,7 @@ impl Outputs {
         }
     }
 
-    /// The clash of an input, which is this file if it is a regular one and has this name, with a file that is written.
+    /// The clash of an input of this name with an output; `file` is the input, if it is a regular file.
     ///
     /// # Errors
     ///

@@ -1,9 +1,9 @@
-//! The files of a link: they are read, told apart and written.
+//! Reads and writes the files of a link, and finds out which names lead to one file.
 //!
 //! - `reading`: the bytes of a file;
 //! - `place`: which file a name leads to;
-//! - `clash`: a file that is written and that another word of the command line names too;
-//! - `writing`: the files that a link makes, each put in its place once all are written;
+//! - `clash`: an output that another argument of the command line names too;
+//! - `writing`: the outputs, each put in its place once all are written;
 //! - `fault`: which file cannot be read or written, and why.
 //!
 //! No contract of std says what a file holds. What is read of a reader whose bytes are known is proved; that a file's

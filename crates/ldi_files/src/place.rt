@@ -8,10 +8,10 @@ use std::os::unix::fs::MetadataExt;
 use std::path::PathBuf;
 use std::rt::Files;
 
-/// How many links are followed that lead to no file: as many as Linux follows.
+/// The most symbolic links that are followed: as many as Linux follows.
 const MOST_LINKS: usize = 40;
 
-/// A file or a folder, by what the system knows it by. All its names lead to the same one.
+/// A file or a folder as the system identifies it, whatever its names are.
 #[derive(Clone, Copy, PartialEq, Eq, Debug)]
 pub struct FileId {
     device: u64,
@@ -19,7 +19,7 @@ pub struct FileId {
 }
 
 impl FileId {
-    /// Whose metadata these are.
+    /// The file that has this metadata.
     fn of(metadata: &Metadata) -> FileId {
         FileId {
             device: metadata.dev(),
@@ -27,7 +27,7 @@ impl FileId {
         }
     }
 
-    /// Whose metadata these are, if it is a regular file.
+    /// The file that has this metadata, if it is a regular one.
     pub fn of_regular(metadata: &Metadata) -> Option<FileId> {
         metadata.is_file().then_some(FileId::of(metadata))
     }
@@ -38,9 +38,9 @@ impl FileId {
 pub enum Place {
     /// To a regular file.
     File(FileId),
-    /// To nothing yet: a file that is made would have this name in this folder.
+    /// To no file yet: a new one would have this name in this folder.
     New(FileId, String),
-    /// To a device, say, or to a folder that is not there: nothing is lost there.
+    /// To a device, for example, or into a folder that does not exist: no file can be lost.
     Other,
 }
 
@@ -65,7 +65,7 @@ impl Place {
         }
     }
 
-    /// Whether what is written to one name is what the other then leads to.
+    /// Whether both names lead to the same file, or would lead to the same new one.
     pub fn is_same(&self, other: &Place) -> bool {
         match (self, other) {
             (Place::File(mine), Place::File(its)) => *mine == *its,
@@ -77,7 +77,7 @@ impl Place {
     }
 }
 
-/// The path that a name is, after links that lead to no file.
+/// The path that a name leads to through symbolic links, the last of which leads to no file.
 fn behind_links<R: Files + AllocGlobal>(rt: &R, name: &str) -> Result<PathBuf, AllocError> {
     let mut path = PathBuf::from_str(rt.alloc(), name)?;
     for _ in 0..MOST_LINKS {
@@ -93,7 +93,7 @@ fn behind_links<R: Files + AllocGlobal>(rt: &R, name: &str) -> Result<PathBuf, A
     Ok(path)
 }
 
-/// Where a name leads that leads to no file.
+/// Where a name leads if it leads to no file.
 fn new_place<R: Files + AllocGlobal>(rt: &R, name: &str) -> Result<Place, AllocError> {
     let path = behind_links(rt, name)?;
     let (Some(folder), Some(last)) = (path.parent(), path.file_name()) else {

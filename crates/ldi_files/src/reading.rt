@@ -12,8 +12,8 @@ use std::io;
 use std::io::{ErrorKind, Read};
 use std::rt::Files;
 
-/// How many bytes one read is to give at most. A buffer is zeros before it is read into, so that all files are read
-/// into one of this length, and copied from there; a longer file is read piece by piece.
+/// The most bytes of one read. A new buffer must be filled with zeros first, so all files are read into one buffer of
+/// this length, and copied from it; a longer file is read piece by piece.
 const AT_ONCE: usize = 131_072;
 
 /// A file that was read.
@@ -28,13 +28,13 @@ pub struct ReadFile {
 /// Reads the files of a link, one after the other.
 #[derive(Drop)]
 pub struct FileReader {
-    /// What the first bytes of each file are read into.
+    /// The buffer for the first bytes of each file.
     buffer: Vec<u8>,
     /// The most bytes of a file that are read.
     most: usize,
 }
 
-/// Reads once, into a buffer, and gives the number of bytes: 0 if a signal interrupts it.
+/// Reads once into a buffer; returns the number of bytes, 0 if a signal interrupted the read.
 fn read_once<R: Read>(reader: &mut R, buffer: &mut [u8]) -> io::Result<usize>
     ensures bound { IfOk result (λ n. n ≤ length buffer.new) }
     ensures read { IfOk result (λ n. Consumes (R.remaining reader.old) (R.remaining reader.new) (take n buffer.new)) }
@@ -68,8 +68,8 @@ fn read_on<R: Read + Drop>(
 }
 
 /// The bytes that a reader has left, or the first `most` of them if there are more. `size` is the number of bytes that
-/// it is said to have, and the first ones are read into a buffer. If the first read has room for more than `size` and
-/// gives exactly so many, it has reached the end; so most files take one read.
+/// it should have; the first ones are read into a buffer. If the first read has room for more than `size` bytes, and
+/// gives exactly `size`, it has reached the end; so most files take one read.
 #[tactic(auto, using(crate::proofs::Prefix::take_first))]
 fn read_bytes<R: Read + Drop>(
     alloc: Global,
@@ -79,7 +79,7 @@ fn read_bytes<R: Read + Drop>(
     buffer: &mut [u8],
 ) -> io::Result<Vec<u8>>
     requires { length buffer.old ≤ most }
-    // A reader that has another number of bytes than is said of it may be taken at its word.
+    // If the reader has another number of bytes than `size`, the result may be its first `size` bytes.
     ensures { IfOk result (λ bytes. IfSome (R.remaining reader) (λ all.
         (bytes.items ≡ take most all) ⊎ ((length bytes.items ≡ size) × (bytes.items ≡ take size all)))) }
 {
@@ -93,8 +93,8 @@ fn read_bytes<R: Read + Drop>(
 }
 
 impl FileReader {
-    /// Reads at most this many bytes of each file: one more than a file may have, so that one that is too long is
-    /// recognized, and an endless one is not read for ever.
+    /// Reads at most `most` bytes of each file. This is one more than a file may have, so that a file that is too long
+    /// is recognized, and an endless one is not read for ever.
     ///
     /// # Errors
     ///

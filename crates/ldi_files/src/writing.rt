@@ -1,5 +1,5 @@
-//! The files that a link makes. A regular file is written beside its place, and put there once all files are written:
-//! where one cannot be written, the old ones stay as they were.
+//! The outputs of a link. A regular file is written beside its place, and put there once all files are written: if one
+//! cannot be written, the old files stay as they were.
 
 ghost use Rattle.std.specs.Prelude.{◌∷◌, [], map, IfErr};
 ghost use Rattle.ldi_files.specs.Fault.{IsOutputFault, name_of};
@@ -18,24 +18,23 @@ use std::{fs, io};
 pub struct NewFile<'a, 'b> {
     /// Its name.
     pub name: &'a str,
-    /// The permission bits that it is made with. The system takes away the bits of the umask, as of each file that is
-    /// made.
+    /// The permission bits of the new file, less those of the umask.
     pub mode: u32,
     /// Its bytes.
     pub bytes: &'b [u8],
 }
 
-/// A file that is written and not yet in its place.
+/// A written file that is not in its place yet.
 #[derive(Drop)]
 struct Beside {
-    /// The path under which it is.
+    /// Its path now.
     temporary: PathBuf,
-    /// The path that it is to have.
+    /// Its final path.
     place: PathBuf,
 }
 
-/// The path of the regular file that a name leads to, or that a file of the name would have; nothing if it is written
-/// where it is: a device, a pipe, or what a link leads to that leads to no file.
+/// The path of the regular file that a name leads to, or of a new file of this name; `None` if it must be written in
+/// place: a device, a pipe, or a symbolic link that leads to no file.
 fn place_beside<R: Files + AllocGlobal>(rt: &R, name: &str) -> io::Result<Option<PathBuf>> {
     let is_link = match fs::symlink_metadata(rt, name) {
         Ok(found) if found.is_file() => false,
@@ -53,7 +52,7 @@ fn place_beside<R: Files + AllocGlobal>(rt: &R, name: &str) -> io::Result<Option
     }
 }
 
-/// A file name that no other file has, as good as surely: 64 random bits are in it.
+/// A file name that almost surely no other file has: it has 64 random bits.
 fn unused_name<R: RandomSource + AllocGlobal>(rt: &R) -> io::Result<String> {
     let mut bits = [0; 8];
     rt.fill_bytes(&mut bits)?;
@@ -67,8 +66,8 @@ fn temporary_path<R: RandomSource + AllocGlobal>(rt: &R, place: &PathBuf) -> io:
     Ok(place.with_file_name(rt.alloc(), name.as_str())?)
 }
 
-/// Writes a file beside its place; gives nothing if it is to be written in place, as a device is, or a file in a folder
-/// where none may be made.
+/// Writes a file beside its place; `None` if it must be written in place: a device, or a file in a folder where no new
+/// file may be created.
 fn write_beside<'a, R: Files + RandomSource + AllocGlobal>(
     rt: &R,
     file: &NewFile<'a, '_>,
@@ -97,7 +96,7 @@ fn write_beside<'a, R: Files + RandomSource + AllocGlobal>(
     Ok(Some(Beside { temporary, place }))
 }
 
-/// Writes a file in place of what it held. If that fails, no part of the bytes is left of it.
+/// Overwrites a file. If a write fails, the file is left empty.
 fn write_in_place<'a, R: Files>(rt: &R, file: &NewFile<'a, '_>) -> Result<(), FileFault<'a>>
     ensures { IfErr result (IsOutputFault (name_of file.now ∷ [])) }
 {
@@ -116,8 +115,8 @@ fn write_in_place<'a, R: Files>(rt: &R, file: &NewFile<'a, '_>) -> Result<(), Fi
     written.map_err(|error| FileFault::of(Action::Write, file.name, error))
 }
 
-/// Puts a file that is written into its place. Where the system does not let another file have the name, as that of a
-/// mounted file or of another user's in a folder for all, it is written in place.
+/// Renames a written file to its place. If the system does not allow that, as for a mounted file, or for another user's
+/// file in a folder for all, the old file is overwritten.
 fn put<'a, R: Files>(rt: &R, file: &NewFile<'a, '_>, beside: &Beside) -> Result<(), FileFault<'a>>
     ensures { IfErr result (IsOutputFault (name_of file.now ∷ [])) }
 {
@@ -175,7 +174,7 @@ pub fn write_files<'a, R: Files + RandomSource + AllocGlobal>(
     let written = write_all_files(rt, files, &mut beside);
     if written.is_err() {
         for beside in beside.iter().flatten() {
-            // one that is in its place has no longer this name
+            // a file that is in its place no longer has this name
             let _ = fs::remove_file(rt, beside.temporary.as_path());
         }
     }
