@@ -14,7 +14,7 @@ use Rattle.ldmodel.specs.Link.{Link, layout, link, max_image_length, of_length}
 use Rattle.ldmodel.specs.Project.{Project}
 use Rattle.ldmodel.specs.Rows.{rows}
 use Rattle.ldmodel.specs.SectionHeaders.{image_length}
-use Rattle.ldmodel.specs.SessionWork.{IsWork, Rises, bytes_to_write, entries_from, entries_to_place, first_changed}
+use Rattle.ldmodel.specs.SessionWork.{Rises, bytes_to_write, entries_from, entries_to_place, first_changed}
 use Rattle.ldmodel.specs.SessionWork.{objects_read, sites_to_evaluate}
 use Rattle.ldmodel.specs.Stayed.{GoodLink}
 use Rattle.symres.specs.decisions.Counted.{CountsNames}
@@ -28,7 +28,8 @@ use Rattle.relink_driver.specs.Worked.{IsLinkWork, IsWorkBeside}
 use Rattle.relink.specs.Outcome.{is_good, shown}
 use Rattle.relink.specs.PreviousLink.{HasUpdateOutcome, IsCurrent, IsEffect, IsPreviousLink, lent, next_view}
 use Rattle.relink.specs.PreviousLink.{origin_of}
-use Rattle.relink.specs.Work.{HasWorked, IsCounted, IsReadingWork, IsWholeWork, decided_by}
+use Rattle.relink.specs.Work.{HasPlacedWork, HasWorked, IsPlacedWork, IsReadingWork, IsWholeWork}
+use Rattle.relink.specs.Work.{LinksNothing, decided_by}
 use Rattle.relink.specs.declared.outcome.LinkOutcome.{LinkOutcome}
 use Rattle.relink.specs.declared.outcome.LinkOutcome.TheVariants as outcome
 use Rattle.relink.specs.declared.previous.EditEffect.{EditEffect}
@@ -42,12 +43,6 @@ use Rattle.relink.proofs.Working.{AreSmall, ReadsObjects, read_alone, rises_by}
 
 -- ---- the counts of a link
 
--- the counts of input sections, relocations and bytes stay
-pub record LinksNothing (old new : Counts) : Type 0 where
-  pub pieces : new.pieces ≡ old.pieces
-  pub fields : new.fields ≡ old.fields
-  pub bytes : new.bytes ≡ old.bytes
-
 pub names_link_nothing : (m0 m1 : Counts) (names : List (List ℕ)) → CountsNames m0 m1 names → LinksNothing m0 m1
 names_link_nothing m0 m1 names h = record {
   pieces = ap (λ (m : Counts). m.pieces) h;
@@ -59,6 +54,16 @@ pub objects_link_nothing : (n : ℕ) (m0 m1 : Counts) → ReadsObjects n m0 m1 �
 objects_link_nothing n m0 m1 r = record { pieces = r.pieces; fields = r.fields; bytes = r.bytes }
 
 -- what is counted before it is no part of it
+image_from : (old new : GoodLink) (m0 m1 m2 : Counts) → LinksNothing m0 m1 → IsImageCount old new m1 m2
+    → IsImageCount old new m0 m2
+image_from old new m0 m1 m2 none i = record {
+  relocations = i.relocations ∙ ap (λ (n : ℕ). capped n (sites_to_evaluate old new)) none.fields;
+  written = i.written;
+  bytes = i.bytes ∙ ap (λ (n : ℕ). capped n i.written) none.bytes;
+  few = i.few;
+  exactly = i.exactly;
+}
+
 pub link_work_from : (old new : GoodLink) (x : PreviousState) (m0 m1 m2 : Counts) → LinksNothing m0 m1
     → IsLinkWork old new x m1 m2 → IsLinkWork old new x m0 m2
 link_work_from old new x m0 m1 m2 none w = record {
@@ -67,13 +72,7 @@ link_work_from old new x m0 m1 m2 none w = record {
   same = w.same;
   changed = w.changed;
   anew = w.anew;
-  image = record {
-    relocations = w.image.relocations ∙ ap (λ (n : ℕ). capped n (sites_to_evaluate old new)) none.fields;
-    written = w.image.written;
-    bytes = w.image.bytes ∙ ap (λ (n : ℕ). capped n w.image.written) none.bytes;
-    few = w.image.few;
-    exactly = w.image.exactly;
-  };
+  image = image_from old new m0 m1 m2 none w.image;
 }
 
 pub worked_from : (p : Project) (previous : Option PreviousState) (m0 m1 m2 : Counts) (f : UpdateOutcome)
@@ -112,7 +111,7 @@ current_is l bytes x p s c is laid =
 -- ---- an edit that leads to the same project
 
 -- a count that stayed
-stays_put : (n m most : ℕ) → m ≡ n → Rises n m most
+pub stays_put : (n m most : ℕ) → m ≡ n → Rises n m most
 stays_put n m most e = record { onward = omega (arith, e); within = omega (arith, e) }
 
 not_zero : (bytes : List ℕ) (t : LinkOutcome) (k : Link) → is_good t ≡ false → shown bytes t ≡ k → k.status ≡ 0 → ⊥
@@ -201,25 +200,17 @@ both_are : (a b : Bool) → a ≡ true → b ≡ true → (a && b) ≡ true
 both_are true b h k = k
 both_are false b h k = absurd (cc)
 
-pub whole_work : (h : ProjectState) (s : Staged) (same : Bool) (bytes new : List ℕ) (a : LinkOutcome) (e : EditEffect)
-    (previous : Option PreviousLink) (f : UpdateOutcome) (change : Change)
-    (m0 m1 m2 : Counts) → IsFollowing h s same bytes a previous e → shown bytes a ≡ link (held h)
+-- what it places, evaluates and writes
+pub linked_work : (h : ProjectState) (s : Staged) (same : Bool) (bytes new : List ℕ) (a : LinkOutcome) (e : EditEffect)
+    (previous : Option PreviousLink) (f : UpdateOutcome) (change : Change) (m1 m2 : Counts)
+    → IsFollowing h s same bytes a previous e → shown bytes a ≡ link (held h)
     → HasUpdateOutcome (next_listing h s) (lent previous e.known e h s) bytes new f
     → HasWorked (project_of (next_listing h s)) (lent previous e.known e h s) m1 m2 f
-    → AreSmall m0 → ReadsObjects (objects_read change) m0 m1 → m2.objects ≡ m1.objects
-    → m2.names ≡ capped m0.names (length (distinct (decided_by (held h) change (project_of (next_listing h s)))))
-    → LeavesScript change s → IsReadingWork (held h) change (project_of (next_listing h s)) m0 m2
-    → IsWholeWork (held h) change (project_of (next_listing h s)) m0 m2
-whole_work h s same bytes new a e previous f change m0 m1 m2 given answers updated worked small read none
-    exact leaves reading = (
-      reading,
-      (λ t u zero zero_too laid laid_too.
-          (between a previous f e.known refl given.effect given.kept answers updated worked t u zero zero_too
-          laid laid_too).0),
-      (λ t u zero zero_too laid laid_too. inr
-          (between a previous f e.known refl given.effect given.kept answers updated worked t u zero zero_too
-          laid laid_too).1),
-    )
+    → m1.pieces < 2 ^ 64 → m1.fields < 2 ^ 64 → m1.bytes < 2 ^ 64 → LeavesScript change s
+    → HasPlacedWork (held h) change (project_of (next_listing h s)) m1 m2
+linked_work h s same bytes new a e previous f change m1 m2 given answers updated worked few_pieces few_fields few_bytes
+    leaves =
+    between a previous f e.known refl given.effect given.kept answers updated worked
   where
     p : Project
     p = held h
@@ -244,8 +235,7 @@ whole_work h s same bytes new a e previous f change m0 m1 m2 given answers updat
         → e.known ≡ true → IsEffect h s same (outcome.Good m) (Some x) e
         → IsWorkBeside q (Some (next_view x e h s)) m1 m2 → (t u : Layout)
         → layout p ≡ Ok t → layout q ≡ Ok u
-        → IsWork (record { project = p; layout = t }) change (record { project = q; layout = u }) m0 m2
-        × IsCounted (record { project = p; layout = t }) change (record { project = q; layout = u }) m0 m2
+        → IsPlacedWork (record { project = p; layout = t }) change (record { project = q; layout = u }) m1 m2
     over_last m x kept are effect worked t u laid laid_too =
         let state : PreviousState = next_view x e h s in
         let old : GoodLink = record { project = p; layout = t } in
@@ -254,30 +244,21 @@ whole_work h s same bytes new a e previous f change m0 m1 m2 given answers updat
         is_last_of h s same bytes x e kept.kept given.edit
         (none_of_last h s same bytes (outcome.Good m) x e kept given.edit effect are) effect.changed
         effect.lost in
-        let work : IsLinkWork kept.kept.old now state m0 m2 =
-        link_work_from kept.kept.old now state m0 m1 m2 (objects_link_nothing (objects_read change) m0 m1 read)
-        (worked kept.kept.old state u refl of_last laid_too) in
+        let work : IsLinkWork kept.kept.old now state m1 m2 = worked kept.kept.old state u refl of_last laid_too in
         let is : kept.kept.old ≡ old = current_is (listing_of h) bytes x p t kept refl laid in
-        let image : IsImageCount old now m0 m2 =
-        subst (λ (g : GoodLink). IsImageCount g now m0 m2) is work.image in (
-          record {
-            objects = reading.objects;
-            names = reading.names;
-            pieces = placed kept.kept.old now state p change s m0 m2 kept.project small.pieces
-                (next_of m x kept effect) leaves work;
-            relocations = rises_by m0.fields m2.fields _ (sites_to_evaluate old now) small.fields image.relocations
-                (omega arith);
-            bytes = rises_by m0.bytes m2.bytes _ (bytes_to_write old now) small.bytes image.bytes image.few;
-          },
-          record {
-            objects = none ∙ read.objects;
-            names = exact;
-            first = work.first;
-            same = subst (λ (g : GoodLink). AreSameBefore g.project q work.first) is work.same;
-            pieces = work.pieces;
-            image = image;
-          },
-        )
+        let image : IsImageCount old now m1 m2 =
+        subst (λ (g : GoodLink). IsImageCount g now m1 m2) is work.image in
+        record {
+          pieces = placed kept.kept.old now state p change s m1 m2 kept.project few_pieces (next_of m x kept effect)
+              leaves work;
+          relocations = rises_by m1.fields m2.fields _ (sites_to_evaluate old now) few_fields image.relocations
+              (omega arith);
+          bytes = rises_by m1.bytes m2.bytes _ (bytes_to_write old now) few_bytes image.bytes image.few;
+          first = work.first;
+          same = subst (λ (g : GoodLink). AreSameBefore g.project q work.first) is work.same;
+          exactly = work.pieces;
+          image = image;
+        }
 
     between : (b : LinkOutcome) (previous : Option PreviousLink) (f : UpdateOutcome) (known : Bool)
         → e.known ≡ known → IsEffect h s same b previous e
@@ -286,8 +267,7 @@ whole_work h s same bytes new a e previous f change m0 m1 m2 given answers updat
         → HasUpdateOutcome (next_listing h s) (lent previous known e h s) bytes new f
         → HasWorked q (lent previous known e h s) m1 m2 f → (t u : Layout)
         → (link p).status ≡ 0 → (link q).status ≡ 0 → layout p ≡ Ok t → layout q ≡ Ok u
-        → IsWork (record { project = p; layout = t }) change (record { project = q; layout = u }) m0 m2
-        × IsCounted (record { project = p; layout = t }) change (record { project = q; layout = u }) m0 m2
+        → IsPlacedWork (record { project = p; layout = t }) change (record { project = q; layout = u }) m1 m2
     between (outcome.Faulty text) previous f known are effect kept answers updated worked =
         λ t u zero zero_too
         laid laid_too. absurd (not_zero bytes (outcome.Faulty text) (link p) refl answers zero)
@@ -309,3 +289,53 @@ whole_work h s same bytes new a e previous f change m0 m1 m2 given answers updat
         absurd (cc))
     between (outcome.Good m) (Some x) (RewrittenInPlace w) true are effect kept answers updated worked =
         λ t u zero zero_too laid laid_too. over_last m x kept are effect worked t u laid laid_too
+
+rises_from : (n m after most : ℕ) → m ≡ n → Rises m after most → Rises n after most
+rises_from n m after most is r = subst (λ (k : ℕ). Rises k after most) is r
+
+-- with what an edit counted before it
+pub whole_from : (p : Project) (change : Change) (q : Project) (m0 m1 m2 : Counts) → LinksNothing m0 m1
+    → HasPlacedWork p change q m1 m2 → m2.objects ≡ capped m0.objects (objects_read change)
+    → m2.names ≡ capped m0.names (length (distinct (decided_by p change q)))
+    → IsReadingWork p change q m0 m2 → IsWholeWork p change q m0 m2
+whole_from p change q m0 m1 m2 none placed objects names reading = (
+  reading,
+  (λ t u zero zero_too laid laid_too.
+      let w = placed t u zero zero_too laid laid_too in
+      record {
+        objects = reading.objects;
+        names = reading.names;
+        pieces = rises_from m0.pieces m1.pieces m2.pieces _ none.pieces w.pieces;
+        relocations = rises_from m0.fields m1.fields m2.fields _ none.fields w.relocations;
+        bytes = rises_from m0.bytes m1.bytes m2.bytes _ none.bytes w.bytes;
+      }),
+  (λ t u zero zero_too laid laid_too.
+      let w = placed t u zero zero_too laid laid_too in
+      inr (record {
+        objects = objects;
+        names = names;
+        first = w.first;
+        same = w.same;
+        pieces = w.exactly ∙ ap (λ (n : ℕ). capped n (entries_from w.first (rows q))) none.pieces;
+        image = image_from (record { project = p; layout = t }) (record { project = q; layout = u }) m0 m1 m2 none
+            w.image;
+      })),
+)
+
+pub whole_work : (h : ProjectState) (s : Staged) (same : Bool) (bytes new : List ℕ) (a : LinkOutcome) (e : EditEffect)
+    (previous : Option PreviousLink) (f : UpdateOutcome) (change : Change)
+    (m0 m1 m2 : Counts) → IsFollowing h s same bytes a previous e → shown bytes a ≡ link (held h)
+    → HasUpdateOutcome (next_listing h s) (lent previous e.known e h s) bytes new f
+    → HasWorked (project_of (next_listing h s)) (lent previous e.known e h s) m1 m2 f
+    → AreSmall m0 → ReadsObjects (objects_read change) m0 m1 → m2.objects ≡ m1.objects
+    → m2.names ≡ capped m0.names (length (distinct (decided_by (held h) change (project_of (next_listing h s)))))
+    → LeavesScript change s → IsReadingWork (held h) change (project_of (next_listing h s)) m0 m2
+    → IsWholeWork (held h) change (project_of (next_listing h s)) m0 m2
+whole_work h s same bytes new a e previous f change m0 m1 m2 given answers updated worked small read none
+    exact leaves reading =
+    whole_from (held h) change (project_of (next_listing h s)) m0 m1 m2
+    (objects_link_nothing (objects_read change) m0 m1 read)
+    (linked_work h s same bytes new a e previous f change m1 m2 given answers updated worked
+    (omega (arith, small.pieces, read.pieces)) (omega (arith, small.fields, read.fields))
+    (omega (arith, small.bytes, read.bytes)) leaves)
+    (none ∙ read.objects) exact reading

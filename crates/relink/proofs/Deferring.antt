@@ -47,6 +47,11 @@ last_good l bytes (outcome.Good m) None is = absurd is
 last_good l bytes (outcome.Good m) (Some x) is = is.kept
 last_good l bytes (outcome.Faulty t) previous is = is
 
+pub any_last_good : (is_linked : Bool) (l : Listing) (bytes : List ℕ) (o : LinkOutcome)
+    (previous : Option PreviousLink) → IsLastGood is_linked l bytes o previous → IsLastGood false l bytes o previous
+any_last_good true l bytes o previous is = last_good l bytes o previous is
+any_last_good false l bytes o previous is = is
+
 -- where the project was not linked before the edit, no image is rewritten in place
 never_rewritten : (h : ProjectState) (s : Staged) (seen : LinkOutcome) (previous : Option PreviousLink) (known : Bool)
     (e : EditEffect) (new : List ℕ) (v : Vec (Option ℕ) Global) → is_good seen ≡ false → e.is_current ≡ is_good seen

@@ -14,3 +14,4 @@ mod Bounding
 mod Followed
 mod Deferring
 mod LazyTables
+mod DeferredCounts

@@ -1,5 +1,6 @@
 -- What a deferred session keeps of its last link and of an edit that is not linked.
-use Rattle.std.specs.Prelude.{◌≡◌, ℕ, ◌+◌, Bool, true, false, List, [], ◌∷◌, Option, None, Some, IfSome}
+use Rattle.std.specs.Prelude.{◌≡◌, ℕ, ◌+◌, Bool, true, false, List, [], ◌∷◌, Option, None, Some, IfSome, is_none}
+use Rattle.ldmodel.specs.Edits.{Change, SetScript}
 use Rattle.ldmodel.specs.Link.{Link, link}
 use Rattle.ldmodel.specs.Project.{Project}
 use Rattle.ldmodel_project.specs.ProjectState.{ProjectState, Listing, EditsOne, held, listing_of}
@@ -17,10 +18,19 @@ use Rattle.relink.specs.declared.previous.EditEffect.{EditEffect}
 use Rattle.relink.specs.declared.previous.PreviousLink.{PreviousLink}
 use Rattle.relink.specs.declared.previous.UpdateOutcome.{UpdateOutcome}
 
+-- an edit since the last link: the project before it, which was linked; and whether the script is known to stay
+pub record EditSince : Type 0 where
+  pub before : Project
+  pub same_script : Bool
+
 -- the project, as the edits have made it, and the last link
 pub record Deferred : Type 0 where
   pub project : Project
   pub last : Link
+  -- whether it is known that no edit came since, and the names are resolved
+  pub is_linked : Bool
+  -- the edit that came since, if it is known that no other one did, and the names were resolved before it
+  pub edited : Option EditSince
 
 -- a staged edit was made for the project
 pub record IsStaged (h : ProjectState) (s : Staged) : Type 0 where
@@ -36,6 +46,30 @@ HasStaged h staged = IfSome staged (IsStaged h)
 abbrev pub staged_listing : ProjectState → Option Staged → Listing
 staged_listing h None = listing_of h
 staged_listing h (Some s) = next_listing h s
+
+-- what is known where the last link is of the project without the staged edit, or may not be, and tables are kept of it
+abbrev pub is_linked_since : (is_linked : Bool) → Option LinkTables → Option Staged → Bool
+is_linked_since true (Some tables) None = true
+is_linked_since true (Some tables) (Some s) = false
+is_linked_since true None staged = false
+is_linked_since false tables staged = false
+
+abbrev pub edit_since : (is_linked : Bool) → ProjectState → Option LinkTables → Option Staged → Option EditSince
+edit_since true h (Some tables) (Some s) = Some (record { before = held h; same_script = is_none s.script })
+edit_since true h (Some tables) None = None
+edit_since true h None staged = None
+edit_since false h tables staged = None
+
+-- an edit of the objects leaves the script
+abbrev pub keeps_script : Change → Bool
+keeps_script (SetScript text) = false
+keeps_script change = true
+
+-- the one edit since the last link is this one, of this project
+abbrev pub IsOnlyEdit : Project → Change → Option EditSince → Type 0
+IsOnlyEdit project change None = ⊥
+IsOnlyEdit project change (Some edit) =
+    (edit.before ≡ project) × (keeps_script change ≡ true → edit.same_script ≡ true)
 
 -- keys that are their places, from a place on
 abbrev pub AreKeysFrom : ℕ → List ℕ → Type 0

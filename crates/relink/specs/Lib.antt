@@ -9,3 +9,4 @@ pub mod NameList
 pub mod Outcome
 pub mod Update
 pub mod Deferred
+pub mod DeferredWork

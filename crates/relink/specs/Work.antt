@@ -10,8 +10,8 @@ use Rattle.ldmodel.specs.Link.{layout, link}
 use Rattle.ldmodel.specs.Names.{distinct, names_in_objects}
 use Rattle.ldmodel.specs.Project.{Project}
 use Rattle.ldmodel.specs.Rows.{rows}
-use Rattle.ldmodel.specs.SessionWork.{IsSessionWork, Rises, entries_from, named_by, names_of, objects_read}
-use Rattle.ldmodel.specs.SessionWork.{touched_names}
+use Rattle.ldmodel.specs.SessionWork.{IsSessionWork, Rises, bytes_to_write, entries_from, entries_to_place, named_by}
+use Rattle.ldmodel.specs.SessionWork.{names_of, objects_read, sites_to_evaluate, touched_names}
 use Rattle.ldmodel.specs.Stayed.{GoodLink}
 use Rattle.relink_driver.specs.Counted.{IsImageCount}
 use Rattle.relink_driver.specs.Worked.{IsWorkBeside}
@@ -33,6 +33,30 @@ HasWorked project previous before after (Faulty text) = ⊤
 HasWorked project previous before after (Good x m) =
     IsWorkBeside project previous before after × (IsRewritable project previous → ⊥)
 HasWorked project previous before after (RewrittenInPlace origins) = IsWorkBeside project previous before after
+
+-- the counts of input sections, relocations and bytes stay
+pub record LinksNothing (old new : Counts) : Type 0 where
+  pub pieces : new.pieces ≡ old.pieces
+  pub fields : new.fields ≡ old.fields
+  pub bytes : new.bytes ≡ old.bytes
+
+-- what a link between two without faults counts, if one edit leads from one to the other: within the bound of an
+-- incremental linker; and exactly the entries of the rows from the first one on that differs, or from an earlier one,
+-- before which no row differs either, and the fields and bytes of `IsImageCount`
+pub record IsPlacedWork (old : GoodLink) (change : Change) (new : GoodLink) (before after : Counts) : Type 0 where
+  pub pieces : Rises before.pieces after.pieces (entries_to_place change (rows old.project) (rows new.project))
+  pub relocations : Rises before.fields after.fields (sites_to_evaluate old new)
+  pub bytes : Rises before.bytes after.bytes (bytes_to_write old new)
+  pub first : ℕ
+  pub same : AreSameBefore old.project new.project first
+  pub exactly : after.pieces ≡ capped before.pieces (entries_from first (rows new.project))
+  pub image : IsImageCount old new before after
+
+-- so it is where neither link has faults
+abbrev pub HasPlacedWork : Project → Change → Project → Counts → Counts → Type 0
+HasPlacedWork project change q before after =
+    (s t : Layout) → (link project).status ≡ 0 → (link q).status ≡ 0 → layout project ≡ Ok s → layout q ≡ Ok t
+    → IsPlacedWork (record { project = project; layout = s }) change (record { project = q; layout = t }) before after
 
 -- at most one object is read, and none but for an edit that brings one; and at most the names that the edit touches are
 -- decided, each once; no count falls

@@ -1,14 +1,17 @@
 //! The linker of a deferred session: edits are staged, and linked when it is asked.
 
-ghost use Rattle.std.specs.Prelude.{◌≡◌, IfErr, IfOk, List, None, OnErr, OnOk, Ok, false, true, ℕ};
+ghost use Rattle.std.specs.Prelude.{◌≡◌, IfErr, IfOk, List, None, OnErr, OnOk, Ok, false, is_some, true, ℕ};
 ghost use Rattle.ldmodel.specs.EditMeaning.{change_of, linked_of, refusal_of};
-ghost use Rattle.ldmodel.specs.Edits.{After, RefusedAs};
+ghost use Rattle.ldmodel.specs.Edits.{After, Change, RefusedAs};
 ghost use Rattle.ldmodel.specs.Link.{link};
-ghost use Rattle.ldmodel_project.specs.ProjectState.{held, listing_of, next_listing};
+ghost use Rattle.ldmodel_project.specs.ProjectState.{held, listing_of, next_listing, project_of};
+ghost use Rattle.relink_driver.specs.Reads.{ReadsNothing};
 ghost use Rattle.relink.specs.Deferred.{HasStaged, HasTables, IsLastGood, IsSeenAs, IsStaged, IsUpdatedOver};
-ghost use Rattle.relink.specs.Deferred.{staged_listing};
+ghost use Rattle.relink.specs.Deferred.{keeps_script, staged_listing};
+ghost use Rattle.relink.specs.DeferredWork.{IsLinkingWork, IsStagingWork};
 ghost use Rattle.relink.specs.Outcome.{is_good, shown};
 ghost use Rattle.relink.specs.PreviousLink.{IsOfGoodLink, IsPreviousLink};
+ghost use Rattle.relink.specs.Work.{HasPlacedWork};
 
 use crate::lazy_tables::{follow_if_made, tables_of_next, tables_of_project};
 use crate::lent_link::lend_previous;
@@ -30,6 +33,7 @@ use relink_driver::Canvas;
 use std::alloc::Global;
 use std::hash::RandomState;
 use std::marker::Model;
+use symres::decisions::law::{distinct_more, names_of_objects};
 
 /// A linker that keeps what a `Session` keeps, and links when it is asked. The tables of names and matches follow each
 /// edit at once, once they are made: while a project is opened there are none, so that opening it is one link. The last
@@ -60,7 +64,8 @@ impl Model for DeferredSession {
     ghost use Rattle.ldscript.specs.statements.contracts.formula.Formula as formula;
     ghost use Rattle.ldmodel.specs.Link.{link};
     ghost use Rattle.ldmodel_project.specs.ProjectState.{held, listing_of, project_of};
-    ghost use Rattle.relink.specs.Deferred.{Deferred, HasStaged, HasTables, IsLastGood, staged_listing};
+    ghost use Rattle.relink.specs.Deferred.{Deferred, HasStaged, HasTables, IsLastGood, edit_since, is_linked_since};
+    ghost use Rattle.relink.specs.Deferred.{staged_listing};
     ghost use Rattle.relink.specs.Outcome.{shown};
 
     ghost Value = { Deferred };
@@ -70,6 +75,8 @@ impl Model for DeferredSession {
     ghost view = { λ s. record {
       project = project_of (staged_listing s.project s.staged);
       last = shown s.canvas.bytes s.outcome;
+      is_linked = is_linked_since s.is_linked s.tables s.staged;
+      edited = edit_since s.is_linked s.project s.tables s.staged;
     } };
 
     ghost invariant = { λ s. HasStaged s.project s.staged
@@ -127,6 +134,7 @@ fn settle_staged(
         → IsLastGood is_linked.new (listing_of project.new) bytes outcome.now previous.new }
     ensures linked { is_linked.new ≡ true
         → (is_linked.old ≡ true) × (listing_of project.new ≡ listing_of project.old) }
+    ensures kept { staged.old ≡ None → is_linked.new ≡ is_linked.old }
 {
     let Some(edit) = staged.take() else {
         return;
@@ -155,9 +163,18 @@ fn link_staged(
     ensures updated { IfOk result (λ both. IsUpdatedOver project.now staged.now canvas.old.bytes seen.now previous.now
         canvas.new.bytes both.0 both.1) }
     ensures unchanged { OnErr result (canvas.new.bytes ≡ canvas.old.bytes) }
+    ensures made { OnOk result (is_some tables.new ≡ true) }
+    ensures counted { OnOk result (is_some tables.old ≡ true → (change : Change)
+        → (keeps_script change ≡ true → staged.now.script ≡ None)
+        → shown canvas.old.bytes seen.now ≡ link (held project.now)
+        → ReadsNothing meter.old meter.new
+        × HasPlacedWork (held project.now) change (project_of (next_listing project.now staged.now))
+        meter.old meter.new) }
 {
     // for the prover: brings in the law of keys with a place
     found_where_placed();
+    // for the prover: brings in that the counts fit a u64
+    let _counts = (meter.pieces(), meter.fields(), meter.bytes());
     let same = puts_same(project, staged);
     let next = project.next(staged);
     let keys = next.keys();
@@ -177,6 +194,14 @@ fn link_staged(
         Ok(updated) => Ok((updated, effect)),
         Err(refused) => Err(refused),
     }
+}
+
+/// Whether the last link is that of the project, and its tables are made.
+fn is_settled(is_linked: bool, tables: &Option<LinkTables>) -> bool
+    ensures yes { result ≡ true → (is_linked ≡ true) × (is_some tables.now ≡ true) }
+    ensures no { is_linked ≡ true → is_some tables.now ≡ true → result ≡ true }
+{
+    is_linked && tables.is_some()
 }
 
 /// Links a project without a staged edit: nothing is done if the last link is its own; else it is linked anew. Fails if
@@ -202,8 +227,10 @@ fn link_unstaged(
     ensures canvas { OnErr result (canvas.new.bytes ≡ canvas.old.bytes) }
     ensures unchanged { OnErr result ((is_linked.new ≡ is_linked.old) × (outcome.new ≡ outcome.old)
         × (previous.new ≡ previous.old)) }
+    ensures made { OnOk result (is_some tables.new ≡ true) }
+    ensures counted { is_linked.old ≡ true → is_some tables.old ≡ true → meter.new ≡ meter.old }
 {
-    if *is_linked {
+    if is_settled(*is_linked, tables) {
         return Ok(());
     }
     let mut made = tables_of_project(alloc, seed, project, tables.take(), meter)?;
@@ -232,13 +259,31 @@ impl DeferredSession {
     /// Gives back the memory of a session that is over, as `Session::close` does.
     pub fn close(self) {}
 
-    /// Stages an edit, after the one before it is made without a link.
-    fn stage_edit(&mut self, edit: Edit<'_>, meter: &mut Meter) -> Result<(), EditRefusal>
+    /// Stages an edit, after the one before it is made without a link. Right after a link its counts, with those of the
+    /// next `link_now`, are those of an edit of a `Session` (`law::staged_and_linked`).
+    ///
+    /// # Errors
+    ///
+    /// The refusal; the project is then as before.
+    pub fn stage_edit(&mut self, edit: Edit<'_>, meter: &mut Meter) -> Result<(), EditRefusal>
         ensures accepted { OnOk result (After self.old.project (change_of edit.entry) (Ok self.new.project)) }
         ensures refused { IfErr result (λ r. RefusedAs self.old.project (change_of edit.entry) (refusal_of r)) }
         ensures unchanged { OnErr result (self.new.project ≡ self.old.project) }
         ensures unlinked { self.new.last ≡ self.old.last }
+        ensures counted { OnOk result (self.old.is_linked ≡ true
+            → IsStagingWork self.old.project (change_of edit.entry) self.new meter.old meter.new) }
     {
+        // for the prover: brings in the laws of names that objects declare
+        names_of_objects();
+        distinct_more();
+        // for the prover: brings in that the counts fit a u64
+        let _counts = (
+            meter.objects(),
+            meter.names(),
+            meter.pieces(),
+            meter.fields(),
+            meter.bytes(),
+        );
         settle_staged(
             self.alloc,
             &mut self.project,
@@ -269,11 +314,17 @@ impl DeferredSession {
     }
 
     /// Links the project over what is kept of it.
-    fn link_now(&mut self, meter: &mut Meter) -> Result<Linked, NoMemory>
+    ///
+    /// # Errors
+    ///
+    /// If memory runs out; the last link stays.
+    pub fn link_now(&mut self, meter: &mut Meter) -> Result<Linked, NoMemory>
         ensures linked { IfOk result (λ l. l ≡ linked_of (link self.old.project)) }
         ensures last { OnOk result (self.new.last ≡ link self.old.project) }
         ensures unlinked { OnErr result (self.new.last ≡ self.old.last) }
         ensures project { self.new.project ≡ self.old.project }
+        ensures settled { OnOk result (self.new.is_linked ≡ true) }
+        ensures counted { OnOk result (IsLinkingWork self.old meter.old meter.new) }
     {
         let Some(staged) = self.staged.take() else {
             link_unstaged(

@@ -3,6 +3,8 @@
 ghost use Rattle.std.specs.Prelude.{◌≡◌, None, OnErr, OnOk, Some, []};
 ghost use Rattle.ldmodel_project.specs.Next.{edited_key};
 ghost use Rattle.ldmodel_project.specs.ProjectState.{listing_of, next_listing};
+ghost use Rattle.symres.specs.decisions.Counted.{CountsNames};
+ghost use Rattle.relink.specs.Change.{names_of_edit};
 ghost use Rattle.relink.specs.Kept.{IsKept};
 ghost use Rattle.relink.specs.Update.{CanUpdate};
 
@@ -32,6 +34,8 @@ impl LinkTables {
         ensures kept { OnOk result (IsKept (next_listing project.now staged.now) self.new.symbol_table
             self.new.matches.items) }
         ensures back { OnErr result (IsKept (listing_of project.now) self.new.symbol_table self.new.matches.items) }
+        ensures counted { OnOk result (CountsNames meter.old meter.new
+            (names_of_edit project.now.contents.entries staged.now.objects)) }
     {
         let next = project.next(staged);
         let script = next.script();
@@ -60,6 +64,8 @@ impl LinkTables {
         ensures kept { OnOk result (IsKept (next_listing project.now staged.now) self.new.symbol_table
             self.new.matches.items) }
         ensures back { OnErr result (IsKept (listing_of project.now) self.new.symbol_table self.new.matches.items) }
+        ensures counted { OnOk result (CountsNames meter.old meter.new
+            (names_of_edit project.now.contents.entries staged.now.objects)) }
     {
         let next = project.next(staged);
         let found = matches_if_other(alloc, project.script(), &next)?;
@@ -84,6 +90,8 @@ impl LinkTables {
         ensures kept { OnOk result (IsKept (next_listing project.now staged.now) self.new.symbol_table
             self.new.matches.items) }
         ensures back { OnErr result (IsKept (listing_of project.now) self.new.symbol_table self.new.matches.items) }
+        ensures counted { OnOk result (CountsNames meter.old meter.new
+            (names_of_edit project.now.contents.entries staged.now.objects)) }
     {
         match staged.edited() {
             Some(key) => self.follow_object(alloc, project, staged, key, meter),

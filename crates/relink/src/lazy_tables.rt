@@ -1,8 +1,10 @@
 //! Tables that are made when they are first needed.
 
-ghost use Rattle.std.specs.Prelude.{◌≡◌, IfOk, None, OnErr, OnOk, true};
+ghost use Rattle.std.specs.Prelude.{◌≡◌, IfOk, None, OnErr, OnOk, is_some, true};
 ghost use Rattle.ldmodel_project.specs.ProjectState.{Listing, listing_of, next_listing, project_of};
 ghost use Rattle.ldmodel_project.specs.Listing.{keys_of};
+ghost use Rattle.symres.specs.decisions.Counted.{CountsNames};
+ghost use Rattle.relink.specs.Change.{names_of_edit};
 ghost use Rattle.relink.specs.Deferred.{AreKeysFrom, HasTables, IsStaged};
 ghost use Rattle.relink.specs.Kept.{IsKept};
 
@@ -59,6 +61,7 @@ pub(crate) fn tables_of_project(
     requires { HasTables (listing_of project.now) tables }
     ensures made { IfOk result (λ made. IsKept (listing_of project.now) made.symbol_table made.matches.items) }
     ensures none { OnErr result (tables ≡ None) }
+    ensures kept { is_some tables ≡ true → meter.new ≡ meter.old }
 {
     match tables {
         Some(tables) => Ok(tables),
@@ -81,6 +84,7 @@ pub(crate) fn tables_of_next(
     requires { HasTables next.now tables }
     ensures made { IfOk result (λ made. IsKept next.now made.symbol_table made.matches.items) }
     ensures none { OnErr result (tables ≡ None) }
+    ensures kept { is_some tables ≡ true → meter.new ≡ meter.old }
 {
     match tables {
         Some(tables) => Ok(tables),
@@ -110,6 +114,9 @@ pub(crate) fn follow_if_made(
     requires tables { HasTables (listing_of project.now) tables.old }
     ensures kept { OnOk result (HasTables (next_listing project.now staged.now) tables.new) }
     ensures back { OnErr result (HasTables (listing_of project.now) tables.new) }
+    ensures made { OnOk result (is_some tables.old ≡ true → is_some tables.new ≡ true) }
+    ensures counted { OnOk result (is_some tables.old ≡ true → CountsNames meter.old meter.new
+        (names_of_edit project.now.contents.entries staged.now.objects)) }
 {
     let next = project.next(staged);
     if tables.is_none() && are_places(next.keys()) {

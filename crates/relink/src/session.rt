@@ -129,7 +129,8 @@ impl Session {
 
     /// The same project, for edits that are linked when it is asked. `seed` is for hash tables; no link depends on it.
     pub fn deferred(self, seed: RandomState) -> DeferredSession
-        ensures { result ≡ record { project = self; last = link self } }
+        ensures project { result.project ≡ self }
+        ensures last { result.last ≡ link self }
     {
         let Session {
             alloc,

@@ -1,9 +1,14 @@
-use Rattle.std.proofs.Common.{Option, refl, subst, sym}
-use Rattle.std.specs.Prelude.{IfSome}
-use Rattle.ldmodel_project.specs.ProjectState.{Listing, next_listing, project_of}
+use Rattle.std.proofs.Common.{◌∙◌, Option, ap, arith, refl, subst, sym}
+use Rattle.std.specs.Prelude.{IfSome, is_some}
+use Rattle.elfobj.specs.Counts.{Counts}
+use Rattle.ldmodel_project.specs.ProjectState.{Listing, held, next_listing, project_of}
+use Rattle.relink_driver.specs.Reads.{ReadsNothing}
 use Rattle.relink_driver.specs.RelinkOutcome.{HasPreviousImage}
 use Rattle.relink_driver.specs.StayedSections.{PreviousState}
 use Rattle.relink.specs.PreviousLink.{HasUpdateOutcome, lent_of}
+use Rattle.relink.specs.Work.{HasPlacedWork, HasWorked}
+use Rattle.relink.proofs.Bounding.{linked_work}
+use Rattle.relink.proofs.DeferredCounts.{leaves_if}
 use Rattle.relink.proofs.Deferring.{staged_following, updated_over}
 use Rattle.relink.proofs.Lending.{last_lent}
 use Rattle.relink.proofs.deferred.link_staged.Goals as goal
@@ -41,3 +46,36 @@ returns-in-Ok-clause-updated c =
     c.lend_previous.ensures.lent
     (subst (λ (l : Listing). HasUpdateOutcome l (lent_of c.lend_previous.result.1) bytes new c.in-Ok.updated) c.next-next.ensures.next
     c.in-Ok.ensures.updated))
+
+pub returns-in-Ok-clause-counted : goal.returns-in-Ok-clause-counted
+returns-in-Ok-clause-counted c = λ made change keeps answers.
+    let h = c.args.project.now in
+    let s = c.args.staged.now in
+    let same = c.puts_same-same.result in
+    let e = c.lend_previous.result.0 in
+    let bytes = c.args.canvas.now.bytes in
+    let new = c.link_next-updated.new.canvas.bytes in
+    let m1 = c.tables_of_next.new.meter in
+    let m2 = c.link_next-updated.new.meter in
+    let none = c.tables_of_next.ensures.kept (ap is_some c.take.ensures.value ∙ made) in
+    let x = staged_following h s same bytes c.args.seen.now c.args.previous.now e c.next-next.result
+    c.keys-keys.result.now c.requires.staged c.next-next.ensures.next c.next-next.ensures.found
+    c.keys-keys.ensures.value c.keys-keys.ensures.distinct c.found_where_placed.ensures c.puts_same-same.ensures.same
+    c.puts_same-same.ensures.other c.puts_same-same.ensures.named c.lend_previous.ensures.effect c.requires.previous in
+    let updated = subst (λ (o : Option PreviousState). HasUpdateOutcome (next_listing h s) o bytes new c.in-Ok.updated)
+    c.lend_previous.ensures.lent
+    (subst (λ (l : Listing). HasUpdateOutcome l (lent_of c.lend_previous.result.1) bytes new c.in-Ok.updated)
+    c.next-next.ensures.next c.in-Ok.ensures.updated) in
+    let worked = subst (λ (o : Option PreviousState). HasWorked (project_of (next_listing h s)) o m1 m2 c.in-Ok.updated)
+    c.lend_previous.ensures.lent
+    (subst (λ (l : Listing). HasWorked (project_of l) (lent_of c.lend_previous.result.1) m1 m2 c.in-Ok.updated)
+    c.next-next.ensures.next c.in-Ok.ensures.worked) in
+    subst (λ (m : Counts). ReadsNothing m m2 × HasPlacedWork (held h) change (project_of (next_listing h s)) m m2) none (
+      c.in-Ok.ensures.reads,
+      linked_work h s same bytes new c.args.seen.now e c.args.previous.now c.in-Ok.updated change m1 m2 x answers updated
+          worked
+          (omega (arith, c.pieces.type_inv, c.pieces.ensures, ap (λ (m : Counts). m.pieces) none))
+          (omega (arith, c.fields.type_inv, c.fields.ensures, ap (λ (m : Counts). m.fields) none))
+          (omega (arith, c.bytes.type_inv, c.bytes.ensures, ap (λ (m : Counts). m.bytes) none))
+          (leaves_if change s keeps),
+    )

@@ -4,6 +4,7 @@ use Rattle.ldmodel.specs.Link.{link}
 use Rattle.ldmodel_project.specs.ProjectState.{next_listing, project_of}
 use Rattle.ldmodel_project.specs.declared.staged.Staged.{Staged}
 use Rattle.relink.specs.Deferred.{Deferred}
+use Rattle.relink.proofs.DeferredCounts.{linking_work}
 use Rattle.relink.proofs.Deferring.{linked_now, with_staged}
 use Rattle.relink.proofs.deferred.DeferredSession.link_now.Goals as goal
 
@@ -39,3 +40,14 @@ returns-clause-last c =
     let both = c.in-Ok.ensures.updated s.is_linked s.outcome c.record_outcome.new.outcome
     c.record_outcome.new.previous c.seen.ensures c.self.invariant.3 c.record_outcome.ensures in
     both.0 ∙ ap link shows
+
+pub returns-clause-counted : goal.returns-clause-counted
+returns-clause-counted c =
+    let s = c.self.inside in
+    let staged : Staged = c.in-Some.staged in
+    let is : s.staged ≡ Some staged = sym c.take.ensures.value ∙ c.in-Some.is in
+    linking_work s.project s.is_linked s.tables s.staged staged s.canvas.bytes s.outcome c.seen.result.now
+    c.args.self.now c.args.meter.now c.link_staged.new.meter is
+    (sym (ap (λ (d : Deferred). d.is_linked) c.self.view_is)) (sym (ap (λ (d : Deferred). d.edited) c.self.view_is))
+    (ap (λ (d : Deferred). d.project) c.self.view_is) c.seen.ensures c.self.invariant.3
+    c.in-Ok.ensures.counted

@@ -1,7 +1,15 @@
-use Rattle.std.proofs.Common.{subst, sym}
-use Rattle.ldmodel_project.specs.ProjectState.{Listing, ProjectState}
-use Rattle.relink.specs.Deferred.{HasTables}
-use Rattle.relink.proofs.Deferring.{made, staying, unlinked}
+use Rattle.std.proofs.Common.{◌≡◌, ◌∙◌, ap, arith, subst, sym}
+use Rattle.ldmodel.specs.EditMeaning.{change_of}
+use Rattle.ldmodel.specs.Edits.{Change}
+use Rattle.ldmodel_project.specs.ProjectState.{Listing, ProjectState, held, project_of}
+use Rattle.ldmodel_project.specs.declared.staged.Staged.{Staged}
+use Rattle.ldmodel_project.proofs.Steps.{Fits-stable}
+use Rattle.relink.specs.Deferred.{Deferred, HasTables}
+use Rattle.relink.specs.Outcome.{shown}
+use Rattle.relink.proofs.Bounding.{leaves_script}
+use Rattle.relink.proofs.DeferredCounts.{linked_parts, resolved_work, still_linked, unchanged_staging}
+use Rattle.relink.proofs.Deferring.{made, no_staged, shown_project, staying, unlinked}
+use Rattle.relink.proofs.Working.{AreSmall, objects_of_edit, same_touched}
 use Rattle.relink.proofs.deferred.DeferredSession.stage_edit.Goals as goal
 
 pub invariant_of-self-then-is_unchanged : goal.invariant_of-self-then-is_unchanged
@@ -61,3 +69,54 @@ invariant_of-self-in-Ok c =
       last.0,
       last.1,
     )
+
+pub returns-then-is_unchanged-clause-counted : goal.returns-then-is_unchanged-clause-counted
+returns-then-is_unchanged-clause-counted c = λ linked.
+    let s = c.self.inside in
+    let h : ProjectState = c.stage.new.self in
+    let parts = linked_parts s.is_linked s.tables s.staged
+    (ap (λ (d : Deferred). d.is_linked) c.self.view_is ∙ linked) in
+    let is : held h ≡ c.args.self.now.project =
+    shown_project s.project c.settle_staged.new.project h s.staged c.args.self.now c.settle_staged.ensures.project
+    c.stage.ensures.same (ap (λ (d : Deferred). d.project) c.self.view_is) in
+    let small : AreSmall c.args.meter.now = record {
+      objects = omega (arith, c.objects.type_inv, c.objects.ensures);
+      names = omega (arith, c.names.type_inv, c.names.ensures);
+      pieces = omega (arith, c.pieces.type_inv, c.pieces.ensures);
+      fields = omega (arith, c.fields.type_inv, c.fields.ensures);
+      bytes = omega (arith, c.bytes.type_inv, c.bytes.ensures);
+    } in
+    let read = objects_of_edit (change_of c.args.edit) c.args.meter.now c.stage.new.meter small.objects
+    c.in_ok-staged.ensures.read in
+    unchanged_staging c.args.self.now.project (change_of c.args.edit) _ c.args.meter.now c.stage.new.meter small read
+    (ap project_of (no_staged h c.settle_staged.new.staged c.settle_staged.ensures.none) ∙ is)
+    (still_linked c.settle_staged.new.is_linked s.tables c.settle_staged.new.staged
+    (c.settle_staged.ensures.kept parts.2 ∙ parts.0) parts.1 c.settle_staged.ensures.none)
+
+pub returns-in-Ok-clause-counted : goal.returns-in-Ok-clause-counted
+returns-in-Ok-clause-counted c = λ linked.
+    let s = c.self.inside in
+    let h : ProjectState = c.stage.new.self in
+    let staged : Staged = c.in_ok-staged.staged in
+    let change : Change = change_of c.args.edit in
+    let parts = linked_parts s.is_linked s.tables s.staged
+    (ap (λ (d : Deferred). d.is_linked) c.self.view_is ∙ linked) in
+    let is : held h ≡ c.args.self.now.project =
+    shown_project s.project c.settle_staged.new.project h s.staged c.args.self.now c.settle_staged.ensures.project
+    c.stage.ensures.same (ap (λ (d : Deferred). d.project) c.self.view_is) in
+    let small : AreSmall c.args.meter.now = record {
+      objects = omega (arith, c.objects.type_inv, c.objects.ensures);
+      names = omega (arith, c.names.type_inv, c.names.ensures);
+      pieces = omega (arith, c.pieces.type_inv, c.pieces.ensures);
+      fields = omega (arith, c.fields.type_inv, c.fields.ensures);
+      bytes = omega (arith, c.bytes.type_inv, c.bytes.ensures);
+    } in
+    let read = objects_of_edit change c.args.meter.now c.stage.new.meter small.objects c.in_ok-staged.ensures.read in
+    let same = same_touched c.names_of_objects.ensures.one c.names_of_objects.ensures.all h change staged
+    c.in_ok-staged.ensures.staged.0 c.in_ok-staged.ensures.staged.1 c.in_ok-staged.ensures.staged.2
+    c.in_ok-staged.ensures.named (Fits-stable h.contents staged.objects c.in_ok-staged.ensures.staged.0) in
+    resolved_work h staged change c.settle_staged.new.is_linked c.follow_if_made.new.tables
+    (shown s.canvas.bytes s.outcome) c.args.self.now.project c.args.meter.now c.stage.new.meter
+    c.follow_if_made.new.meter is (c.settle_staged.ensures.kept parts.2 ∙ parts.0) (c.in-Ok.ensures.made parts.1) small
+    read (c.in-Ok.ensures.counted parts.1) same c.distinct_more.ensures
+    (leaves_script h change staged c.in_ok-staged.ensures.staged.3 c.in_ok-staged.ensures.named)

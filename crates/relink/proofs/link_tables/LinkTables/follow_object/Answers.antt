@@ -7,11 +7,13 @@ use Rattle.ldmodel_project.specs.ProjectState.{Listing, next_listing}
 use Rattle.ldmodel_project.specs.Listing.{keys_of}
 use Rattle.ldmodel_project.specs.Next.{next_entries}
 use Rattle.ldscript.specs.statements.declared.statement.Statement.{Statement}
+use Rattle.symres.specs.decisions.Counted.{CountsNames}
 use Rattle.relink.specs.Change.{place_at}
 use Rattle.relink.specs.Kept.{IsKept}
 use Rattle.relink.specs.Matches.{exchanged}
 use Rattle.relink.proofs.Exchanged.{MayStand, Stands, added_within, exchanged_as, into_within, out_within}
 use Rattle.relink.proofs.Following.{coming_of, kept_after, kept_forgetting, keys_of_tables, may_stand, stands}
+use Rattle.relink.proofs.Followed.{names_of_change}
 use Rattle.relink.proofs.link_tables.LinkTables.follow_object.Goals as goal
 
 pub change-order-requires-clause-order : goal.change-order-requires-clause-order
@@ -88,3 +90,12 @@ returns-clause-kept c =
     (c.script-script.ensures ∙ ap (λ (l : Listing). l.script) c.next-next.ensures.next) c.change-order.ensures.kept)
     (coming_of h s c.args.key.0 c.next-next.result x coming c.next-next.ensures.next c.object_change-change.ensures.is
     c.in_ok-coming.ensures.room.coming)))
+
+pub returns-clause-counted : goal.returns-clause-counted
+returns-clause-counted c =
+    let h = c.args.project.now in
+    let s = c.args.staged.now in
+    let x = c.object_change-change.result in
+    subst (λ (ns : List (List ℕ)). CountsNames c.args.meter.now c.change-order.new.meter ns)
+    (names_of_change h.contents.entries s.objects c.args.key.0 x c.requires.edited c.object_change-change.ensures)
+    c.change-order.ensures.counted

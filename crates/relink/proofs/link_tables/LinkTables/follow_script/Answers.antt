@@ -1,4 +1,6 @@
-use Rattle.std.proofs.Common.{◌∙◌, List, ap, subst}
+use Rattle.std.proofs.Common.{◌∙◌, ℕ, List, ap, subst, sym}
+use Rattle.symres.specs.decisions.Counted.{CountsNames, declared_names}
+use Rattle.relink.specs.Change.{names_of_step}
 use Rattle.symres.specs.decisions.Decisions.{AreKept}
 use Rattle.ldmodel_project.specs.ProjectState.{Listing}
 use Rattle.ldscript.specs.statements.declared.statement.Statement.{Statement}
@@ -13,3 +15,12 @@ returns-clause-kept c =
     c.args.self.now.symbol_table c.redecide.new.self c.args.self.now.matches.items c.put_new-before.new.list.items
     c.in_ok-found.found c.requires.given.arranged c.requires.edited c.requires.given.kept c.next-next.ensures.next
     c.script.ensures c.in_ok-found.ensures c.redecide.ensures.names names c.put_new-before.ensures.items
+
+pub returns-clause-counted : goal.returns-clause-counted
+returns-clause-counted c =
+    let h = c.args.project.now in
+    let s = c.args.staged.now in
+    subst (λ (ns : List (List ℕ)). CountsNames c.args.meter.now c.redecide.new.meter ns)
+    (ap declared_names c.requires.given.kept.tables
+    ∙ ap (names_of_step h.contents.entries s.objects) (sym c.requires.edited))
+    c.redecide.ensures.counted
