@@ -70,4 +70,5 @@ begun xs ys n is within same = ap (λ (k : ℕ). xs ++ drop k ys) is ∙ all xs 
         let first : Some x ≡ Some y = same zero (omega arith) in
         let head : x ≡ y = cc in
         ap (λ (z : ℕ). z ∷ (xs ++ drop (length xs) ys)) head
-        ∙ ap (λ (zs : List ℕ). y ∷ zs) (all xs ys (omega (arith, within)) (λ at low. same (suc at) (omega (arith, low))))
+        ∙ ap (λ (zs : List ℕ). y ∷ zs)
+        (all xs ys (omega (arith, within)) (λ at low. same (suc at) (omega (arith, low))))

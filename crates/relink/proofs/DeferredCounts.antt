@@ -229,4 +229,5 @@ linking_work h is_linked tables now s bytes o seen d m0 m1 is linked edited show
         (subst (IsOnlyEdit p change) (edited ∙ ap (edit_since is_linked h tables) is) only) in
         subst (λ (q : Project). ReadsNothing m0 m1 × HasPlacedWork q change (project_of (next_listing h s)) m0 m1)
         parts.2
-        (counted parts.1 change parts.3 (seen_link is_linked bytes o seen (link (held h)) parts.0 like (answers parts.0)))
+        (counted parts.1 change parts.3
+        (seen_link is_linked bytes o seen (link (held h)) parts.0 like (answers parts.0)))

@@ -73,5 +73,7 @@ returns-clause-ran g c =
     let end : World = world (g.R.Source.rest c.loop-turn.source) (g.W.Sink.written c.loop-turn.sink)
     (holding (g.L.DeferredLinker.project c.loop-turn.linker) (g.L.DeferredLinker.last c.loop-turn.linker)
     c.loop-turn.given.items) in
-    let ran : Ran (start c.new-given.result.items) end (Err Long) = (c.loop-turn.invariant.done, omega arith) in
-    (c.loop-turn.given.items, subst (λ (given : List ℕ). Ran (start given) end (Err Long)) c.new-given.ensures.items ran)
+    let ran : Ran (start c.new-given.result.items) end (Err Long) = (c.loop-turn.invariant.done, omega arith) in (
+      c.loop-turn.given.items,
+      subst (λ (given : List ℕ). Ran (start given) end (Err Long)) c.new-given.ensures.items ran,
+    )

@@ -37,7 +37,8 @@ returns-in-Some-Edit-clause-stepped g c =
 
 pub returns-in_err-serve_query-in-Some-Ask-clause-stepped : goal.returns-in_err-serve_query-in-Some-Ask-clause-stepped
 returns-in_err-serve_query-in-Some-Ask-clause-stepped g c =
-    let p = err_from_is_err_and c.from_residual-in_err-serve_query-in-Some-Ask.result c.from_residual-in_err-serve_query-in-Some-Ask.ensures.1 in
+    let p = err_from_is_err_and c.from_residual-in_err-serve_query-in-Some-Ask.result
+    c.from_residual-in_err-serve_query-in-Some-Ask.ensures.1 in
     let h = rw c.in-Line.is at c.in_ok-read_line.ensures.read in
     let says = rw c.in-Some-Ask.field-0-is at c.in-Some-Ask.ensures.found in
     let w = c.in_err-serve_query-in-Some-Ask.ensures.text in
@@ -52,7 +53,8 @@ returns-in_ok-serve_query-in-Some-Ask-clause-stepped g c =
 
 pub returns-in_err-serve_link-in-Some-Link-clause-stepped : goal.returns-in_err-serve_link-in-Some-Link-clause-stepped
 returns-in_err-serve_link-in-Some-Link-clause-stepped g c =
-    let p = err_from_is_err_and c.from_residual-in_err-serve_link-in-Some-Link.result c.from_residual-in_err-serve_link-in-Some-Link.ensures.1 in
+    let p = err_from_is_err_and c.from_residual-in_err-serve_link-in-Some-Link.result
+    c.from_residual-in_err-serve_link-in-Some-Link.ensures.1 in
     let h = rw c.in-Line.is at c.in_ok-read_line.ensures.read in
     let says = rw c.in-Some-Link.field-0-is at c.in-Some-Link.ensures.found in
     let w = c.in_err-serve_link-in-Some-Link.ensures.text c.args.given.now.items in
@@ -65,15 +67,18 @@ returns-in_ok-serve_link-in-Some-Link-clause-stepped g c =
     let w = c.in_ok-serve_link-in-Some-Link.ensures.text c.args.given.now.items in
     word_served _ _ _ _ _ _ _ _ w.0 says refl h.2 w.2 w.1
 
-pub returns-in_err-serve_changes-in-Some-Changes-clause-stepped : goal.returns-in_err-serve_changes-in-Some-Changes-clause-stepped
+pub returns-in_err-serve_changes-in-Some-Changes-clause-stepped :
+    goal.returns-in_err-serve_changes-in-Some-Changes-clause-stepped
 returns-in_err-serve_changes-in-Some-Changes-clause-stepped g c =
-    let p = err_from_is_err_and c.from_residual-in_err-serve_changes-in-Some-Changes.result c.from_residual-in_err-serve_changes-in-Some-Changes.ensures.1 in
+    let p = err_from_is_err_and c.from_residual-in_err-serve_changes-in-Some-Changes.result
+    c.from_residual-in_err-serve_changes-in-Some-Changes.ensures.1 in
     let h = rw c.in-Line.is at c.in_ok-read_line.ensures.read in
     let says = rw c.in-Some-Changes.field-0-is at c.in-Some-Changes.ensures.found in
     let w = c.in_err-serve_changes-in-Some-Changes.ensures.text in
     rw (p.1, p.2) (inl (word_cut _ _ _ _ _ _ _ _ w.0 says refl h.2 w.2 w.1.0 w.1.1))
 
-pub returns-in_ok-serve_changes-in-Some-Changes-clause-stepped : goal.returns-in_ok-serve_changes-in-Some-Changes-clause-stepped
+pub returns-in_ok-serve_changes-in-Some-Changes-clause-stepped :
+    goal.returns-in_ok-serve_changes-in-Some-Changes-clause-stepped
 returns-in_ok-serve_changes-in-Some-Changes-clause-stepped g c =
     let h = rw c.in-Line.is at c.in_ok-read_line.ensures.read in
     let says = rw c.in-Some-Changes.field-0-is at c.in-Some-Changes.ensures.found in

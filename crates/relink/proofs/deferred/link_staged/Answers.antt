@@ -24,7 +24,8 @@ link_next-updated-requires-clause-previous c =
     c.keys-keys.result.now c.requires.staged c.next-next.ensures.next c.next-next.ensures.found
     c.keys-keys.ensures.value c.keys-keys.ensures.distinct c.found_where_placed.ensures c.puts_same-same.ensures.same
     c.puts_same-same.ensures.other c.puts_same-same.ensures.named c.lend_previous.ensures.effect c.requires.previous in
-    subst (λ (l : Listing). IfSome (lent_of c.lend_previous.result.1) (HasPreviousImage (project_of l) bytes)) (sym c.next-next.ensures.next)
+    subst (λ (l : Listing). IfSome (lent_of c.lend_previous.result.1) (HasPreviousImage (project_of l) bytes))
+    (sym c.next-next.ensures.next)
     (subst (λ (o : Option PreviousState). IfSome o (HasPreviousImage (project_of (next_listing h s)) bytes))
     (sym c.lend_previous.ensures.lent)
     (last_lent h s same bytes c.args.seen.now e x.edit c.args.previous.now e.known refl x.kept x.effect))
@@ -44,8 +45,8 @@ returns-in-Ok-clause-updated c =
     updated_over h s same bytes new c.args.seen.now c.args.previous.now e x c.in-Ok.updated
     (subst (λ (o : Option PreviousState). HasUpdateOutcome (next_listing h s) o bytes new c.in-Ok.updated)
     c.lend_previous.ensures.lent
-    (subst (λ (l : Listing). HasUpdateOutcome l (lent_of c.lend_previous.result.1) bytes new c.in-Ok.updated) c.next-next.ensures.next
-    c.in-Ok.ensures.updated))
+    (subst (λ (l : Listing). HasUpdateOutcome l (lent_of c.lend_previous.result.1) bytes new c.in-Ok.updated)
+    c.next-next.ensures.next c.in-Ok.ensures.updated))
 
 pub returns-in-Ok-clause-counted : goal.returns-in-Ok-clause-counted
 returns-in-Ok-clause-counted c = λ made change keeps answers.
@@ -70,9 +71,11 @@ returns-in-Ok-clause-counted c = λ made change keeps answers.
     c.lend_previous.ensures.lent
     (subst (λ (l : Listing). HasWorked (project_of l) (lent_of c.lend_previous.result.1) m1 m2 c.in-Ok.updated)
     c.next-next.ensures.next c.in-Ok.ensures.worked) in
-    subst (λ (m : Counts). ReadsNothing m m2 × HasPlacedWork (held h) change (project_of (next_listing h s)) m m2) none (
+    let q = project_of (next_listing h s) in
+    subst (λ (m : Counts). ReadsNothing m m2 × HasPlacedWork (held h) change q m m2) none (
       c.in-Ok.ensures.reads,
-      linked_work h s same bytes new c.args.seen.now e c.args.previous.now c.in-Ok.updated change m1 m2 x answers updated
+      linked_work h s same bytes new c.args.seen.now e c.args.previous.now c.in-Ok.updated change m1 m2 x answers
+          updated
           worked
           (omega (arith, c.pieces.type_inv, c.pieces.ensures, ap (λ (m : Counts). m.pieces) none))
           (omega (arith, c.fields.type_inv, c.fields.ensures, ap (λ (m : Counts). m.fields) none))
