@@ -1,6 +1,6 @@
 -- The map that is made of the values of a link.
 use Rattle.std.proofs.Common.{◌≡◌, ◌∙◌, ℕ, ◌<◌, zero, suc, Bool, true, false, cond, List, [], ◌∷◌, length, map}
-use Rattle.std.proofs.Common.{inl, inr, filter, get_or, ap, sym, subst, refl, arith}
+use Rattle.std.proofs.Common.{inl, inr, filter, get_or, ap, sym, subst, refl, arith, Global, Vec}
 use Rattle.std.specs.Prelude.{Contains, Result, Ok, Err, IfOk}
 use Rattle.std.specs.List.{All, AllPairs}
 use Rattle.std.specs.Ordering.{is_lt}
@@ -26,14 +26,10 @@ use Rattle.ldmodel_project.specs.ByPlace.{rows_in}
 use Rattle.emit_relocate.specs.Values.{value_of}
 use Rattle.emit_relocate.specs.declared.value.SymbolValue as code
 use Rattle.emit_relocate.specs.declared.value.SymbolValue.TheVariants as value
-use Rattle.emit_text.specs.Definer.{numbered}
-use Rattle.emit_text.specs.declared.definer.Definer.{Definer}
-use Rattle.emit_text.specs.declared.definer.Definer.TheVariants as definer
 use Rattle.emit_text.specs.MapOf.{AreSymbolsOf, IsMapOf, IsSymbolOf, IsValue, symbol_names}
-use Rattle.emit_text.specs.declared.maps.LinkMap.{LinkMap}
 use Rattle.emit_text.specs.declared.maps.MapParts.{MapParts}
 use Rattle.emit_text.specs.declared.symbols.MapSymbol.{MapSymbol}
-use Rattle.emit_values.specs.SymbolRows.{definer_in, value_in}
+use Rattle.emit_values.specs.SymbolRows.{value_in}
 use Rattle.emit_values.specs.Values.{AreValues, HasFacts, shown_symbol}
 use Rattle.emit_values.specs.declared.values.OutputSymbol.{OutputSymbol}
 use Rattle.emit_values.specs.declared.values.Values.{Values}
@@ -106,16 +102,10 @@ value_is (value.Number x) = refl
 value_is value.NotDefined = refl
 value_is value.NotInOutput = refl
 
-numbered_same : (x : Definer) → numbered (λ key. key) x ≡ x
-numbered_same definer.Nothing = refl
-numbered_same definer.Script = refl
-numbered_same (definer.Object key) = refl
-numbered_same (definer.WeakOf key) = refl
-
 symbol_is : (p : Project) (s : Layout) (x : OutputSymbol) → HasFacts p s x → IsListed p s (shown_symbol p x)
-    → IsSymbolOf p (λ key. key) s (map_symbol x)
+    → IsSymbolOf p s (map_symbol x)
 symbol_is p s x facts h = record {
-  definer = numbered_same (definer_in x.row) ∙ facts.definer;
+  definer = facts.definer;
   value = λ d.
       subst (λ (v : SymbolValue). IsValue v (number_of (value_in x.row)))
       (ap (λ (y : model.OutputSymbol). y.value) h.is)
@@ -124,7 +114,7 @@ symbol_is p s x facts h = record {
 }
 
 symbols_are : (p : Project) (s : Layout) (xs : List OutputSymbol) → Each (HasFacts p s) xs
-    → Each (IsListed p s) (map (shown_symbol p) xs) → Each (IsSymbolOf p (λ key. key) s) (map map_symbol xs)
+    → Each (IsListed p s) (map (shown_symbol p) xs) → Each (IsSymbolOf p s) (map map_symbol xs)
 symbols_are p s [] facts h = tt
 symbols_are p s (x ∷ xs) facts h = (symbol_is p s x facts.0 h.0, symbols_are p s xs facts.1 h.1)
 
@@ -158,9 +148,9 @@ code_names : (p : Project) (s : Layout) (xs : List OutputSymbol) → map (shown_
 code_names p s xs same = same_names p xs ∙ ap (map name_of) same
 
 are_symbols : (p : Project) (s : Layout) (xs : List OutputSymbol) → map (shown_symbol p) xs ≡ output_symbols p s
-    → All (HasFacts p s) xs → AreSymbolsOf p (λ key. key) s (map map_symbol xs)
+    → All (HasFacts p s) xs → AreSymbolsOf p s (map map_symbol xs)
 are_symbols p s xs same facts = record {
-  each = all_of_each (IsSymbolOf p (λ key. key) s) (map map_symbol xs)
+  each = all_of_each (IsSymbolOf p s) (map map_symbol xs)
       (symbols_are p s xs (each_of_all (HasFacts p s) xs facts)
       (subst (Each (IsListed p s)) (sym same) (all_listed p s)));
   order = pairs_from (map map_symbol xs) (subst Asc (sym (code_names p s xs same)) (names_asc p s));
@@ -187,14 +177,14 @@ pub record Makes (p : Project) (l : LinkLayout) (v : Values) (m : MapParts) (xs 
 
 is_map : (p : Project) (s : Layout) (a : SymbolTableState) (l : LinkLayout) (v : Values) (m : MapParts)
     (xs : List MapSymbol) → Makes p l v m xs
-    → IsLinkLayout p s l → AreValues p s a v → IsMapOf p (λ key. key) s m xs
+    → IsLinkLayout p s l → AreValues p s a v → IsMapOf p s m xs
 is_map p s a l v m xs h link_layout values = record {
   entry = h.entry ∙ ap number_or_0 values.entry;
   sections = h.sections;
   names = h.outputs s link_layout;
   placement = h.placement s link_layout;
   rows = h.lent ∙ sym (h.placed s link_layout);
-  listed = subst (AreSymbolsOf p (λ key. key) s) (sym h.symbols) (are_symbols p s v.symbols.items values.symbols
+  listed = subst (AreSymbolsOf p s) (sym h.symbols) (are_symbols p s v.symbols.items values.symbols
       values.facts);
   complete = λ name declared is.
       subst (λ (ys : List MapSymbol). Contains (symbol_names ys) name) (sym h.symbols)
@@ -202,9 +192,9 @@ is_map p s a l v m xs h link_layout values = record {
 }
 
 pub text_is : {E : Type 0} (p : Project) (l : LinkLayout) (v : Values) (m : MapParts) (xs : List MapSymbol)
-    (r : Result LinkMap E) → Makes p l v m xs
-    → ((s : Layout) → IsMapOf p (λ key. key) s m xs → IfOk r (λ made. made.text.items ≡ map_text p s))
-    → IfOk r (λ made. (s : Layout) (a : SymbolTableState) → IsLinkLayout p s l → AreValues p s a v
-    → made.text.items ≡ map_text p s)
+    (r : Result (Vec ℕ Global) E) → Makes p l v m xs
+    → ((s : Layout) → IsMapOf p s m xs → IfOk r (λ text. text.items ≡ map_text p s))
+    → IfOk r (λ text. (s : Layout) (a : SymbolTableState) → IsLinkLayout p s l → AreValues p s a v
+    → text.items ≡ map_text p s)
 text_is p l v m xs (Ok text) h is = λ s a link_layout values. is s (is_map p s a l v m xs h link_layout values)
 text_is p l v m xs (Err e) h is = tt

@@ -20,4 +20,3 @@ pub mod Pieces
 pub mod Sizes
 pub mod Tables
 pub mod Listed
-pub mod PreviousNames

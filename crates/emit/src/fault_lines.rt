@@ -4,7 +4,6 @@ ghost use Rattle.std.specs.Prelude.{◌≡◌, IfOk};
 ghost use Rattle.ldmodel.specs.FaultText as definition;
 ghost use Rattle.ldmodel_project.specs.ByPlace.{faults_in};
 
-use crate::map_members::MapMembers;
 use emit_text::assertion::assertions;
 use emit_text::faults;
 use emit_text::script_names::ScriptNames;
@@ -39,5 +38,5 @@ pub fn fault_text(
         mentioned: &mentioned,
         entry: project.entry_symbol(),
     };
-    faults::render_faults(alloc, faults, &names, &MapMembers::new(project, None))
+    faults::render_faults(alloc, faults, &names, project)
 }

@@ -4,7 +4,7 @@
 //! - `relocated` over `keys`: the fields of all relocations, or their faults; `law`;
 //! - `drawing` over `output`, `parts`, `pieces`, `data_runs`, `section_fields`, `symbols`: the image; `length`;
 //! - `good`: a link without faults is one that the laws on two links speak of;
-//! - `map`, `fault_lines` over `map_members`: the texts;
+//! - `map`, `fault_lines`: the texts;
 //! - the parts `fields`, `relocate`, `values`, `image`, `in_place`, `text`. Other families name this crate alone.
 #![tactic(auto)]
 
@@ -16,7 +16,6 @@ mod keys;
 mod law;
 pub mod length;
 pub mod map;
-pub mod map_members;
 mod output;
 mod parts;
 mod pieces;

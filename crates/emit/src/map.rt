@@ -1,24 +1,22 @@
 //! What the map of a link is made of; `emit_text::maps` writes it.
 
-ghost use Rattle.std.specs.Prelude.{◌≡◌, IfOk, map};
-ghost use Rattle.std.specs.Vec.{vec_items};
+ghost use Rattle.std.specs.Prelude.{◌≡◌, IfOk};
 ghost use Rattle.place.specs.LinkLayout.{IsLinkLayout};
 ghost use Rattle.ldmodel.specs.Layout.{Layout};
 ghost use Rattle.ldmodel.specs.MapText as definition;
 ghost use Rattle.ldmodel.specs.Rows as model;
 ghost use Rattle.symres.specs.SymbolTable.{SymbolTableState};
 ghost use Rattle.ldmodel_project.specs.ByPlace.{rows_in};
-ghost use Rattle.emit_text.specs.ShownMap.{AreNamesOfRows};
 ghost use Rattle.emit_values.specs.Values.{AreValues};
 
-use crate::map_members::MapMembers;
 use emit_text::maps;
-use emit_text::maps::{LinkMap, MapParts};
+use emit_text::maps::MapParts;
 use emit_text::symbols::{MapSymbol, MapSymbols};
 use emit_values::values::{OutputSymbol, Values};
 use ldmodel::memory::NoMemory;
 use ldmodel::rows::Piece;
 use ldmodel_laws::layout::placed_are_rows;
+use ldmodel_project::view::ProjectView;
 use place::LinkLayout;
 use place::sections::law::outputs_are_of_script;
 use std::alloc::Global;
@@ -50,30 +48,28 @@ impl<'a> MapSymbols for ListedSymbols<'a> {
     }
 }
 
-/// The map of a link without faults, and the names in the lines of its input sections, row by row.
+/// The map of a link without faults.
 ///
 /// # Errors
 ///
 /// If memory runs out.
 pub fn map_text(
     alloc: Global,
-    members: &MapMembers<'_, '_>,
+    project: &ProjectView<'_>,
     rows: &[Vec<Piece>],
     link_layout: &LinkLayout,
     values: &Values<'_>,
-) -> Result<LinkMap, NoMemory>
-    requires { rows_in members.now.project.now rows.now ≡ model.rows members.now.project.now }
-    ensures text { IfOk result (λ made. (layout : Layout) (table : SymbolTableState)
-        → IsLinkLayout members.now.project.now layout link_layout.now
-        → AreValues members.now.project.now layout table values.now
-        → made.text.items ≡ definition.map_text members.now.project.now layout) }
-    ensures names { IfOk result (λ made. AreNamesOfRows members.now.project.now (λ key. key)
-        (map vec_items rows.now) made.names.items) }
+) -> Result<Vec<u8>, NoMemory>
+    requires { rows_in project.now rows.now ≡ model.rows project.now }
+    ensures { IfOk result (λ text. (layout : Layout) (table : SymbolTableState)
+        → IsLinkLayout project.now layout link_layout.now
+        → AreValues project.now layout table values.now
+        → text.items ≡ definition.map_text project.now layout) }
 {
     // for the prover: bring in these laws
     placed_are_rows();
     outputs_are_of_script();
-    let script = members.project().script();
+    let script = project.script();
     let sections = script.output_sections(alloc)?;
     let symbols = ListedSymbols {
         symbols: &values.symbols,
@@ -84,5 +80,5 @@ pub fn map_text(
         placement: link_layout.placement.view(),
         rows,
     };
-    maps::render_map(alloc, &parts, &symbols, members)
+    maps::render_map(alloc, &parts, &symbols, project)
 }

@@ -9,6 +9,4 @@ pub mod SideBySide
 pub mod Mapped
 pub mod ByteOrder
 pub mod MapNames
-pub mod ByteStrings
-pub mod MapRows
 pub mod Definers

@@ -12,13 +12,12 @@ names_last : (xs ys : List ℕ) → names xs ys ≡ (xs ++ (32 ∷ (ys ++ []))) 
 names_last xs ys =
     ap (λ t. t ++ 10 ∷ []) (append_assoc xs (32 ∷ []) ys ∙ ap (λ zs. xs ++ 32 ∷ zs) (sym (append-nil ys)))
 
-pub piece_spelled : (front : List ℕ) (start size : ℕ) (object section : List ℕ)
-    → front ≡ codes "piece " ++ (hex start ++ 32 ∷ []) ++ (hex size ++ 32 ∷ [])
-    → front ++ names object section ≡ line_of (codes "piece" ∷ hex start ∷ hex size ∷ object ∷ section ∷ [])
+pub piece_spelled : (start size : ℕ) (object section : List ℕ)
+    → codes "piece " ++ (hex start ++ 32 ∷ []) ++ (hex size ++ 32 ∷ []) ++ names object section
+    ≡ line_of (codes "piece" ∷ hex start ∷ hex size ∷ object ∷ section ∷ [])
 unfolding line_of hex
-piece_spelled front start size object section e =
-    ap (λ t. t ++ names object section) e
-    ∙ ap (λ t. codes "piece " ++ (hex start ++ 32 ∷ []) ++ (hex size ++ 32 ∷ []) ++ t) (names_last object section)
+piece_spelled start size object section =
+    ap (λ t. codes "piece " ++ (hex start ++ 32 ∷ []) ++ (hex size ++ 32 ∷ []) ++ t) (names_last object section)
 
 pub symbol_spelled : (value : Option ℕ) (name owner : List ℕ)
     → codes "symbol " ++ (value_text value ++ 32 ∷ []) ++ names name owner

@@ -16,13 +16,6 @@ definer_of Provided = definer.Script
 definer_of Undefined = definer.Nothing
 definer_of Duplicate = definer.Nothing
 
--- the same, if the object at a place has a number
-abbrev pub numbered : (number : ℕ → ℕ) → Definer → Definer
-numbered number definer.Nothing = definer.Nothing
-numbered number definer.Script = definer.Script
-numbered number (definer.Object place) = definer.Object (record { 0 = number place.0 })
-numbered number (definer.WeakOf place) = definer.WeakOf (record { 0 = number place.0 })
-
 abbrev pub defines : Definer → Bool
 defines definer.Nothing = false
 defines definer.Script = true

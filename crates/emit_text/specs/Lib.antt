@@ -4,5 +4,3 @@ pub mod Definer
 pub mod Naming
 pub mod ShownMap
 pub mod MapOf
-pub mod ByteStrings
-pub mod KnownNames

@@ -49,5 +49,5 @@ abbrev pub numbered : List LinkedSection → SectionIndex → Option LinkedSecti
 numbered sections k = find (λ (section : LinkedSection). section.number.0 == k.0) sections
 
 -- the line of a fault
-abbrev pub line_of_fault : Project → (number : ℕ → ℕ) → code.Fault → List ℕ
-line_of_fault project number f = line_of (fault_words (fault_of project number f))
+abbrev pub line_of_fault : Project → code.Fault → List ℕ
+line_of_fault project f = line_of (fault_words (fault_of project (λ key. key) f))

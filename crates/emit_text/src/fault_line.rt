@@ -9,12 +9,12 @@ ghost use Rattle.ldmodel.specs.NameFaults.{object_name};
 ghost use Rattle.emit_text.specs.Naming.{AreNamesOf, line_of_fault};
 
 use crate::line::{Word, put_line};
-use crate::members::Members;
 use crate::named::{part_name, relocation, section_name, symbol_name};
 use crate::script_names::ScriptNames;
 use elfobj::relocation::{Relocation, RelocationKind, SymbolIndex};
 use ldmodel::fault::{Definer, Fault, SiteKey};
 use ldmodel::names::{Entry, ObjectPlace};
+use ldmodel_project::view::ProjectView;
 use std::alloc::AllocError;
 
 /// A line of a code and a line of the script.
@@ -54,12 +54,12 @@ fn put_names(text: &mut Vec<u8>, code: &[u8], first: &[u8], second: &[u8]) -> Re
 }
 
 /// What defines a name: the name of an object, or `script`.
-fn definer_name<M: Members>(members: &M, definer: Definer) -> &[u8]
-    ensures { result.now ≡ definer_word (definer_of (M.project members.now) (M.number members.now) definer) }
+fn definer_name<'a>(project: &ProjectView<'a>, definer: Definer) -> &'a [u8]
+    ensures { result.now ≡ definer_word (definer_of project.now (λ key. key) definer) }
 {
     match definer {
         Definer::Script => b"script",
-        Definer::Object(key) => members.name(key),
+        Definer::Object(key) => project.name(key),
     }
 }
 
@@ -71,12 +71,12 @@ fn type_number(kind: RelocationKind) -> u32
 }
 
 /// The relocation of a site; one that does nothing if there is none.
-fn relocation_or_none<M: Members>(members: &M, site: SiteKey) -> Relocation
-    ensures offset { result.offset ≡ offset_of (M.project members.now) (place_of (M.number members.now) site) }
-    ensures symbol { result.symbol.0 ≡ symbol_of (M.project members.now) (place_of (M.number members.now) site) }
-    ensures kind { result.kind ≡ kind_of (M.project members.now) (place_of (M.number members.now) site) }
+fn relocation_or_none(project: &ProjectView<'_>, site: SiteKey) -> Relocation
+    ensures offset { result.offset ≡ offset_of project.now (place_of (λ key. key) site) }
+    ensures symbol { result.symbol.0 ≡ symbol_of project.now (place_of (λ key. key) site) }
+    ensures kind { result.kind ≡ kind_of project.now (place_of (λ key. key) site) }
 {
-    match relocation(members, site) {
+    match relocation(project, site) {
         Some(found) => found,
         None => Relocation {
             offset: 0,
@@ -88,47 +88,46 @@ fn relocation_or_none<M: Members>(members: &M, site: SiteKey) -> Relocation
 }
 
 /// `F1 NAME OBJECT FIRST`
-fn put_duplicate<M: Members>(
+fn put_duplicate(
     text: &mut Vec<u8>,
-    members: &M,
+    project: &ProjectView<'_>,
     entry: Entry<ObjectPlace>,
     first: Definer,
 ) -> Result<(), AllocError>
     ensures { OnOk result (text.new.items ≡ text.old.items ++ line_of
-        (codes "F1" ∷ name_of_symbol (M.project members.now) (M.number members.now entry.object.0) entry.symbol.0 ∷
-        object_name (M.project members.now) (M.number members.now entry.object.0) ∷ definer_word
-        (definer_of (M.project members.now) (M.number members.now) first) ∷ [])) }
+        (codes "F1" ∷ name_of_symbol project.now entry.object.0 entry.symbol.0 ∷ object_name project.now entry.object.0
+        ∷ definer_word (definer_of project.now (λ key. key) first) ∷ [])) }
 {
     let object = entry.object;
-    let name = symbol_name(members, object, entry.symbol);
+    let name = symbol_name(project, object, entry.symbol);
     put_line(
         text,
         &[
             Word::Bytes(b"F1"),
             Word::Bytes(name),
-            Word::Bytes(members.name(object)),
-            Word::Bytes(definer_name(members, first)),
+            Word::Bytes(project.name(object)),
+            Word::Bytes(definer_name(project, first)),
         ],
     )
 }
 
 /// `F12 OBJECT SECTION OFFSET NAME`
-fn put_undefined<M: Members>(
+fn put_undefined(
     text: &mut Vec<u8>,
-    members: &M,
+    project: &ProjectView<'_>,
     site: SiteKey,
 ) -> Result<(), AllocError>
     ensures { OnOk result (text.new.items ≡ text.old.items ++ line_of
-        (fault_words (undefined_at (M.project members.now) (place_of (M.number members.now) site)))) }
+        (fault_words (undefined_at project.now (place_of (λ key. key) site)))) }
 {
-    let relocation = relocation_or_none(members, site);
-    let name = symbol_name(members, site.object, relocation.symbol);
+    let relocation = relocation_or_none(project, site);
+    let name = symbol_name(project, site.object, relocation.symbol);
     put_line(
         text,
         &[
             Word::Bytes(b"F12"),
-            Word::Bytes(members.name(site.object)),
-            Word::Bytes(section_name(members, site.object, site.section)),
+            Word::Bytes(project.name(site.object)),
+            Word::Bytes(section_name(project, site.object, site.section)),
             Word::Hex(relocation.offset),
             Word::Bytes(name),
         ],
@@ -136,17 +135,21 @@ fn put_undefined<M: Members>(
 }
 
 /// `F13 OBJECT SECTION OFFSET INDEX`
-fn put_missing<M: Members>(text: &mut Vec<u8>, members: &M, site: SiteKey) -> Result<(), AllocError>
+fn put_missing(
+    text: &mut Vec<u8>,
+    project: &ProjectView<'_>,
+    site: SiteKey,
+) -> Result<(), AllocError>
     ensures { OnOk result (text.new.items ≡ text.old.items ++ line_of
-        (fault_words (missing_at (M.project members.now) (place_of (M.number members.now) site)))) }
+        (fault_words (missing_at project.now (place_of (λ key. key) site)))) }
 {
-    let relocation = relocation_or_none(members, site);
+    let relocation = relocation_or_none(project, site);
     put_line(
         text,
         &[
             Word::Bytes(b"F13"),
-            Word::Bytes(members.name(site.object)),
-            Word::Bytes(section_name(members, site.object, site.section)),
+            Word::Bytes(project.name(site.object)),
+            Word::Bytes(section_name(project, site.object, site.section)),
             Word::Hex(relocation.offset),
             Word::Decimal(u128::from(relocation.symbol.0)),
         ],
@@ -154,22 +157,22 @@ fn put_missing<M: Members>(text: &mut Vec<u8>, members: &M, site: SiteKey) -> Re
 }
 
 /// `F14 OBJECT SECTION OFFSET TYPE VALUE`
-fn put_overflow<M: Members>(
+fn put_overflow(
     text: &mut Vec<u8>,
-    members: &M,
+    project: &ProjectView<'_>,
     site: SiteKey,
     value: u64,
 ) -> Result<(), AllocError>
     ensures { OnOk result (text.new.items ≡ text.old.items ++ line_of
-        (fault_words (overflow_at (M.project members.now) (place_of (M.number members.now) site) value))) }
+        (fault_words (overflow_at project.now (place_of (λ key. key) site) value))) }
 {
-    let relocation = relocation_or_none(members, site);
+    let relocation = relocation_or_none(project, site);
     put_line(
         text,
         &[
             Word::Bytes(b"F14"),
-            Word::Bytes(members.name(site.object)),
-            Word::Bytes(section_name(members, site.object, site.section)),
+            Word::Bytes(project.name(site.object)),
+            Word::Bytes(section_name(project, site.object, site.section)),
             Word::Hex(relocation.offset),
             Word::Decimal(u128::from(type_number(relocation.kind))),
             Word::Hex(value),
@@ -179,22 +182,22 @@ fn put_overflow<M: Members>(
 
 /// The line of a fault.
 #[tactic(auto, unfolding(ldmodel::specs::FaultCode::fault_of))]
-pub fn put_fault<M: Members>(
+pub fn put_fault(
     text: &mut Vec<u8>,
     names: &ScriptNames<'_>,
-    members: &M,
+    project: &ProjectView<'_>,
     fault: Fault,
 ) -> Result<(), AllocError>
-    requires { AreNamesOf (M.project members.now) names.now }
+    requires { AreNamesOf project.now names.now }
     ensures { OnOk result (text.new.items
-        ≡ text.old.items ++ line_of_fault (M.project members.now) (M.number members.now) fault) }
+        ≡ text.old.items ++ line_of_fault project.now fault) }
 {
     match fault {
-        Fault::DuplicateDefinition { entry, first } => put_duplicate(text, members, entry, first),
+        Fault::DuplicateDefinition { entry, first } => put_duplicate(text, project, entry, first),
         Fault::UndefinedEntry => put_line(text, &[Word::Bytes(b"F2"), Word::Bytes(names.entry())]),
         Fault::Orphan(section) => {
-            let name = part_name(members, section);
-            put_names(text, b"F3", members.name(section.object), name)
+            let name = part_name(project, section);
+            put_names(text, b"F3", project.name(section.object), name)
         }
         Fault::NotReady { line, name } => put_message(text, b"F4", line, names.mentioned(name)),
         Fault::NoValue { line } => put_numbered(text, b"F5", line),
@@ -213,10 +216,10 @@ pub fn put_fault<M: Members>(
             text,
             &[Word::Bytes(b"F11"), Word::Decimal(length)],
         ),
-        Fault::UndefinedSymbol(site) => put_undefined(text, members, site),
-        Fault::TargetNotInOutput(site) => put_missing(text, members, site),
+        Fault::UndefinedSymbol(site) => put_undefined(text, project, site),
+        Fault::TargetNotInOutput(site) => put_missing(text, project, site),
         Fault::EntryNotInOutput => put_line(text, &[Word::Bytes(b"F13"), Word::Bytes(b"entry")]),
-        Fault::FieldOverflow { site, value } => put_overflow(text, members, site, value),
+        Fault::FieldOverflow { site, value } => put_overflow(text, project, site, value),
         Fault::AssertionFailed(number) => {
             let (line, message) = names.assertion(number);
             put_message(text, b"F15", line, message)

@@ -1,30 +1,29 @@
 //! The lines of faults.
 
-ghost use Rattle.std.specs.Prelude.{◌≡◌, ◌++◌, IfOk, OnOk, map};
-ghost use Rattle.ldmodel.specs.FaultCode.{fault_of};
+ghost use Rattle.std.specs.Prelude.{◌≡◌, ◌++◌, IfOk, OnOk};
 ghost use Rattle.ldmodel.specs.FaultText.{fault_text};
+ghost use Rattle.ldmodel_project.specs.ByPlace.{faults_in};
 ghost use Rattle.emit_text.specs.Naming.{AreNamesOf};
 
 use crate::fault_line::put_fault;
-use crate::members::Members;
 use crate::script_names::ScriptNames;
 use ldmodel::fault::Fault;
 use ldmodel::memory::NoMemory;
+use ldmodel_project::view::ProjectView;
 use std::alloc::{AllocError, Global};
 
 /// The lines of these faults.
-fn put_faults<M: Members>(
+fn put_faults(
     text: &mut Vec<u8>,
     names: &ScriptNames<'_>,
-    members: &M,
+    project: &ProjectView<'_>,
     faults: &[Fault],
 ) -> Result<(), AllocError>
-    requires { AreNamesOf (M.project members.now) names.now }
-    ensures { OnOk result (text.new.items
-        ≡ text.old.items ++ fault_text (map (fault_of (M.project members.now) (M.number members.now)) faults.now)) }
+    requires { AreNamesOf project.now names.now }
+    ensures { OnOk result (text.new.items ≡ text.old.items ++ fault_text (faults_in project.now faults.now)) }
 {
     for fault in faults {
-        put_fault(text, names, members, *fault)?;
+        put_fault(text, names, project, *fault)?;
     }
     Ok(())
 }
@@ -37,17 +36,16 @@ const FAULT_ROOM: usize = 64;
 /// # Errors
 ///
 /// If there is no memory for the text, the only memory that it takes.
-pub fn render_faults<M: Members>(
+pub fn render_faults(
     alloc: Global,
     faults: &[Fault],
     names: &ScriptNames<'_>,
-    members: &M,
+    project: &ProjectView<'_>,
 ) -> Result<Vec<u8>, NoMemory>
-    requires { AreNamesOf (M.project members.now) names.now }
-    ensures { IfOk result (λ text. text.items
-        ≡ fault_text (map (fault_of (M.project members.now) (M.number members.now)) faults.now)) }
+    requires { AreNamesOf project.now names.now }
+    ensures { IfOk result (λ text. text.items ≡ fault_text (faults_in project.now faults.now)) }
 {
     let mut text = Vec::with_capacity(alloc, faults.len().saturating_mul(FAULT_ROOM))?;
-    put_faults(&mut text, names, members, faults)?;
+    put_faults(&mut text, names, project, faults)?;
     Ok(text)
 }

@@ -3,23 +3,18 @@
 //!
 //! - `faults`, `fault_line`: fault lines; `maps`, `map_line`: the map; `line`, `line_buffer`, `hex`: how lines are
 //!   written;
-//! - `definer`: what defines a symbol; `byte_strings`: the names in a map, kept for the next, which finds them by
-//!   `known_row`;
-//! - `members`, `script_names`, `named`, `symbols`, `assertion`: where names come from.
+//! - `definer`: what defines a symbol; `script_names`, `named`, `symbols`, `assertion`: where names come from.
 #![tactic(auto)]
 
 pub mod assertion;
-pub mod byte_strings;
 pub mod definer;
 mod fault_line;
 pub mod faults;
 mod hex;
-pub mod known_row;
 mod line;
 mod line_buffer;
 mod map_line;
 pub mod maps;
-pub mod members;
 mod named;
 pub mod script_names;
 pub mod symbols;

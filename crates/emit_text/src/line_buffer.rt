@@ -38,15 +38,6 @@ impl LineBuffer {
         }
     }
 
-    /// How many bytes there are.
-    #[inline(always)]
-    pub(crate) fn len(&self) -> usize
-        ensures is { result ≡ length self.now }
-        ensures few { result ≤ 1024 }
-    {
-        self.used
-    }
-
     /// Adds a part, for which there is room.
     #[inline(always)]
     pub(crate) fn put(&mut self, part: &[u8])
@@ -97,7 +88,6 @@ impl LineBuffer {
     pub(crate) fn move_to(&mut self, text: &mut Vec<u8>) -> Result<(), AllocError>
         ensures text { OnOk result (text.new.items ≡ text.old.items ++ self.old) }
         ensures empty { OnOk result (self.new ≡ []) }
-        ensures kept { length (text.old.items ++ self.old) ≤ length (text.new.items ++ self.new) }
     {
         text.extend_from_slice(&self.bytes[..self.used])?;
         self.used = 0;
@@ -110,7 +100,6 @@ impl LineBuffer {
     pub(crate) fn make_room(&mut self, text: &mut Vec<u8>, count: usize) -> Result<bool, AllocError>
         ensures same { OnOk result (text.new.items ++ self.new ≡ text.old.items ++ self.old) }
         ensures room { IfOk result (λ has. has ≡ true → length self.new + count ≤ 1024) }
-        ensures kept { length (text.old.items ++ self.old) ≤ length (text.new.items ++ self.new) }
     {
         if count <= ROOM - self.used {
             return Ok(true);
@@ -122,8 +111,7 @@ impl LineBuffer {
     /// Adds a part: where there is no room for it, the bytes before it are added to a text, and so is a part that is
     /// longer than any room. Fails if memory runs out.
     pub(crate) fn append(&mut self, text: &mut Vec<u8>, part: &[u8]) -> Result<(), AllocError>
-        ensures same { OnOk result (text.new.items ++ self.new ≡ (text.old.items ++ self.old) ++ part.now) }
-        ensures kept { length (text.old.items ++ self.old) ≤ length (text.new.items ++ self.new) }
+        ensures { OnOk result (text.new.items ++ self.new ≡ (text.old.items ++ self.old) ++ part.now) }
     {
         if self.make_room(text, part.len())? {
             self.put(part);

@@ -2,7 +2,7 @@
 
 ghost use Rattle.std.specs.Prelude.{◌≡◌, ◌∷◌, ◌++◌, ◌≤◌, ◌+◌, [], OnOk, codes, length};
 ghost use Rattle.ldmodel.specs.Lines.{hex, line_of};
-ghost use Rattle.emit_text.specs.ShownMap.{piece_numbers, symbol_parts, value_text};
+ghost use Rattle.emit_text.specs.ShownMap.{piece_parts, symbol_parts, value_text};
 
 use crate::hex::hex_digits;
 use crate::line_buffer::LineBuffer;
@@ -65,14 +65,11 @@ pub(crate) fn put_section_line(
     Ok(())
 }
 
-/// How long the front of the line of an input section is: `piece ADDRESS SIZE `.
-const PIECE_FRONT: usize = 40;
+/// How long the line of an input section is beside its names: `piece ADDRESS SIZE `, a space and the end of the line.
+const PIECE_REST: usize = 42;
 
 /// How long the line of a symbol is beside its names: `symbol VALUE `, a space and the end of the line.
 const SYMBOL_REST: usize = 26;
-
-/// How long the end of the line of an input section is beside its names: a space and the end of the line.
-const NAMES_REST: usize = 2;
 
 /// A number and a space, for which there is room.
 #[inline(always)]
@@ -85,44 +82,69 @@ fn put_number(lines: &mut LineBuffer, number: u64)
     lines.put(b" ");
 }
 
+/// Two names, with which a line ends that is too long to be put together beside the text at once.
+fn put_long_names(
+    text: &mut Vec<u8>,
+    lines: &mut LineBuffer,
+    first: &[u8],
+    second: &[u8],
+) -> Result<(), AllocError>
+    ensures { OnOk result (text.new.items ++ lines.new
+        ≡ (text.old.items ++ lines.old) ++ (first.now ++ 32 ∷ [] ++ second.now ++ 10 ∷ [])) }
+{
+    lines.append(text, first)?;
+    lines.append(text, b" ")?;
+    lines.append(text, second)?;
+    lines.append(text, b"\n")
+}
+
 /// The line of an input section that is too long to be put together beside the text at once.
 fn put_long_piece_line(
     text: &mut Vec<u8>,
     lines: &mut LineBuffer,
     start: u64,
     size: u64,
-    names: &[u8],
+    object: &[u8],
+    section: &[u8],
 ) -> Result<(), AllocError>
     ensures { OnOk result (text.new.items ++ lines.new
-        ≡ (text.old.items ++ lines.old) ++ (piece_numbers start size ++ names.now)) }
+        ≡ (text.old.items ++ lines.old) ++ piece_parts start size object.now section.now) }
 {
     lines.append(text, b"piece ")?;
     lines.append(text, &hex_digits(start))?;
     lines.append(text, b" ")?;
     lines.append(text, &hex_digits(size))?;
     lines.append(text, b" ")?;
-    lines.append(text, names)
+    put_long_names(text, lines, object, section)
 }
 
-/// `piece ADDRESS SIZE NAMES`, where the names are `OBJECT SECTION` with the end of the line.
+/// `piece ADDRESS SIZE OBJECT SECTION`
 #[inline(always)]
 pub(crate) fn put_piece_line(
     text: &mut Vec<u8>,
     lines: &mut LineBuffer,
     start: u64,
     size: u64,
-    names: &[u8],
+    object: &[u8],
+    section: &[u8],
 ) -> Result<(), AllocError>
     ensures { OnOk result (text.new.items ++ lines.new
-        ≡ (text.old.items ++ lines.old) ++ (piece_numbers start size ++ names.now)) }
+        ≡ (text.old.items ++ lines.old) ++ piece_parts start size object.now section.now) }
 {
-    if !lines.make_room(text, names.len().saturating_add(PIECE_FRONT))? {
-        return put_long_piece_line(text, lines, start, size, names);
+    let count = object
+        .len()
+        .saturating_add(section.len())
+        .saturating_add(PIECE_REST);
+    if !lines.make_room(text, count)? {
+        return put_long_piece_line(text, lines, start, size, object, section);
     }
     lines.put(b"piece ");
     put_number(lines, start);
     put_number(lines, size);
-    lines.put_name(names);
+    lines.put_name(object);
+    lines.put(b" ");
+    lines.put_name(section);
+    lines.put(b"\n");
     Ok(())
 }
 
@@ -179,46 +201,6 @@ pub(crate) fn put_symbol_line(
     lines.put_name(name);
     lines.put(b" ");
     lines.put_name(owner);
-    lines.put(b"\n");
-    Ok(())
-}
-
-/// The end of the line of an input section that is too long to be put together beside the text.
-fn put_long_names(
-    text: &mut Vec<u8>,
-    lines: &mut LineBuffer,
-    object: &[u8],
-    section: &[u8],
-) -> Result<(), AllocError>
-    ensures same { OnOk result (text.new.items ++ lines.new
-        ≡ (text.old.items ++ lines.old) ++ (object.now ++ 32 ∷ [] ++ section.now ++ 10 ∷ [])) }
-    ensures kept { length (text.old.items ++ lines.old) ≤ length (text.new.items ++ lines.new) }
-{
-    lines.append(text, object)?;
-    lines.append(text, b" ")?;
-    lines.append(text, section)?;
-    lines.append(text, b"\n")
-}
-
-/// `OBJECT SECTION`, with which the line of an input section ends.
-#[inline(always)]
-pub(crate) fn put_piece_names(
-    text: &mut Vec<u8>,
-    lines: &mut LineBuffer,
-    object: &[u8],
-    section: &[u8],
-) -> Result<(), AllocError>
-    ensures same { OnOk result (text.new.items ++ lines.new
-        ≡ (text.old.items ++ lines.old) ++ (object.now ++ 32 ∷ [] ++ section.now ++ 10 ∷ [])) }
-    ensures kept { length (text.old.items ++ lines.old) ≤ length (text.new.items ++ lines.new) }
-{
-    let count = object.len().saturating_add(section.len());
-    if !lines.make_room(text, count.saturating_add(NAMES_REST))? {
-        return put_long_names(text, lines, object, section);
-    }
-    lines.put_name(object);
-    lines.put(b" ");
-    lines.put_name(section);
     lines.put(b"\n");
     Ok(())
 }

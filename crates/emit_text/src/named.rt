@@ -4,13 +4,13 @@ ghost use Rattle.std.specs.Prelude.{◌≡◌, ◌<◌, slice_get, None, Some, I
 ghost use Rattle.ldmodel.specs.FaultCode.{name_of_part, name_of_section, name_of_symbol, place_of, relocation_at};
 ghost use Rattle.emit_text.specs.Naming.{numbered};
 
-use crate::members::Members;
 use elfobj::Object;
 use elfobj::relocation::{Relocation, SymbolIndex};
 use elfobj::section::{LinkedIndex, SectionIndex};
 use ldmodel::fault::SiteKey;
 use ldmodel::names::ObjectPlace;
 use ldmodel::sections::{Part, SectionKey};
+use ldmodel_project::view::ProjectView;
 
 /// The place of a section among those of an object.
 fn find_section(object: &Object, number: SectionIndex) -> Option<LinkedIndex>
@@ -39,10 +39,14 @@ fn find_section_near(object: &Object, number: SectionIndex, likely: usize) -> Op
 }
 
 /// The name of a section of an object; no bytes where there is none.
-pub fn section_name<M: Members>(members: &M, object: ObjectPlace, section: SectionIndex) -> &[u8]
-    ensures { result.now ≡ name_of_section (M.project members.now) (M.number members.now object.0) section }
+pub fn section_name<'a>(
+    project: &ProjectView<'a>,
+    object: ObjectPlace,
+    section: SectionIndex,
+) -> &'a [u8]
+    ensures { result.now ≡ name_of_section project.now object.0 section }
 {
-    let Some(found) = members.object(object) else {
+    let Some(found) = project.object(object) else {
         return &[];
     };
     match find_section(found, section) {
@@ -52,24 +56,28 @@ pub fn section_name<M: Members>(members: &M, object: ObjectPlace, section: Secti
 }
 
 /// The name of a part of an object; that of a common block is `COMMON`.
-pub fn part_name<M: Members>(members: &M, section: SectionKey) -> &[u8]
-    ensures { result.now ≡ name_of_part (M.project members.now) (M.number members.now section.object.0) section.part }
+pub fn part_name<'a>(project: &ProjectView<'a>, section: SectionKey) -> &'a [u8]
+    ensures { result.now ≡ name_of_part project.now section.object.0 section.part }
 {
     match section.part {
-        Part::InTable(number) => section_name(members, section.object, number),
+        Part::InTable(number) => section_name(project, section.object, number),
         Part::InCommon(_) => b"COMMON",
     }
 }
 
 /// The name of a part, and the place of its section. That place is looked for first after the place of the section
 /// before it, where the sections of most rows are.
-pub fn next_part_name<M: Members>(members: &M, section: SectionKey, last: usize) -> (&[u8], usize)
-    ensures { result.0.now ≡ name_of_part (M.project members.now) (M.number members.now section.object.0) section.part }
+pub fn next_part_name<'a>(
+    project: &ProjectView<'a>,
+    section: SectionKey,
+    last: usize,
+) -> (&'a [u8], usize)
+    ensures { result.0.now ≡ name_of_part project.now section.object.0 section.part }
 {
     let Part::InTable(number) = section.part else {
         return (b"COMMON", last);
     };
-    let Some(object) = members.object(section.object) else {
+    let Some(object) = project.object(section.object) else {
         return (&[], last);
     };
     match find_section_near(object, number, last.wrapping_add(1)) {
@@ -79,10 +87,14 @@ pub fn next_part_name<M: Members>(members: &M, section: SectionKey, last: usize)
 }
 
 /// The name of an entry of an object's symbol table; no bytes where there is none, and for a local symbol.
-pub fn symbol_name<M: Members>(members: &M, object: ObjectPlace, symbol: SymbolIndex) -> &[u8]
-    ensures { result.now ≡ name_of_symbol (M.project members.now) (M.number members.now object.0) symbol.0 }
+pub fn symbol_name<'a>(
+    project: &ProjectView<'a>,
+    object: ObjectPlace,
+    symbol: SymbolIndex,
+) -> &'a [u8]
+    ensures { result.now ≡ name_of_symbol project.now object.0 symbol.0 }
 {
-    let Some(found) = members.object(object) else {
+    let Some(found) = project.object(object) else {
         return &[];
     };
     if (symbol.0 as usize) < found.symbols().len() {
@@ -93,10 +105,10 @@ pub fn symbol_name<M: Members>(members: &M, object: ObjectPlace, symbol: SymbolI
 }
 
 /// The relocation of a site.
-pub fn relocation<M: Members>(members: &M, site: SiteKey) -> Option<Relocation>
-    ensures { result ≡ relocation_at (M.project members.now) (place_of (M.number members.now) site) }
+pub fn relocation(project: &ProjectView<'_>, site: SiteKey) -> Option<Relocation>
+    ensures { result ≡ relocation_at project.now (place_of (λ key. key) site) }
 {
-    let Some(object) = members.object(site.object) else {
+    let Some(object) = project.object(site.object) else {
         return None;
     };
     let Some(index) = find_section(object, site.section) else {

@@ -1,13 +1,13 @@
 //! The map's lines of symbols.
 
 ghost use Rattle.std.specs.Prelude.{◌≡◌, ◌++◌, OnOk};
-ghost use Rattle.emit_text.specs.Definer.{numbered, owner_in};
+ghost use Rattle.emit_text.specs.Definer.{owner_in};
 ghost use Rattle.emit_text.specs.ShownMap.{symbol_text, symbols_text};
 
 use crate::definer::Definer;
 use crate::line_buffer::LineBuffer;
 use crate::map_line::put_symbol_line;
-use crate::members::Members;
+use ldmodel_project::view::ProjectView;
 use std::alloc::AllocError;
 
 /// A name, what defines it, and its value.
@@ -40,11 +40,11 @@ pub trait MapSymbols {
 }
 
 /// The name of the object that defines a name, or `script`.
-fn owner_name<M: Members>(members: &M, definer: Definer) -> &[u8]
-    ensures { result.now ≡ owner_in (M.project members.now) (numbered (M.number members.now) definer) }
+fn owner_name<'a>(project: &ProjectView<'a>, definer: Definer) -> &'a [u8]
+    ensures { result.now ≡ owner_in project.now definer }
 {
     match definer {
-        Definer::Object(place) | Definer::WeakOf(place) => members.name(place),
+        Definer::Object(place) | Definer::WeakOf(place) => project.name(place),
         Definer::Script | Definer::Nothing => b"script",
     }
 }
@@ -52,37 +52,36 @@ fn owner_name<M: Members>(members: &M, definer: Definer) -> &[u8]
 /// The line of a defined name, and none of another.
 #[tactic(auto, using(crate::proofs::MapLines::symbol_spelled))]
 #[inline(always)]
-fn put_symbol<M: Members>(
+fn put_symbol(
     text: &mut Vec<u8>,
     lines: &mut LineBuffer,
-    members: &M,
+    project: &ProjectView<'_>,
     symbol: &MapSymbol<'_>,
 ) -> Result<(), AllocError>
     ensures { OnOk result (text.new.items ++ lines.new ≡ (text.old.items ++ lines.old)
-        ++ symbol_text (M.project members.now) (M.number members.now) symbol.now) }
+        ++ symbol_text project.now symbol.now) }
 {
     match symbol.definer {
         Definer::Nothing => Ok(()),
         Definer::Script | Definer::Object(_) | Definer::WeakOf(_) => {
-            let owner = owner_name(members, symbol.definer);
+            let owner = owner_name(project, symbol.definer);
             put_symbol_line(text, lines, symbol.value, symbol.name, owner)
         }
     }
 }
 
 /// The lines of these symbols, in this order.
-pub(crate) fn put_symbols<M: Members, S: MapSymbols>(
+pub(crate) fn put_symbols<S: MapSymbols>(
     text: &mut Vec<u8>,
-    members: &M,
+    project: &ProjectView<'_>,
     symbols: &S,
 ) -> Result<(), AllocError>
-    ensures { OnOk result (text.new.items
-        ≡ text.old.items ++ symbols_text (M.project members.now) (M.number members.now) (S.list symbols.now)) }
+    ensures { OnOk result (text.new.items ≡ text.old.items ++ symbols_text project.now (S.list symbols.now)) }
 {
     let mut lines = LineBuffer::new();
     for place in 0..symbols.count() {
         let symbol = symbols.symbol(place);
-        put_symbol(text, &mut lines, members, &symbol)?;
+        put_symbol(text, &mut lines, project, &symbol)?;
     }
     lines.move_to(text)?;
     Ok(())

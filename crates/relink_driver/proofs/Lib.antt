@@ -26,4 +26,3 @@ pub mod Working
 mod Courses
 mod Shown
 mod Words
-pub mod MapNames

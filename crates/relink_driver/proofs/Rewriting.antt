@@ -28,9 +28,6 @@ use Rattle.ldmodel_laws.specs.Outline.{DiffersInContents, ObjectOutline, Section
 use Rattle.ldmodel_laws.specs.Outline.{section_outline, section_targets}
 use Rattle.ldmodel_laws.specs.Untouched.{IsGood}
 use Rattle.ldscript.specs.statements.declared.statement.Statement.{Statement}
-use Rattle.std.specs.Vec.{vec_items}
-use Rattle.ldmodel.specs.declared.rows.Piece.{Piece}
-use Rattle.emit.specs.text.ShownMap.{AreNamesOfRows}
 use Rattle.emit.specs.Beside.{new_link}
 use Rattle.emit.specs.relocate.SymbolValues.{AreSymbolValues}
 use Rattle.emit.specs.relocate.declared.symbol_values.SymbolValues.{SymbolValues}
@@ -49,8 +46,7 @@ use Rattle.relink_driver.specs.LinkSnapshot.{IsLinkSnapshot}
 use Rattle.relink_driver.specs.declared.link_snapshot.LinkSnapshot.{LinkSnapshot}
 use Rattle.relink_driver.proofs.Outlines.{same_at}
 use Rattle.relink_driver.proofs.Outlined.{input_before, outline_at, outlines_at, same_linked, same_names, same_owned}
-use Rattle.relink_driver.proofs.Outlined.{same_parts, same_rows_in}
-use Rattle.relink_driver.proofs.MapNames.{same_text}
+use Rattle.relink_driver.proofs.Outlined.{same_rows_in}
 
 -- ---- the project follows the previous one
 
@@ -229,14 +225,6 @@ module _ (p q : Project) (i : ℕ) (h : DiffersInContents p q i) (s : Layout) (k
       is j n b.object x b.at (ap (λ (v : ObjectOutline). slice_get v.symbols n) b.outline ∙ symbol)
       ∙ k.frame.references j b.object o x b.at at
 
-  -- the names in a map's lines
-  same_texts : (rows : List (List Piece)) (names : List (List (List ℕ))) → AreNamesOfRows p (λ key. key) rows names
-      → AreNamesOfRows q (λ key. key) rows names
-  same_texts rows names is n row texts a b j x text c d =
-      is n row texts a b j x text c d
-      ∙ same_text p q x.section (same_names p q i h x.section.object.0)
-      (same_parts p q i h x.section.object.0 x.section.part)
-
   pub table_of : (g : LinkSnapshot) → IsLinkSnapshot (new_link p s) g → AreNamesDistinct q.objects
       → IsGood (new_link q s)
       → model.link q ≡ model.good q s → IsLinkSnapshot (new_link q s) g
@@ -245,7 +233,6 @@ module _ (p q : Project) (i : ℕ) (h : DiffersInContents p q i) (s : Layout) (k
     names = names;
     indexed_layout = same_arranged g.indexed_layout is.indexed_layout;
     symbols = same_symbols g.symbols is.symbols;
-    texts = same_texts (map vec_items g.indexed_layout.rows.items) g.names.items is.texts;
     layout = sym k.layout ∙ is.layout;
     link = link;
   }

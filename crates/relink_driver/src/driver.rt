@@ -1,9 +1,7 @@
 //! The driver: one link, over resolved names, the matches of each object, and the previous link, if there is one.
 
 ghost use Rattle.std.specs.Prelude.{◌≡◌, IfErr, IfOk, IfSome, OnErr, OnOk, map};
-ghost use Rattle.std.specs.Vec.{vec_items};
 ghost use Rattle.gather.specs.ProjectMatches.{AreMatched};
-ghost use Rattle.emit.specs.text.ShownMap.{AreNamesOfRows};
 ghost use Rattle.relink_driver.specs.StayedSections.{previous_of};
 ghost use Rattle.ldmodel.specs.Layout.{Layout};
 ghost use Rattle.ldmodel.specs.Link.{link};
@@ -15,7 +13,7 @@ ghost use Rattle.relink_driver.specs.Rewritable.{IsRewritable};
 ghost use Rattle.relink_driver.specs.declared.driver.RelinkOutcome.TheVariants.{RewrittenInPlace};
 ghost use Rattle.relink_driver.specs.RelinkOutcome.{HasRelinkOutcome, HasPreviousImage, HasShownOutcome};
 ghost use Rattle.relink_driver.specs.Context.{IsPassContext, project_of};
-ghost use Rattle.relink_driver.specs.Phases.{HasPreviousLink, IsLaidOut};
+ghost use Rattle.relink_driver.specs.Phases.{IsLaidOut};
 ghost use Rattle.relink_driver.specs.Reads.{EndsReadingNothing, ReadsNothing};
 ghost use Rattle.relink_driver.specs.PassErrors.{IsPassError};
 ghost use Rattle.relink_driver.specs.WithoutMap.{shown_map};
@@ -33,8 +31,6 @@ use crate::passes::{
 use crate::stayed_column::StayedColumn;
 use crate::stayed_sections::{PreviousView, StayedSections};
 use crate::symbol_values::{ValueSources, symbol_values};
-use emit::map_members::{MapMembers, PreviousNames};
-use emit::text::maps::LinkMap;
 use emit::values::given::GivenValues;
 use emit::values::link_view::LinkView;
 use emit::values::values::Values;
@@ -59,52 +55,24 @@ pub enum RelinkOutcome {
     RewrittenInPlace,
 }
 
-/// The objects of a project and, if there is a previous link, the names in the lines of its map.
-fn map_members<'a, 'b>(
-    project: &'a ProjectView<'b>,
-    previous: Option<PreviousView<'a>>,
-) -> MapMembers<'a, 'b>
-    requires { IfSome (previous_of previous) (HasPreviousLink project.now) }
-    ensures { result.project.now ≡ project.now }
-{
-    match previous {
-        None => MapMembers::new(project, None),
-        Some(previous) => {
-            let names = PreviousNames {
-                rows: &previous.snapshot.indexed_layout.rows,
-                names: &previous.snapshot.names,
-                from: previous.from,
-            };
-            MapMembers::new(project, Some(names))
-        }
-    }
-}
-
-/// The map, if it is asked for, else no bytes and no names. Fails if memory runs out.
+/// The map, if it is asked for, else no bytes. Fails if memory runs out.
 fn map_if_asked(
     context: PassContext<'_, '_>,
     indexed_layout: &IndexedLayout,
     values: &Values<'_>,
-) -> Result<LinkMap, NoMemory>
-    requires indexed_layout { IsLaidOut (project_of context) indexed_layout.now }
-    requires previous { IfSome (previous_of context.previous) (HasPreviousLink (project_of context)) }
-    ensures text { IfOk result (λ made. (layout : Layout) (a : SymbolTableState)
+) -> Result<Vec<u8>, NoMemory>
+    requires { IsLaidOut (project_of context) indexed_layout.now }
+    ensures { IfOk result (λ text. (layout : Layout) (a : SymbolTableState)
         → IsLinkLayout (project_of context.entry) layout indexed_layout.now.link_layout
         → AreValues (project_of context.entry) layout a values.now
-        → made.text.items ≡ shown_map context.entry.with_map (definition.map_text (project_of context.entry) layout)) }
-    ensures names { IfOk result (λ made. AreNamesOfRows (project_of context.entry) (λ key. key)
-        (map vec_items indexed_layout.now.rows.items) made.names.items) }
+        → text.items ≡ shown_map context.entry.with_map (definition.map_text (project_of context.entry) layout)) }
 {
     if !context.with_map {
-        return Ok(LinkMap {
-            text: Vec::new(context.alloc),
-            names: Vec::new(context.alloc),
-        });
+        return Ok(Vec::new(context.alloc));
     }
-    let members = map_members(context.project, context.previous);
     map_text(
         context.alloc,
-        &members,
+        context.project,
         &indexed_layout.rows,
         &indexed_layout.link_layout,
         values,
@@ -172,9 +140,8 @@ fn run_passes(
         LinkSnapshot {
             indexed_layout,
             symbols,
-            names: map.names,
         },
-        map.text,
+        map,
     ))
 }
 

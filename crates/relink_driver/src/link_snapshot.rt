@@ -1,7 +1,6 @@
 //! What is kept of a link without faults.
 
 use crate::symbol_values::SymbolValues;
-use emit::text::byte_strings::ByteStrings;
 use place::indexed_layout::IndexedLayout;
 
 /// What the next link needs of a link without faults. Objects have the places that they had in this link.
@@ -11,6 +10,4 @@ pub struct LinkSnapshot {
     pub indexed_layout: IndexedLayout,
     /// The value of each symbol of each object.
     pub symbols: SymbolValues,
-    /// For each output section the names of its input sections in the map; no lists if no map was made.
-    pub names: Vec<ByteStrings>,
 }

@@ -2,21 +2,19 @@ use Rattle.std.proofs.Common.{◌∙◌, ap, map}
 use Rattle.ldscript.specs.Numbered.{shown_sections}
 use Rattle.ldscript.specs.Numbering.{output_sections}
 use Rattle.ldmodel.specs.Names.{provided}
-use Rattle.ldmodel.specs.Project.{Project}
 use Rattle.ldmodel.specs.Rows.{rows}
 use Rattle.emit.specs.Listed.{map_symbol}
 use Rattle.emit.proofs.Mapped.{text_is}
 use Rattle.emit.proofs.map.map_text.Goals as goal
 
-pub returns-clause-text : goal.returns-clause-text
-returns-clause-text c =
-    let p = c.args.members.now.project.now in
+pub returns : goal.returns
+returns c =
+    let p = c.args.project.now in
     text_is p c.args.link_layout.now c.args.values.now _ _ c.render_map.result
     (record {
       entry = c.number_or_0.ensures;
       sections = ap shown_sections c.deref-2.ensures.value
-          ∙ (c.in_ok-sections.ensures
-          ∙ ap output_sections (c.script-script.ensures ∙ ap (λ (q : Project). q.script) c.project.ensures));
+          ∙ (c.in_ok-sections.ensures ∙ ap output_sections c.script-script.ensures);
       outputs = λ s l.
           c.outputs_are_of_script.ensures p (rows p) (provided p) s l.placed;
       placement = λ s l. c.view.ensures.placement p.script s l.places;
@@ -24,4 +22,4 @@ returns-clause-text c =
       placed = λ s l. c.placed_are_rows.ensures p (provided p) s l.placed;
       symbols = ap (map map_symbol) c.deref.ensures.value;
     })
-    c.render_map.ensures.text
+    c.render_map.ensures

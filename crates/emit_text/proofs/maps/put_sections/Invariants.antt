@@ -1,19 +1,13 @@
--- With the lines still to come, the text is the whole one; the names are those of the rows so far.
-use Rattle.std.proofs.Common.{◌≡◌, ◌++◌, drop, length, map}
+-- With the lines still to come, the text is the whole one.
+use Rattle.std.proofs.Common.{◌≡◌, ◌++◌, drop, map}
 use Rattle.std.specs.Vec.{vec_items}
 use Rattle.ldscript.specs.Numbered.{shown_sections}
-use Rattle.emit_text.specs.ShownMap.{AreNamesOfRows, sections_text}
+use Rattle.emit_text.specs.ShownMap.{sections_text}
 use Rattle.emit_text.proofs.maps.put_sections.Given as goal
 
 abbrev pub invariant-loop-k : goal.invariant-loop-k
-invariant-loop-k g l = record {
-  text : l.text.items ++ sections_text (g.M.Members.project l.members) (g.M.Members.number l.members)
-      (drop l.k l.parts.placement.sections.now) (drop l.k (shown_sections l.parts.sections.now))
-      (drop l.k (map vec_items l.parts.rows.now)) l.starts
-      ≡ l.initial.text.items
-      ++ sections_text (g.M.Members.project l.members) (g.M.Members.number l.members) l.parts.placement.sections.now
-      (shown_sections l.parts.sections.now) (map vec_items l.parts.rows.now) l.parts.placement.starts.now;
-  count : length l.names.items ≡ l.k;
-  names : AreNamesOfRows (g.M.Members.project l.members) (g.M.Members.number l.members)
-      (map vec_items l.parts.rows.now) l.names.items;
-}
+invariant-loop-k l =
+    l.text.items ++ sections_text l.project (drop l.k l.parts.placement.sections.now)
+    (drop l.k (shown_sections l.parts.sections.now)) (drop l.k (map vec_items l.parts.rows.now)) l.starts
+    ≡ l.initial.text.items ++ sections_text l.project l.parts.placement.sections.now
+    (shown_sections l.parts.sections.now) (map vec_items l.parts.rows.now) l.parts.placement.starts.now

@@ -10,7 +10,7 @@ pub loop-place-preserved : goal.loop-place-preserved
 loop-place-preserved g c =
     let list = g.S.MapSymbols.list c.args.symbols.now in
     written_step _ _ _ _ _ _ c.in_ok-put_symbol.ensures
-    (ap (symbols_text (g.M.Members.project c.args.members.now) (g.M.Members.number c.args.members.now))
+    (ap (symbols_text c.args.project.now)
     (entry_left list c.loop-place.place c.symbol-symbol.result c.symbol-symbol.ensures))
     c.loop-place.invariant
 
@@ -18,6 +18,6 @@ pub returns : goal.returns
 returns g c =
     c.in_ok-move_to.ensures.text
     ∙ written_end _ _ _
-    (at_drop_all (symbols_text (g.M.Members.project c.args.members.now) (g.M.Members.number c.args.members.now))
+    (at_drop_all (symbols_text c.args.project.now)
     (g.S.MapSymbols.list c.args.symbols.now) c.loop-place.place (omega (arith, c.count-place-end.ensures)))
     c.loop-place.invariant

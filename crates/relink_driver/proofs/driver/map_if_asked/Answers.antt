@@ -3,21 +3,16 @@ use Rattle.std.specs.Prelude.{IfOk}
 use Rattle.emit.specs.values.Values.{AreValues}
 use Rattle.ldmodel.specs.Layout.{Layout}
 use Rattle.ldmodel.specs.MapText as definition
-use Rattle.ldmodel.specs.Project.{Project}
 use Rattle.place.specs.LinkLayout.{IsLinkLayout}
 use Rattle.relink_driver.specs.Context.{project_of}
 use Rattle.relink_driver.specs.WithoutMap.{shown_map}
 use Rattle.symres.specs.SymbolTable.{SymbolTableState}
 use Rattle.relink_driver.proofs.driver.map_if_asked.Goals as goal
 
-pub returns-clause-text : goal.returns-clause-text
-returns-clause-text c =
+pub returns : goal.returns
+returns c =
     let p = project_of c.args.context in
-    subst (λ (b : Bool). IfOk c.map_text.result (λ made. (layout : Layout) → (a : SymbolTableState)
+    subst (λ (b : Bool). IfOk c.map_text.result (λ text. (layout : Layout) → (a : SymbolTableState)
     → IsLinkLayout p layout c.args.indexed_layout.now.link_layout → AreValues p layout a c.args.values.now
-    → made.text.items ≡ shown_map b (definition.map_text p layout)))
-    (sym c.if-not-context.false)
-    (subst (λ (q : Project). IfOk c.map_text.result (λ made. (layout : Layout) → (a : SymbolTableState)
-    → IsLinkLayout q layout c.args.indexed_layout.now.link_layout → AreValues q layout a c.args.values.now
-    → made.text.items ≡ definition.map_text q layout))
-    c.map_members-members.ensures c.map_text.ensures.text)
+    → text.items ≡ shown_map b (definition.map_text p layout)))
+    (sym c.if-not-context.false) c.map_text.ensures

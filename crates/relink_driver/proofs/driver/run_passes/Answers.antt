@@ -66,9 +66,6 @@ evaluate_relocations-requires-clause-beside c =
           (c.in_ok-dirty.ensures old s previous symbols);
     }
 
-pub map_if_asked-requires-clause-previous : goal.map_if_asked-requires-clause-previous
-map_if_asked-requires-clause-previous c = has_old (project_of c.args.context) _ _ c.requires.previous
-
 pub returns-clause-ended : goal.returns-clause-ended
 returns-clause-ended c =
     let p = project_of c.args.context in
@@ -84,7 +81,7 @@ returns-clause-ended c =
     record {
       layout = s;
       link = ends_shown c.args.context.with_map p s _ _ same
-          (c.in_ok-map.ensures.text s h.symbol_table k.link_layout h.values) all.rest;
+          (c.in_ok-map.ensures s h.symbol_table k.link_layout h.values) all.rest;
       table = record {
         good = f.good;
         names = f.names;
@@ -98,7 +95,6 @@ returns-clause-ended c =
             (a.indexed_layout w.layout w.link_layout)
             (subst (AreNameValues (known_link p w.layout v.symbol_table)) (sym c.deref-2.ensures.value)
             v.values.names)));
-        texts = c.in_ok-map.ensures.names;
         layout = k.link_layout.layout ∙ of_short p s f.short.length;
         link = all.rest;
       };
