@@ -1,12 +1,16 @@
 -- An edit that is staged, and linked later or not at all.
-use Rattle.std.proofs.Common.{◌≡◌, ◌∙◌, ℕ, Bool, true, false, List, Option, Some, None, Vec, Global, ap, arith, refl}
-use Rattle.std.proofs.Common.{subst, sym}
+use Rattle.std.proofs.Common.{◌≡◌, ◌∙◌, ℕ, Bool, true, false, List, Option, Some, None, Vec, Global, ap, arith, length}
+use Rattle.std.proofs.Common.{map, refl, subst, sym}
 use Rattle.std.specs.List.{position}
 use Rattle.std.specs.Prelude.{◌&&◌, IfSome, is_some, nat_eq}
+use Rattle.std.proofs.lemmas.List.{length-map}
 use Rattle.std.proofs.lemmas.Option.{same_Some}
 use Rattle.relink_driver.specs.LinkSnapshot.{IsLinkSnapshot}
 use Rattle.relink_driver.specs.StayedSections.{PreviousState}
+use Rattle.relink_driver.specs.Origins.{AreOrigins}
+use Rattle.relink_driver.specs.RelinkOutcome.{HasPreviousImage}
 use Rattle.ldmodel.specs.Link.{link}
+use Rattle.ldmodel.specs.Project.{NamedObject}
 use Rattle.ldmodel_project.specs.ProjectState.{ProjectState, Listing, SameHolding, held, listing_of, next_listing}
 use Rattle.ldmodel_project.specs.ProjectState.{project_of}
 use Rattle.ldmodel_project.specs.Listing.{AreKeysDistinct, Listed, found_under, keys_of, objects_of}
@@ -19,13 +23,15 @@ use Rattle.relink.specs.NameList.{Names}
 use Rattle.relink.specs.Outcome.{is_good, shown}
 use Rattle.relink.specs.PreviousLink.{AreOriginsRefreshed, HasUpdateOutcome, IsAfterFault, IsEffect, IsOfGoodLink}
 use Rattle.relink.specs.PreviousLink.{IsRecorded}
-use Rattle.relink.specs.PreviousLink.{IsPreviousLink, IsRewrittenBy, PutsByName, PutsNoneOf, PutsSame, lent}
+use Rattle.relink.specs.PreviousLink.{IsPreviousLink, IsRewrittenBy, PutsByName, PutsNoneOf, PutsSame, lent, lent_later}
+use Rattle.relink.specs.PreviousLink.{nothing_edited, origin_of}
 use Rattle.relink.specs.declared.link_tables.LinkTables.{LinkTables}
 use Rattle.relink.specs.declared.outcome.LinkOutcome.{LinkOutcome}
 use Rattle.relink.specs.declared.outcome.LinkOutcome.TheVariants as outcome
 use Rattle.relink.specs.declared.previous.EditEffect.{EditEffect}
 use Rattle.relink.specs.declared.previous.PreviousLink.{PreviousLink}
 use Rattle.relink.specs.declared.previous.UpdateOutcome.{UpdateOutcome}
+use Rattle.relink.proofs.Since.{origins_by_place}
 use Rattle.relink.proofs.Lending.{IsFollowing, ended, following, kept_after_fault, renewed_last, same_listing}
 
 pub same_holding : (h : ProjectState) → SameHolding h h
@@ -147,7 +153,11 @@ pub made : (h0 h1 h2 : ProjectState) (st : Option Staged) → listing_of h1 ≡ 
     → listing_of h2 ≡ staged_listing h0 st
 made h0 h1 h2 st is more = sym (same_listing h1 h2 more) ∙ is
 
--- a link that finds no previous one leaves that as it is, where it has faults
+first_true : (a : Bool) → (a && true) ≡ true → a ≡ true
+first_true true h = refl
+first_true false h = absurd (cc)
+
+-- a link with faults leaves the previous one as it is
 pub kept_anyway : (l : Listing) (bytes : List ℕ) (o : LinkOutcome) (previous later : Option PreviousLink)
     → IsLastGood false l bytes o previous → IsAfterFault true None true previous later
     → IfSome later (IsOfGoodLink l bytes)
@@ -165,10 +175,6 @@ kept_anyway l bytes o (Some x) (Some y) is fault = record {
   script = λ stays. is.script (first_true x.same_script (sym fault.2 ∙ stays));
   image = is.image;
 }
-  where
-    first_true : (a : Bool) → (a && true) ≡ true → a ≡ true
-    first_true true h = refl
-    first_true false h = absurd (cc)
 
 -- where the next edit is not staged, all is kept as it was
 pub staying : (h0 h1 h2 : ProjectState) (now : Option Staged) (tables : Option LinkTables)
@@ -190,19 +196,50 @@ pub shown_project : (h0 h1 h2 : ProjectState) (st : Option Staged) (d : Deferred
     → held h2 ≡ d.project
 shown_project h0 h1 h2 st d is more shows = ap project_of (made h0 h1 h2 st is more) ∙ shows
 
--- ---- a link without a previous one
+-- ---- a link some edits after the previous one
 
-abbrev pub nothing_edited : EditEffect
-nothing_edited = record { known = true; gone = None; same_script = true; is_current = false }
+-- which is lent as it is kept
+pub later_lent : (h : ProjectState) (bytes : List ℕ) (o : LinkOutcome) (previous : Option PreviousLink) (keys : List ℕ)
+    → IsLastGood false (listing_of h) bytes o previous → keys ≡ keys_of h.contents.entries → AreKeysDistinct keys
+    → IfSome (lent_later previous keys) (HasPreviousImage (held h) bytes)
+later_lent h bytes o None keys kept are distinct = tt
+later_lent h bytes o (Some x) keys kept are distinct =
+    let es : List Listed = h.contents.entries in
+    let origin : ℕ → Option ℕ = origin_of x.origins.items in
+    record {
+      old = kept.old;
+      is = record {
+        table = kept.table;
+        objects = (
+            let same = ap length kept.names in
+            let objects = length-map kept.old.project.objects (λ (object : NamedObject). object.name) in
+            omega (arith, same, objects));
+        options = kept.options;
+        origins = subst (λ (ks : List ℕ). AreOrigins kept.old.project (held h) (map origin ks)) (sym are)
+            (origins_by_place kept.old.project (held h) es origin (subst AreKeysDistinct are distinct) refl kept.since);
+        script = λ stays. kept.script (first_true x.same_script stays);
+        replaced = tt;
+      };
+      image = kept.image;
+    }
 
-pub linked_anew : (l : Listing) (old new : List ℕ) (f : UpdateOutcome) (previous after : Option PreviousLink)
-    (b a : LinkOutcome) → HasUpdateOutcome l None old new f → IsRecorded f nothing_edited previous after b a
-    → IsLastGood false l old b previous
+-- no image is rewritten in place
+not_rewritten_later : (l : Listing) (previous : Option PreviousLink) (keys : List ℕ) (new : List ℕ)
+    (v : Vec (Option ℕ) Global) → IsRewrittenBy l (lent_later previous keys) new v.items → ⊥
+not_rewritten_later l None keys new v by =
+    let was = by.end.was in let never : ⊥ = cc in never
+not_rewritten_later l (Some x) keys new v by =
+    let no : false ≡ true = ap (λ (z : PreviousState). z.is_current) (same_Some _ _ by.end.was) ∙ by.end.current in
+    absurd (cc)
+
+pub linked_later : (l : Listing) (keys : List ℕ) (old new : List ℕ) (f : UpdateOutcome)
+    (previous after : Option PreviousLink) (b a : LinkOutcome) → HasUpdateOutcome l (lent_later previous keys) old new f
+    → IsRecorded f nothing_edited previous after b a → IsLastGood false l old b previous
     → (shown new a ≡ link (project_of l)) × IsPreviousLink l new a after
-linked_anew l old new f previous after b a updated end good =
-    ended l None old new f nothing_edited previous after b a updated end
+linked_later l keys old new f previous after b a updated end good =
+    ended l (lent_later previous keys) old new f nothing_edited previous after b a updated end
     (λ later fault. kept_anyway l old b previous later good fault)
-    (λ v by again. absurd (let was = by.end.was in let never : ⊥ = cc in never))
+    (λ v by again. absurd (not_rewritten_later l previous keys new v by))
 
 -- ---- a link of the staged edit
 

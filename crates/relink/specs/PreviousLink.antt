@@ -3,7 +3,7 @@ use Rattle.std.specs.Prelude.{◌≡◌, ◌<◌, ◌&&◌, ℕ, List, [], Optio
 use Rattle.std.specs.Prelude.{slice_index_or, if◌then◌else◌, length, ⊤, Bool, true, false, Vec}
 use Rattle.std.specs.Option.{option_map}
 use Rattle.elfobj.specs.Object.{ObjectData}
-use Rattle.relink_driver.specs.StayedSections.{PreviousState, ReplacedObjectState}
+use Rattle.relink_driver.specs.StayedSections.{PreviousState, ReplacedObjectState, replaced_state}
 use Rattle.std.specs.Global.{Global}
 use Rattle.relink_driver.specs.InPlace.{IsInPlaceOutcome}
 use Rattle.relink_driver.specs.LinkSnapshot.{IsLinkSnapshot}
@@ -164,20 +164,31 @@ replaced_in origin es (Remove removed) after = None
 replaced_in origin es (Move moved) after = None
 replaced_in origin es Stay after = None
 
--- the previous link as a project takes it whose objects have these keys
-abbrev pub view_for : List ℕ → PreviousLink → EditEffect → ProjectState → Staged → PreviousState
-view_for keys x e h s = record {
+-- the previous link as a project takes it whose objects have these keys, where this object was replaced
+abbrev pub view_for : List ℕ → PreviousLink → EditEffect → Option ReplacedObjectState → PreviousState
+view_for keys x e replaced = record {
   snapshot = x.snapshot;
   objects = length x.names.names;
   from = map (without (origin_of x.origins.items) e.gone) keys;
   same_script = x.same_script && e.same_script;
-  replaced = replaced_in (origin_of x.origins.items) h.contents.entries s.objects.step s.objects.places.after;
+  replaced = replaced;
   is_current = e.is_current;
 }
 
 -- as the next project takes it
 abbrev pub next_view : PreviousLink → EditEffect → ProjectState → Staged → PreviousState
-next_view x e h s = view_for (keys_of (next_listing h s).entries) x e h s
+next_view x e h s =
+    view_for (keys_of (next_listing h s).entries) x e
+    (replaced_in (origin_of x.origins.items) h.contents.entries s.objects.step s.objects.places.after)
+
+-- the effect of no edit, on a link that is not that of the project
+abbrev pub nothing_edited : EditEffect
+nothing_edited = record { known = true; gone = None; same_script = true; is_current = false }
+
+-- the previous link as a project takes it that is linked some edits later
+abbrev pub lent_later : Option PreviousLink → (keys : List ℕ) → Option PreviousState
+lent_later None keys = None
+lent_later (Some x) keys = Some (view_for keys x nothing_edited None)
 
 -- if it is known to have none of what comes
 abbrev pub lent : Option PreviousLink → (known : Bool) → EditEffect → ProjectState → Staged → Option PreviousState
@@ -187,7 +198,7 @@ lent (Some x) true e h s = Some (next_view x e h s)
 
 -- what is lent
 abbrev pub lent_state : LentLink → PreviousState
-lent_state x = view_for x.keys.now x.previous.now x.effect x.project.now x.staged.now
+lent_state x = view_for x.keys.now x.previous.now x.effect (option_map replaced_state x.replaced)
 
 abbrev pub lent_of : Option LentLink → Option PreviousState
 lent_of x = option_map lent_state x

@@ -14,13 +14,13 @@ ghost use Rattle.relink.specs.PreviousLink.{IsOfGoodLink, IsPreviousLink};
 ghost use Rattle.relink.specs.Work.{HasPlacedWork};
 
 use crate::lazy_tables::{follow_if_made, tables_of_next, tables_of_project};
-use crate::lent_link::lend_previous;
+use crate::lent_link::{lend_later, lend_previous, no_effect};
 use crate::link_tables::LinkTables;
 use crate::outcome::LinkOutcome;
 use crate::previous::{
     EditEffect, PreviousLink, UpdateOutcome, effect_of, keep_after_fault, record_outcome,
 };
-use crate::session_link::{link_anew, link_next};
+use crate::session_link::{link_later, link_next};
 use crate::unchanged::{is_unchanged, puts_same};
 use ldmodel::edit::{Edit, EditRefusal, Linked};
 use ldmodel::memory::NoMemory;
@@ -204,8 +204,8 @@ fn is_settled(is_linked: bool, tables: &Option<LinkTables>) -> bool
     is_linked && tables.is_some()
 }
 
-/// Links a project without a staged edit: nothing is done if the last link is its own; else it is linked anew. Fails if
-/// memory runs out: then nothing has changed.
+/// Links a project without a staged edit: nothing is done if the last link is its own; else it is linked over the
+/// previous one. Fails if memory runs out: then nothing has changed.
 fn link_unstaged(
     alloc: Global,
     project: &Project,
@@ -234,23 +234,18 @@ fn link_unstaged(
         return Ok(());
     }
     let mut made = tables_of_project(alloc, seed, project, tables.take(), meter)?;
-    let updated = link_anew(
+    let updated = link_later(
         alloc,
         project,
         &mut made.symbol_table,
         &made.matches,
+        lend_later(previous, project.keys()),
         canvas,
         meter,
     );
     *tables = Some(made);
     let updated = updated?;
-    let effect = EditEffect {
-        known: true,
-        gone: None,
-        same_script: true,
-        is_current: false,
-    };
-    record_outcome(updated, previous, outcome, effect);
+    record_outcome(updated, previous, outcome, no_effect());
     *is_linked = true;
     Ok(())
 }

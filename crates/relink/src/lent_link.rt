@@ -3,14 +3,14 @@
 ghost use Rattle.std.specs.Prelude.{◌≡◌};
 ghost use Rattle.ldmodel_project.specs.Listing.{keys_of};
 ghost use Rattle.ldmodel_project.specs.ProjectState.{next_listing};
-ghost use Rattle.relink.specs.PreviousLink.{IsEffect, lent, lent_of};
+ghost use Rattle.relink.specs.PreviousLink.{IsEffect, lent, lent_later, lent_of, nothing_edited};
 
 use crate::outcome::LinkOutcome;
 use crate::previous::{EditEffect, PreviousLink, effect_of};
 use ldmodel::memory::NoMemory;
 use ldmodel_project::project::Project;
 use ldmodel_project::staged::Staged;
-use relink_driver::stayed_sections::PreviousView;
+use relink_driver::stayed_sections::{PreviousView, ReplacedObject};
 use std::alloc::Global;
 
 /// The previous link, lent to the link of the next project. That link makes the origins of the project's objects only
@@ -19,8 +19,8 @@ use std::alloc::Global;
 pub(crate) struct LentLink<'a> {
     previous: &'a PreviousLink,
     effect: EditEffect,
-    project: &'a Project,
-    staged: &'a Staged,
+    // the object that the edit replaces, if there is one
+    replaced: Option<ReplacedObject<'a>>,
     // those of the objects of the next project, in their order
     keys: &'a [usize],
 }
@@ -48,7 +48,7 @@ impl<'a> LentLink<'a> {
             objects: self.previous.names.len(),
             from,
             same_script: self.previous.same_script && self.effect.same_script,
-            replaced: self.previous.replaced(self.project, self.staged),
+            replaced: self.replaced,
             is_current: self.effect.is_current,
         }
     }
@@ -69,8 +69,7 @@ fn lend<'a>(
         Some(previous) if effect.known => Some(LentLink {
             previous,
             effect,
-            project,
-            staged,
+            replaced: previous.replaced(project, staged),
             keys,
         }),
         _ => None,
@@ -94,4 +93,34 @@ pub(crate) fn lend_previous<'a>(
 {
     let effect = effect_of(previous, outcome, project, staged, same);
     (effect, lend(previous, effect, project, staged, keys))
+}
+
+/// What the previous link loses where it is linked over some edits after it, each of which has been noted in it.
+pub(crate) fn no_effect() -> EditEffect
+    ensures { result ≡ nothing_edited }
+{
+    EditEffect {
+        known: true,
+        gone: None,
+        same_script: true,
+        is_current: false,
+    }
+}
+
+/// The previous link, lent to the link of a project some edits after it. `keys` are those of the objects.
+pub(crate) fn lend_later<'a>(
+    previous: &'a Option<PreviousLink>,
+    keys: &'a [usize],
+) -> Option<LentLink<'a>>
+    ensures { lent_of result ≡ lent_later previous.now keys.now }
+{
+    match previous {
+        None => None,
+        Some(previous) => Some(LentLink {
+            previous,
+            effect: no_effect(),
+            replaced: None,
+            keys,
+        }),
+    }
 }

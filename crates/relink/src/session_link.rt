@@ -3,7 +3,7 @@
 ghost use Rattle.std.specs.Prelude.{◌≡◌, IfOk, IfSome, None, OnErr, OnOk};
 ghost use Rattle.gather.specs.ProjectMatches.{AreMatched};
 ghost use Rattle.symres.specs.SymbolTable.{IsSymbolTable};
-ghost use Rattle.ldmodel_project.specs.ProjectState.{Listing, listing_of, project_of};
+ghost use Rattle.ldmodel_project.specs.ProjectState.{Listing, held, listing_of, project_of};
 ghost use Rattle.ldmodel_project.specs.Listing.{AreKeysDistinct, keys_of};
 ghost use Rattle.relink.specs.Kept.{IsKept};
 ghost use Rattle.relink.specs.PreviousLink.{HasUpdateOutcome, lent_of};
@@ -156,22 +156,25 @@ pub(crate) fn link_first(
     )
 }
 
-/// Links a project over what is kept of it, without a previous link.
+/// Links a project over what is kept of it, and over the image of the previous link without faults, if there is one.
 ///
 /// # Errors
 ///
 /// If memory runs out. Then the canvas is as it was.
-pub(crate) fn link_anew(
+pub(crate) fn link_later(
     alloc: Global,
     project: &Project,
     symbol_table: &mut SymbolTable,
     matches: &VecDeque<Matches>,
+    previous: Option<LentLink<'_>>,
     canvas: &mut Canvas,
     meter: &mut Meter,
 ) -> Result<UpdateOutcome, NoMemory>
     requires kept { IsKept (listing_of project.now) symbol_table.old matches.now.items }
+    requires previous { IfSome (lent_of previous) (HasPreviousImage (held project.now) canvas.old.bytes) }
     ensures same { symbol_table.new ≡ symbol_table.old }
-    ensures updated { IfOk result (HasUpdateOutcome (listing_of project.now) None canvas.old.bytes canvas.new.bytes) }
+    ensures updated { IfOk result (HasUpdateOutcome (listing_of project.now)
+        (lent_of previous.entry) canvas.old.bytes canvas.new.bytes) }
     ensures unchanged { OnErr result (canvas.new.bytes ≡ canvas.old.bytes) }
 {
     // for the prover: brings in this law
@@ -186,7 +189,7 @@ pub(crate) fn link_anew(
         project.keys(),
         symbol_table,
         matches,
-        None,
+        previous,
         canvas,
         meter,
     )

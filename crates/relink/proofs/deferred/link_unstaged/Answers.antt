@@ -1,7 +1,12 @@
-use Rattle.std.proofs.Common.{Bool, subst}
-use Rattle.ldmodel_project.specs.ProjectState.{listing_of}
+use Rattle.std.proofs.Common.{Bool, Option, subst, sym}
+use Rattle.std.specs.Prelude.{IfSome}
+use Rattle.ldmodel_project.specs.ProjectState.{held, listing_of}
+use Rattle.relink_driver.specs.RelinkOutcome.{HasPreviousImage}
+use Rattle.relink_driver.specs.StayedSections.{PreviousState}
 use Rattle.relink.specs.Deferred.{IsLastGood}
-use Rattle.relink.proofs.Deferring.{any_last_good, linked_anew}
+use Rattle.relink.specs.PreviousLink.{HasUpdateOutcome, IsRecorded}
+use Rattle.relink.specs.declared.previous.EditEffect.{EditEffect}
+use Rattle.relink.proofs.Deferring.{any_last_good, later_lent, linked_later}
 use Rattle.relink.proofs.deferred.link_unstaged.Goals as goal
 
 pub returns-then-is_settled-clause-last : goal.returns-then-is_settled-clause-last
@@ -9,18 +14,37 @@ returns-then-is_settled-clause-last c =
     subst (λ (b : Bool). IsLastGood b (listing_of c.args.project.now) c.args.canvas.now.bytes c.args.outcome.now
     c.args.previous.now) (c.is_settled.ensures.yes c.if-is_settled.true).0 c.requires.last
 
+pub link_later-updated-requires-clause-previous : goal.link_later-updated-requires-clause-previous
+link_later-updated-requires-clause-previous c =
+    let h = c.args.project.now in
+    let bytes = c.args.canvas.now.bytes in
+    subst (λ (x : Option PreviousState). IfSome x (HasPreviousImage (held h) bytes)) (sym c.lend_later.ensures)
+    (later_lent h bytes c.args.outcome.now c.args.previous.now c.keys.result.now
+    (any_last_good c.args.is_linked.now (listing_of h) bytes c.args.outcome.now c.args.previous.now c.requires.last)
+    c.keys.ensures.value c.keys.ensures.distinct)
+
 pub returns-clause-answers : goal.returns-clause-answers
 returns-clause-answers c =
-    (linked_anew (listing_of c.args.project.now) c.args.canvas.now.bytes c.link_anew-updated.new.canvas.bytes
-    c.in_ok-updated.updated c.args.previous.now c.record_outcome.new.previous c.args.outcome.now
-    c.record_outcome.new.outcome c.in_ok-updated.ensures.updated c.record_outcome.ensures
-    (any_last_good c.args.is_linked.now (listing_of c.args.project.now) c.args.canvas.now.bytes c.args.outcome.now
-    c.args.previous.now c.requires.last)).0
+    let l = listing_of c.args.project.now in
+    let old = c.args.canvas.now.bytes in
+    let new = c.link_later-updated.new.canvas.bytes in
+    (linked_later l c.keys.result.now old new c.in_ok-updated.updated c.args.previous.now c.record_outcome.new.previous
+    c.args.outcome.now c.record_outcome.new.outcome
+    (subst (λ (x : Option PreviousState). HasUpdateOutcome l x old new c.in_ok-updated.updated) c.lend_later.ensures
+    c.in_ok-updated.ensures.updated)
+    (subst (λ (e : EditEffect). IsRecorded c.in_ok-updated.updated e c.args.previous.now c.record_outcome.new.previous
+    c.args.outcome.now c.record_outcome.new.outcome) c.no_effect.ensures c.record_outcome.ensures)
+    (any_last_good c.args.is_linked.now l old c.args.outcome.now c.args.previous.now c.requires.last)).0
 
 pub returns-clause-last : goal.returns-clause-last
 returns-clause-last c =
-    (linked_anew (listing_of c.args.project.now) c.args.canvas.now.bytes c.link_anew-updated.new.canvas.bytes
-    c.in_ok-updated.updated c.args.previous.now c.record_outcome.new.previous c.args.outcome.now
-    c.record_outcome.new.outcome c.in_ok-updated.ensures.updated c.record_outcome.ensures
-    (any_last_good c.args.is_linked.now (listing_of c.args.project.now) c.args.canvas.now.bytes c.args.outcome.now
-    c.args.previous.now c.requires.last)).1
+    let l = listing_of c.args.project.now in
+    let old = c.args.canvas.now.bytes in
+    let new = c.link_later-updated.new.canvas.bytes in
+    (linked_later l c.keys.result.now old new c.in_ok-updated.updated c.args.previous.now c.record_outcome.new.previous
+    c.args.outcome.now c.record_outcome.new.outcome
+    (subst (λ (x : Option PreviousState). HasUpdateOutcome l x old new c.in_ok-updated.updated) c.lend_later.ensures
+    c.in_ok-updated.ensures.updated)
+    (subst (λ (e : EditEffect). IsRecorded c.in_ok-updated.updated e c.args.previous.now c.record_outcome.new.previous
+    c.args.outcome.now c.record_outcome.new.outcome) c.no_effect.ensures c.record_outcome.ensures)
+    (any_last_good c.args.is_linked.now l old c.args.outcome.now c.args.previous.now c.requires.last)).1

@@ -4,7 +4,7 @@ use Rattle.symres.specs.decisions.Change.{Table}
 use Rattle.symres.specs.SymbolTable.{IsSymbolTable, SymbolTableState}
 use Rattle.ldmodel_project.specs.ProjectState.{listing_of, project_of}
 use Rattle.relink.proofs.Following.{tables_of_objects}
-use Rattle.relink.proofs.session_link.link_anew.Goals as goal
+use Rattle.relink.proofs.session_link.link_later.Goals as goal
 
 pub link_keyed-requires-clause-symbol_table : goal.link_keyed-requires-clause-symbol_table
 link_keyed-requires-clause-symbol_table c =
