@@ -204,18 +204,12 @@ class KernelTest(LinkTest):
         self.assertFalse((self.folder / "kernel").exists())
 
     def test_large_pages(self) -> None:
-        """Segments of -z max-page-size=: places equal to addresses modulo it; bytes, addresses and sections as
-        before."""
-        self.links("-T", "kernel.ld", "-o", "plain", *self.objects)
-        self.links("-T", "kernel.ld", "-o", "large", "-z", f"max-page-size={LARGE_PAGE:#x}", *self.objects)
-        plain, large = ((self.folder / name).read_bytes() for name in ("plain", "large"))
-        before, after = (read_image(data).segments for data in (plain, large))
-        self.assertEqual(len(before), len(after))
-        for old, new in zip(before, after):
-            self.assertEqual((new.offset - new.address) % LARGE_PAGE, 0)
-            self.assertEqual((old.address, old.load, old.memory_size), (new.address, new.load, new.memory_size))
-            self.assertEqual(plain[old.offset:old.offset + old.file_size], large[new.offset:new.offset + new.file_size])
-            self.assertEqual(new.alignment, LARGE_PAGE)
+        """Segments of -z max-page-size= are GNU ld's; bytes, addresses and sections are as before."""
+        for name, words in (("plain", ()), ("large", ("-z", f"max-page-size={LARGE_PAGE:#x}"))):
+            self.links("-T", "kernel.ld", "-o", name, *words, *self.objects)
+            self.run_tool("ld.bfd", "--no-warn-rwx-segments", "-T", "kernel.ld", "-o", "gnu", *words, *self.objects)
+            own, gnu = (read_image((self.folder / image).read_bytes()).segments for image in (name, "gnu"))
+            self.assertEqual(own, gnu)
         self.assertNotIn("warning", self.run_tool("readelf", "-lSW", "large").lower())
         self.assertEqual(self._symbols("plain"), self._symbols("large"))
         self.assertEqual(self.run_tool("objdump", "-d", "plain").split("\n")[3:],
@@ -277,7 +271,7 @@ class ProgramHeaderTest(LinkTest):
     @needs("ld.bfd")
     def test_as_gnu_ld(self) -> None:
         """Types, flags, addresses, sizes and alignments are GNU ld's, and readelf finds nothing wrong."""
-        for words in ((), ("-z", f"max-page-size={LARGE_PAGE:#x}")):
+        for words in ((), ("-z", f"max-page-size={LARGE_PAGE:#x}"), ("-z", "max-page-size=0x200"), ("-n",)):
             said = self._links_both(SEGMENTS, *words)
             self.assertEqual(self._headers("image"), self._headers("gnu"), words)
             self.assertNotIn("PHDRS", said)

@@ -196,7 +196,7 @@ HEADS = """.section .interp,"a"
 
 @needs("ld.bfd")
 class ProgramHeadersTest(BesideTest):
-    """Program headers beside those of what is loaded, where the headers of the file are in memory."""
+    """Program headers, where the headers of the file are in memory."""
 
     def test_default_script(self) -> None:
         """PT_PHDR, PT_INTERP, PT_NOTE, PT_GNU_STACK, PT_GNU_RELRO, as GNU ld writes them."""
@@ -205,13 +205,8 @@ class ProgramHeadersTest(BesideTest):
         self.compile("image.s", ".globl more\nmore: .long 1\n")
         self.must("ld.bfd", "-e", "0", "image.o", "-o", "image")
         for words in (("heads.o",), ("plain.o",), ("heads.o", "-z", "norelro"), ("heads.o", "-z", "execstack"),
-                      ("-R", "image", "heads.o"), ("plain.o", "image.o")):
-            heads = [[(one.kind, one.rights, one.address, one.load, one.file_size, one.memory_size, one.alignment)
-                      for one in image.segments] for image in self.both(*words)]
-            self.assertEqual(*heads, words)
-        own, gnu = self.both("heads.o", "-z", "noseparate-code")
-        self.assertLess({one.kind for one in own.segments}, {one.kind for one in gnu.segments})
-        self.assertEqual([one[:5] for one in own.segments[:2]], [one[:5] for one in gnu.segments[:2]])
+                      ("heads.o", "-z", "noseparate-code"), ("-R", "image", "heads.o"), ("plain.o", "image.o")):
+            self.assertEqual(*(image.segments for image in self.both(*words)), words)
 
 
 @needs("ld.bfd")

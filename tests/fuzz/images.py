@@ -126,6 +126,19 @@ def differences(gnu: Image, ldi: Image, with_headers: bool = False) -> list[str]
     return found
 
 
+def segment_differences(gnu: bytes, own: bytes) -> list[str]:
+    """How program headers are others."""
+    found = []
+    for data in (gnu, own):
+        at, = struct.unpack_from("<Q", data, 32)
+        count, = struct.unpack_from("<H", data, 56)
+        found.append([" ".join(f"{word:x}" for word in SEGMENT.unpack_from(data, at + 56 * number))
+                      for number in range(count)])
+    theirs, mine = found
+    return [f"program headers: {', '.join(one for one in theirs if one not in mine)}: "
+            f"{', '.join(one for one in mine if one not in theirs)}"] if theirs != mine else []
+
+
 def _same_bytes(one: Section, data: bytes) -> bool:
     assert one.data is not None
     return one.data == data or all(_same_byte(a, b, one.code) for a, b in zip(one.data, data))

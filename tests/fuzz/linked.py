@@ -11,7 +11,7 @@ from dataclasses import dataclass, field
 
 from tests.fuzz import objects
 from tests.fuzz.adapted import link_adapted
-from tests.fuzz.images import differences, loads_of, read_image
+from tests.fuzz.images import differences, loads_of, read_image, segment_differences
 from tests.fuzz.scripts import Case, case, with_insert, with_more_options, without_rest
 from tests.programs import LD_LDI
 from tests.symbol_table import table_differences
@@ -76,7 +76,9 @@ def link(one: Case, with_headers: bool = False) -> Came:
         gnu, loads = file.read(), loads_of(mapped.read())
     with open("ldi.out", "rb") as file:
         own = file.read()
-    found = differences(read_image(gnu, loads), read_image(own), with_headers) + table_differences(gnu, own)
+    found = differences(read_image(gnu, loads), read_image(own, loads), with_headers) + table_differences(gnu, own)
+    if "PHDRS {" not in one.script:
+        found += segment_differences(gnu, own)
     if not found:
         return Came(SAME, said)
     reported = any("changed:" in line or "PHDRS:" in line for line in said.splitlines())

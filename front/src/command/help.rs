@@ -19,7 +19,7 @@ pub fn help() -> String {
     };
     [
         BEGIN.to_owned(),
-        part("Options that are taken:", |effect| matches!(effect, Effect::Taken(_) | Effect::Noted(..))),
+        part("Options that are taken:", |effect| matches!(effect, Effect::Taken(_))),
         part("Options that change nothing of a static image:", |effect| matches!(effect, Effect::Ignored)),
         part("Options without effect here, which is said:", |effect| matches!(effect, Effect::Said(_))),
         part("Options that are given to LDI_FALLBACK, or refused:", |effect| matches!(effect, Effect::Impossible(_))),

@@ -23,8 +23,6 @@ pub enum Effect {
     Taken(Action),
     /// Nothing is said: it changes nothing of a static image, or only what `ldi` never makes.
     Ignored,
-    /// It is taken, and one line says what of it is not.
-    Noted(Action, &'static str),
     /// It has no effect here, and one line says what that means.
     Said(&'static str),
     /// Only another linker can do it; the text says what it is.
@@ -177,7 +175,7 @@ const ONE_DASH: &[&str] = &[
 ];
 
 use Argument::{Absent, Needed, Optional};
-use Effect::{Ignored, Impossible, Noted, Said, Taken};
+use Effect::{Ignored, Impossible, Said, Taken};
 
 const fn row(names: &'static str, argument: Argument, effect: Effect) -> OptionRow {
     OptionRow { names, argument, effect }
@@ -244,7 +242,7 @@ pub static OPTIONS: &[OptionRow] = &[
     row("X discard-locals", Absent, Taken(Action::Discard(Discard::Labels))),
     row("discard-none", Absent, Taken(Action::Discard(Discard::None))),
     row("N omagic", Absent, Taken(Action::Omagic)),
-    row("n nmagic", Absent, Noted(Action::Nmagic, "segments lie in the file as their addresses modulo 4,096 ask")),
+    row("n nmagic", Absent, Taken(Action::Nmagic)),
     row("R just-symbols", Needed, Taken(Action::JustSymbols)),
     row("wrap", Needed, Taken(Action::Wrap)),
     row("sort-section", Needed, Taken(Action::SortSection)),
@@ -401,7 +399,7 @@ pub enum KeywordEffect {
     Taken,
     /// GNU ld is to let something pass.
     Lenient(Leniency),
-    /// It changes nothing of a static image, or only headers that `ldi` never makes.
+    /// It changes nothing of a static image, or only what `ldi` never makes.
     Ignored,
     /// It has no effect here, and one line says what that means.
     Said(&'static str),
@@ -410,13 +408,16 @@ pub enum KeywordEffect {
 const KEYWORDS_TAKEN: &[&str] = &[
     "call-nop",
     "common-page-size",
+    "execstack",
     "max-page-size",
+    "noexecstack",
     "norelro",
     "noseparate-code",
     "nostart-stop-gc",
     "nounique-symbol",
     "relro",
     "separate-code",
+    "stack-size",
     "start-stop-gc",
     "start-stop-visibility",
     "unique-symbol",
@@ -428,7 +429,6 @@ const KEYWORDS_IGNORED: &[&str] = &[
     "common",
     "defs",
     "dynamic-undefined-weak",
-    "execstack",
     "global",
     "globalaudit",
     "ibt",
@@ -452,7 +452,6 @@ const KEYWORDS_IGNORED: &[&str] = &[
     "nodlopen",
     "nodump",
     "nodynamic-undefined-weak",
-    "noexecstack",
     "noextern-protected-data",
     "noindirect-extern-access",
     "nopack-relative-relocs",
@@ -464,7 +463,6 @@ const KEYWORDS_IGNORED: &[&str] = &[
     "report-relative-reloc",
     "sectionheader",
     "shstk",
-    "stack-size",
     "text",
     "textoff",
     "unique",

@@ -96,10 +96,6 @@ impl Reader {
         match row.effect {
             Effect::Taken(action) => return self.take(action, value.unwrap_or_else(|| b"".as_bstr())),
             Effect::Ignored => {}
-            Effect::Noted(action, meaning) => {
-                self.command.note(format!("{written}: {meaning}"));
-                return self.take(action, b"".as_bstr());
-            }
             Effect::Said(meaning) => self.command.note(format!("{written}: {meaning}")),
             Effect::Impossible(reason) => self.impossible(format!("{written}: {reason}")),
         }
@@ -209,11 +205,7 @@ impl Reader {
             Action::Nmagic => self.command.is_nmagic = true,
             Action::SortSection => self.command.sort_section = Some(sorting::sort_section(value)?),
             Action::SortCommon => self.command.sort_common = Some(sorting::sort_common(value)?),
-            Action::Omagic => {
-                self.command.is_omagic = true;
-                self.command
-                    .note("-N: code is not writable; segments lie in the file as their addresses modulo 4,096 ask");
-            }
+            Action::Omagic => self.command.is_omagic = true,
             Action::Orphans => return self.orphans(value),
             Action::Output => {
                 self.command.output = path_of(value);

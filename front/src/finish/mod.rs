@@ -6,7 +6,6 @@ mod build_id;
 mod digest;
 mod file_image;
 mod flat;
-mod headers;
 mod image;
 mod inserted;
 mod kept;
@@ -15,6 +14,7 @@ mod names;
 mod pages;
 mod program_headers;
 mod rights;
+mod segments;
 mod symbols;
 mod unloaded;
 
@@ -24,13 +24,13 @@ use crate::mirror::Answered;
 pub use build_id::{hash_of, place_of_note, HashKind};
 pub use file_image::FileImage;
 pub use flat::NoFlatImage;
-pub use headers::{LoadedHeaders, PT_GNU_PROPERTY};
 pub use image::NotAnImage;
 pub use kept::KeptTables;
 pub use loaded::Differs;
 pub use pages::TooFar;
 pub use program_headers::{NotWritten, WantedSegment};
 pub use rights::Rights;
+pub use segments::{MadeHeaders, MadeSection, MadeSegment, PT_GNU_PROPERTY};
 use symbols::OtherSections;
 pub use symbols::{LaidOut, LinkedNames, NoTable, Strip, SymbolOptions, Symbols};
 pub use unloaded::Unloaded;
@@ -43,14 +43,15 @@ const GREATEST_FILE: u64 = 1 << 30;
 /// The form of the file that is asked for.
 #[derive(Clone, PartialEq, Eq, Debug)]
 pub struct Form {
-    /// What segments are aligned to in the file, a power of two (`-z max-page-size`); up to 4,096 as `ldi` aligns them.
+    /// What segments are aligned to in the file, a power of two: `-z max-page-size`, and 1 with `-n` and `-N`. Segments
+    /// of `ldi` are aligned to 4,096 at least.
     pub page: u64,
     /// The program headers of PHDRS; `None` where the script has none, an empty list where they cannot be known.
     pub segments: Option<Vec<WantedSegment>>,
     /// Why the program headers of PHDRS cannot be known.
     pub segments_problem: Option<String>,
-    /// The headers of the file that are loaded, where the script has no PHDRS.
-    pub headers: Option<LoadedHeaders>,
+    /// The program headers where the script has no PHDRS; `None` for those of `ldi`.
+    pub headers: Option<MadeHeaders>,
     /// Output sections that have another name in the image of `ldi`, and the names that they are to have.
     pub names: Vec<(BString, BString)>,
     /// The rights of output sections in GNU ld's file.
@@ -159,7 +160,7 @@ pub fn finish_again(
     let mut notes = Vec::new();
     let mut plan = match (&form.segments, &form.headers) {
         (Some(segments), _) => with_segments(&image, form, segments, &mut notes)?,
-        (None, Some(headers)) => Some(with_headers(&image, form, headers)?),
+        (None, Some(headers)) => with_headers(&image, form, headers)?,
         (None, None) => pages::with_pages(&image, form.page, false)?,
     };
     names::rename(&image, &form.names, &mut plan)?;
@@ -246,13 +247,14 @@ fn with_segments(
     }
 }
 
-/// The file with the program headers of `ldi`, and its own headers in memory.
-fn with_headers(image: &[u8], form: &Form, headers: &LoadedHeaders) -> Result<file_image::FilePlan, FinishError> {
-    let wanted = headers::wanted(image, headers)?;
-    program_headers::write(image, &wanted, form.page).map_err(|fault| match fault {
-        NotWritten::NotAnImage(fault) => fault.into(),
-        fault => FinishError::NoHeaders(fault),
-    })
+/// The file with the program headers of GNU ld, else with those of `ldi`, if no headers are to be in memory.
+fn with_headers(image: &[u8], form: &Form, headers: &MadeHeaders) -> Result<Option<file_image::FilePlan>, FinishError> {
+    match segments::write(image, headers, &form.names) {
+        Ok(plan) => Ok(Some(plan)),
+        Err(NotWritten::NotAnImage(fault)) => Err(fault.into()),
+        Err(fault) if headers.are_in_memory() => Err(FinishError::NoHeaders(fault)),
+        Err(_) => pages::with_pages(image, form.page, false),
+    }
 }
 
 #[cfg(test)]

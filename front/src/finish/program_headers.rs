@@ -10,7 +10,7 @@ use object::elf;
 
 use super::file_image::{aligned, range, FilePlan};
 use super::image::{Image, NotAnImage, Section, Segment, ELF_HEADER, PROGRAM_HEADER};
-use super::{GREATEST_FILE, PAGE};
+use super::GREATEST_FILE;
 
 /// The program headers that a file has at most.
 const GREATEST_COUNT: usize = 0xFFFE;
@@ -32,12 +32,6 @@ pub struct WantedSegment {
     pub has_file_header: bool,
     /// PHDRS: the segment has the program headers.
     pub has_program_headers: bool,
-    /// Where it begins that has the headers alone, and no sections.
-    pub address: Option<u64>,
-    /// Its alignment where it is no PT_LOAD; else that of its sections.
-    pub align: Option<u64>,
-    /// Where it ends in memory, past its sections.
-    pub end: Option<u64>,
     /// The names of its sections in the image, in their order.
     pub sections: Vec<BString>,
 }
@@ -159,7 +153,7 @@ pub(super) fn write(data: &[u8], wanted: &[WantedSegment], page: u64) -> Result<
         return Err(NotWritten::TooMany(wanted.len()));
     }
     let parts = parts_of(&image)?;
-    let entries = entries_of(&parts, wanted, page.max(PAGE));
+    let entries = entries_of(&parts, wanted, page.max(1));
     let mut writer = Writer { parts, entries };
     let end = writer.place_loads()?;
     let end = writer.place_others(end);
@@ -201,7 +195,7 @@ fn entries_of<'a>(parts: &[Part<'_>], wanted: &'a [WantedSegment], page: u64) ->
         if mine.is_empty() && wanted.kind != elf::PT_LOAD {
             mine.extend(found.first());
         }
-        let mut most = wanted.align.unwrap_or_else(|| mine.iter().map(align).max().unwrap_or(WORD));
+        let mut most = mine.iter().map(align).max().unwrap_or(WORD);
         if wanted.kind == elf::PT_LOAD {
             most = most.max(page);
         }
@@ -348,30 +342,13 @@ impl Writer<'_> {
             segment.file_size = end.saturating_sub(segment.offset);
             segment.memory_size =
                 parts().map(|part| part.header.end()).max().unwrap_or(0).wrapping_sub(segment.address);
-            if let Some(end) = entry.wanted.end {
-                segment.memory_size = end.wrapping_sub(segment.address);
-                segment.file_size = segment.memory_size.min(self.file_room(segment.address));
-            }
         }
         segment
-    }
-
-    /// How many bytes the PT_LOAD of an address has in the file from there on.
-    fn file_room(&self, address: u64) -> u64 {
-        let loads = self.entries.iter().filter(|entry| entry.is_load()).map(|entry| self.written(entry));
-        let mut at = loads.filter_map(|load| Some((address.checked_sub(load.address)?, load)));
-        at.find(|(at, load)| *at < load.memory_size).map_or(0, |(at, load)| load.file_size.saturating_sub(at))
     }
 
     /// Lets the first PT_LOAD begin with the headers.
     fn put_headers_in(&self, entry: &Entry<'_>, segment: &mut Segment) -> Result<(), NotWritten> {
         let start = if entry.wanted.has_file_header { 0 } else { ELF_HEADER };
-        if let (true, Some(address)) = (entry.parts.is_empty(), entry.wanted.address) {
-            let size = ELF_HEADER + PROGRAM_HEADER * self.entries.len() as u64 - start;
-            *segment =
-                Segment { offset: start, address, load: address, file_size: size, memory_size: size, ..*segment };
-            return Ok(());
-        }
         let more = segment.offset.wrapping_sub(start);
         if entry.parts.is_empty() || segment.address < more || segment.load < more {
             return Err(NotWritten::NoRoom(entry.wanted.name.clone()));
@@ -393,14 +370,9 @@ impl Writer<'_> {
         }
         let mut loads = self.entries.iter().filter(|one| one.is_load() && one.wanted.has_program_headers);
         let load = loads.next().ok_or_else(|| NotWritten::NotLoaded(name()))?;
-        let (address, load) = match (load.parts.first().and_then(|at| self.part(*at)), load.wanted.address) {
-            (Some(first), _) => {
-                let before = first.place.unwrap_or(0).wrapping_sub(ELF_HEADER);
-                (first.header.address.wrapping_sub(before), first.load.wrapping_sub(before))
-            }
-            (None, Some(start)) => (start.wrapping_add(ELF_HEADER), start.wrapping_add(ELF_HEADER)),
-            (None, None) => return Err(NotWritten::NotLoaded(name())),
-        };
+        let first = load.parts.first().and_then(|at| self.part(*at)).ok_or_else(|| NotWritten::NotLoaded(name()))?;
+        let before = first.place.unwrap_or(0).wrapping_sub(ELF_HEADER);
+        let (address, load) = (first.header.address.wrapping_sub(before), first.load.wrapping_sub(before));
         let size = PROGRAM_HEADER * self.entries.len() as u64;
         Ok(Segment {
             kind: elf::PT_PHDR,

@@ -1,7 +1,9 @@
 //! Files made from small images in the form of docs/layout.md.
 
-use super::image::{Image, Section, Segment};
+use super::image::{Image, Section, Segment, ELF_HEADER};
 use super::*;
+use crate::layout::segments::{InMemory, Paging};
+use crate::layout::Flags;
 use object::elf;
 
 /// A section of an image that is made: name, flags, address, load address, bytes (`None` without file bytes), size.
@@ -164,6 +166,50 @@ fn the_first_load_may_have_the_headers() {
     assert_eq!((segments[0].offset, segments[0].address, segments[0].file_size), (64, 0x400040, 3 * 56));
 }
 
+/// What GNU ld would make of the sections of `text_and_data`.
+fn made_headers(is_paged: bool, has_moved: bool) -> MadeHeaders {
+    let section = |name: &str, bits: u64, load: u64, size: u64, has_bytes: bool| {
+        let mut flags = Flags::ALLOC | if has_bytes { Flags::LOAD | Flags::CONTENTS } else { Flags::NONE };
+        flags |= if bits == 4 { Flags::CODE | Flags::READONLY } else { Flags::NONE };
+        let address = load + 0x400000 + u64::from(has_moved);
+        let memory = InMemory { address, load, size, align: 4, flags, has_bytes, region: 0 };
+        MadeSection { name: name.into(), bits, memory }
+    };
+    let paging =
+        Paging { page: PAGE, is_paged, separates_code: true, wants_headers: false, header_size: ELF_HEADER + 2 * 56 };
+    MadeHeaders {
+        sections: vec![
+            section(".text", 4, 0x1000, 4, true),
+            section(".data", 1, 0x2000, 4, true),
+            section(".bss", 1, 0x2008, 16, false),
+        ],
+        paging,
+        has_own_page: false,
+        room: 0,
+        before: Vec::new(),
+        after: vec![MadeSegment { kind: elf::PT_GNU_STACK, flags: Some(6), align: 16, ..MadeSegment::default() }],
+        relro: None,
+    }
+}
+
+/// elf.c, `_bfd_elf_map_sections_to_segments`: without pages one segment has all rights.
+#[test]
+fn program_headers_are_those_of_gnu_ld() {
+    let segments = |headers: MadeHeaders| {
+        let form = Form { headers: Some(headers), ..Form::default() };
+        let file = finish(text_and_data(), &form, None, Vec::new()).unwrap().file.into_vec();
+        let image = Image::read(&file).unwrap();
+        assert_eq!(image.content(&image.sections[2]).unwrap(), b"data");
+        let row = |one: &Segment| (one.kind, one.flags, one.offset, one.address, one.memory_size, one.align);
+        image.segments.iter().map(row).collect::<Vec<_>>()
+    };
+    let stack = (elf::PT_GNU_STACK, 6, 0, 0, 0, 16);
+    let divided = vec![(1, 5, 0x1000, 0x401000, 4, PAGE), (1, 6, 0x2000, 0x402000, 24, PAGE), stack];
+    assert_eq!(segments(made_headers(false, false)), [(1, 7, 232 - 56, 0x401000, 0x1018, 4), stack]);
+    assert_eq!(segments(made_headers(true, false)), divided);
+    assert_eq!(segments(made_headers(true, true)), divided, "the image is laid out otherwise");
+}
+
 #[test]
 fn a_section_in_no_segment_is_said() {
     let form = Form { segments: Some(vec![wanted("text", 1, &[".text"])]), ..Form::default() };
@@ -274,6 +320,7 @@ fn no_bytes_make_it_panic() {
         Form { is_flat: true, ..Form::default() },
         Form { names: vec![(".text".into(), "t".into())], ..Form::default() },
         Form { segments: Some(vec![wanted("a", 1, &[".text", ".data", ".bss"])]), ..Form::default() },
+        Form { headers: Some(made_headers(true, false)), ..Form::default() },
     ] {
         for length in 0..data.len().min(900) {
             let _ = finish(data[..length].to_vec(), &form, None, Vec::new());

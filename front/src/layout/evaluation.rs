@@ -5,6 +5,7 @@ use super::flags::Flags;
 use super::ids::{NameId, OutputId, RegionId, SectionId, StatementId, SymbolId};
 use super::merging::Merges;
 use super::names::{Names, QuickMap};
+use super::segments::{InMemory, Paging};
 use crate::objects::{MergeSource, ObjectIndex, SectionIndex};
 use crate::script::tree::{Name, Span};
 use bstr::{BStr, ByteSlice};
@@ -63,8 +64,10 @@ pub struct Evaluation {
     pub header_count: u64,
     /// Whether the script asks for SIZEOF_HEADERS.
     pub wants_headers: bool,
-    /// Where the headers of the file are in memory, if they are, and PHDRS do not say it.
-    pub headers: Option<HeaderPlace>,
+    /// How the file is laid out in pages, where PHDRS do not say it.
+    pub paging: Option<Paging>,
+    /// The output sections that take memory, in the order of the file's headers.
+    pub memory: Vec<(OutputId, InMemory)>,
     /// What is read-only after relocation: from DATA_SEGMENT_ALIGN to DATA_SEGMENT_RELRO_END.
     pub relro: Option<(u64, u64)>,
     /// The input sections that no statement takes and that are not empty, in the order in which they were placed.
@@ -81,15 +84,6 @@ pub struct Evaluation {
     pub by_name: QuickMap<Name, SymbolId>,
     /// The names that something has named, in that order, each with the number of objects that were read before.
     pub named: Vec<(usize, Name)>,
-}
-
-/// Where the headers of the file are in memory (elf.c, `_bfd_elf_map_sections_to_segments`).
-#[derive(Clone, Copy, PartialEq, Eq, Debug)]
-pub enum HeaderPlace {
-    /// In the segment of the first section, in front of it.
-    WithFirst,
-    /// In a segment of their own, from this address on.
-    Apart(u64),
 }
 
 /// Where the program begins.

@@ -34,6 +34,7 @@ mod program;
 mod reading;
 mod result;
 mod rows;
+pub mod segments;
 pub mod settings;
 mod sizing;
 mod sorting;

@@ -33,7 +33,8 @@ pub(crate) fn run(
     }
     let mut link = Link::new(program, rows.sections.clone(), settings);
     let stack = link.program.names.find(b".note.GNU-stack");
-    link.headers.has_stack = stack.map_or(false, |stack| link.sections.iter().any(|section| section.name == stack));
+    link.headers.has_stack =
+        settings.has_stack || stack.map_or(false, |stack| link.sections.iter().any(|section| section.name == stack));
     link.want_names();
     link.set_regions(false)?;
     if settings.script_first {

@@ -37,7 +37,8 @@ impl Link<'_> {
             entry,
             header_count: self.headers.count.unwrap_or_else(|| self.found_headers()),
             wants_headers: self.headers.is_wanted,
-            headers: self.header_place(),
+            paging: self.paging(),
+            memory: self.in_memory().collect(),
             relro: self.headers.relro.filter(|_| self.headers.has_relro),
             orphans: std::mem::take(&mut self.orphans),
             merges: std::mem::take(&mut self.merges),
@@ -285,7 +286,7 @@ impl Link<'_> {
 }
 
 /// The type in the section header (elf.c, `elf_fake_sections`).
-fn kind_of(place: &Place, is_in_segment: bool) -> u32 {
+pub(super) fn kind_of(place: &Place, is_in_segment: bool) -> u32 {
     // elf.c, `assign_file_positions_for_load_sections`: what has no bytes in a PT_LOAD is SHT_NOBITS.
     if is_in_segment && place.flags.has(Flags::ALLOC) && !place.flags.has(Flags::LOAD | Flags::CONTENTS) {
         return elf::SHT_NOBITS;

@@ -17,6 +17,8 @@ pub struct Settings {
     pub paged: bool,
     /// Whether `.text` is made read-only: not with `-N`.
     pub text_read_only: bool,
+    /// Whether there is PT_GNU_STACK, whatever the objects say: `-z execstack`, `noexecstack`, `stack-size`.
+    pub has_stack: bool,
     /// The names that are wanted: `-u`, `--require-defined`.
     pub undefined: Vec<Name>,
     /// `-e`: a symbol or a number.
@@ -67,6 +69,7 @@ impl Default for Settings {
             separate_code: true,
             paged: true,
             text_read_only: true,
+            has_stack: false,
             undefined: Vec::new(),
             entry: None,
             section_starts: Vec::new(),

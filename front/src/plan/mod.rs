@@ -403,7 +403,7 @@ fn written(command: &Command, inputs: &Inputs, evaluation: Option<&Evaluation>) 
 fn form_of(command: &Command, inputs: &Inputs, residual: &Residual, evaluation: Option<&Evaluation>) -> Form {
     let scripts = &inputs.scripts;
     Form {
-        page: command.page_size.unwrap_or(PAGE),
+        page: if command.is_omagic || command.is_nmagic { 1 } else { command.page_size.unwrap_or(PAGE) },
         segments: residual.segments.clone(),
         segments_problem: residual.segments_problem.clone(),
         headers: evaluation.and_then(|evaluation| stack::headers_of(command, &inputs.loaded.objects, evaluation)),

@@ -3,6 +3,7 @@
 use bstr::{BString, ByteSlice};
 use indexmap::IndexMap;
 
+use super::stack::says_stack;
 use super::Scripts;
 use crate::command::{Command, Input, Orphans};
 use crate::layout::settings::{GcSettings, OrphanHandling};
@@ -18,6 +19,7 @@ pub fn settings_of(command: &Command, scripts: &Scripts) -> Settings {
         section_starts: addresses(&command.section_starts),
         segment_starts: addresses(&command.segment_starts),
         starts_late: !command.scripts.is_empty() && command.scripts_before_starts == command.scripts.len(),
+        has_stack: says_stack(command),
         keeps_empty: command.emits_relocations,
         script_first: scripts.is_own && script_is_first(command),
         flat: super::is_flat(command, scripts),

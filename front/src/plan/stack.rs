@@ -1,12 +1,13 @@
-//! The headers of the file that GNU ld loads, and the program headers beside those of what is loaded (elf.c,
+//! What the program headers of a file are made of where the script has no PHDRS (elf.c,
 //! `_bfd_elf_map_sections_to_segments`; elflink.c, `bfd_elf_size_dynamic_sections`).
 
 use bstr::{BString, ByteSlice};
 use object::elf;
 
-use crate::command::Command;
-use crate::finish::{LoadedHeaders, WantedSegment, PT_GNU_PROPERTY};
-use crate::layout::evaluation::{HeaderPlace, OutputSection, Placed};
+use crate::command::{number, Command};
+use crate::finish::{MadeHeaders, MadeSection, MadeSegment, PT_GNU_PROPERTY};
+use crate::layout::evaluation::{OutputSection, Placed};
+use crate::layout::segments::InMemory;
 use crate::layout::{Evaluation, Flags};
 use crate::objects::{Object, SectionFlags};
 
@@ -15,53 +16,54 @@ const NOTE: &[u8] = b".note.GNU-stack";
 /// The alignment of PT_GNU_STACK (elf64-x86-64.c, `elf_backend_stack_align`).
 const STACK_ALIGN: u64 = 16;
 
-/// The headers that are in memory, if they are.
-pub(super) fn headers_of(command: &Command, objects: &[Object], evaluation: &Evaluation) -> Option<LoadedHeaders> {
-    let apart = match evaluation.headers? {
-        HeaderPlace::WithFirst => None,
-        HeaderPlace::Apart(address) => Some(address),
+/// The program headers, where PHDRS do not say them.
+pub(super) fn headers_of(command: &Command, objects: &[Object], evaluation: &Evaluation) -> Option<MadeHeaders> {
+    let paging = evaluation.paging?;
+    let memory = || evaluation.memory.iter().filter_map(|(id, memory)| Some((evaluation.output(*id)?, memory)));
+    let made = |(output, memory): (&OutputSection, &InMemory)| {
+        let bits = output.place.as_ref().map_or(0, |place| place.bits);
+        MadeSection { name: output.name.to_vec().into(), bits, memory: *memory }
     };
-    let mut after = notes(evaluation);
-    after.extend(of_section(evaluation, ".note.gnu.property", PT_GNU_PROPERTY));
-    after.extend(stack_of(command, objects).map(|flags| WantedSegment {
-        flags: Some(flags),
-        align: Some(STACK_ALIGN),
-        ..segment("stack", elf::PT_GNU_STACK, Vec::new())
-    }));
-    let (before, relro, most) = (interpreter(evaluation), evaluation.relro, evaluation.header_count);
-    Some(LoadedHeaders { apart, before, after, relro, most })
+    let of_name = |name: &str, kind: u32| of_section(evaluation, name, kind);
+    let mut after: Vec<MadeSegment> = of_name(".dynamic", elf::PT_DYNAMIC).into_iter().collect();
+    after.extend(notes(evaluation));
+    after.extend(of_name(".note.gnu.property", PT_GNU_PROPERTY));
+    after.extend(stack_of(command, objects));
+    let interpreter = of_name(".interp", elf::PT_INTERP);
+    let table = || MadeSegment { kind: elf::PT_PHDR, flags: Some(elf::PF_R), ..MadeSegment::default() };
+    Some(MadeHeaders {
+        sections: memory().map(made).collect(),
+        paging,
+        has_own_page: command.page_size.is_some(),
+        room: evaluation.header_count,
+        before: interpreter.into_iter().flat_map(|own| [table(), own]).collect(),
+        after,
+        relro: evaluation.relro,
+    })
 }
 
-fn segment(name: &str, kind: u32, sections: Vec<BString>) -> WantedSegment {
-    WantedSegment { name: name.into(), kind, sections, ..WantedSegment::default() }
+/// The output sections in their order, with their places among those that take memory.
+fn places(evaluation: &Evaluation) -> impl Iterator<Item = (usize, &OutputSection, &Placed)> {
+    let mut next = 0;
+    evaluation.in_image().map(move |(output, place)| {
+        let at = next;
+        next += usize::from(place.is_allocated());
+        (at, output, place)
+    })
 }
 
-/// The output sections that have bytes in the file, in their order.
-fn loaded(evaluation: &Evaluation) -> impl Iterator<Item = (&OutputSection, &Placed)> {
-    evaluation.in_image().filter(|(_, place)| place.flags.has(Flags::LOAD))
-}
-
-/// A segment of the section of a name, where that is not empty.
-fn of_section(evaluation: &Evaluation, name: &str, kind: u32) -> Option<WantedSegment> {
-    let mut named = loaded(evaluation).filter(|(output, place)| output.name == name && place.size != 0);
-    named.next().map(|(output, _)| segment(name, kind, vec![output.name.to_vec().into()]))
-}
-
-/// PT_PHDR and PT_INTERP.
-fn interpreter(evaluation: &Evaluation) -> Vec<WantedSegment> {
-    let own = match of_section(evaluation, ".interp", elf::PT_INTERP) {
-        Some(own) => own,
-        None => return Vec::new(),
-    };
-    let table = segment("table", elf::PT_PHDR, Vec::new());
-    vec![WantedSegment { flags: Some(elf::PF_R), has_program_headers: true, ..table }, own]
+/// A segment of the section of a name, where that is loaded and not empty.
+fn of_section(evaluation: &Evaluation, name: &str, kind: u32) -> Option<MadeSegment> {
+    let (at, _, place) = places(evaluation).find(|(_, output, _)| output.name == name)?;
+    let is_loaded = place.flags.has(Flags::LOAD) && (place.size != 0 || kind == elf::PT_DYNAMIC);
+    is_loaded.then(|| MadeSegment { kind, sections: vec![at], ..MadeSegment::default() })
 }
 
 /// The PT_NOTEs: one for notes of one alignment that follow one another.
-fn notes(evaluation: &Evaluation) -> Vec<WantedSegment> {
-    let mut found: Vec<WantedSegment> = Vec::new();
+fn notes(evaluation: &Evaluation) -> Vec<MadeSegment> {
+    let mut found: Vec<MadeSegment> = Vec::new();
     let mut before: Option<&Placed> = None;
-    for (output, place) in evaluation.in_image() {
+    for (at, _, place) in places(evaluation) {
         if !place.flags.has(Flags::LOAD) || place.kind != elf::SHT_NOTE {
             before = None;
             continue;
@@ -70,19 +72,37 @@ fn notes(evaluation: &Evaluation) -> Vec<WantedSegment> {
             let end = before.load.wrapping_add(before.size);
             before.align == place.align && end.wrapping_add(end.wrapping_neg() & (place.align.max(1) - 1)) == place.load
         });
-        let name: BString = output.name.to_vec().into();
         match found.last_mut().filter(|_| is_joined) {
-            Some(last) => last.sections.push(name),
-            None => found.push(segment("note", elf::PT_NOTE, vec![name])),
+            Some(last) => last.sections.push(at),
+            None => found.push(MadeSegment { kind: elf::PT_NOTE, sections: vec![at], ..MadeSegment::default() }),
         }
         before = Some(place);
     }
     found
 }
 
+/// PT_GNU_STACK.
+fn stack_of(command: &Command, objects: &[Object]) -> Option<MadeSegment> {
+    let size = stack_size(command);
+    let flags = Some(stack_flags(command, objects, size != 0)?);
+    Some(MadeSegment { kind: elf::PT_GNU_STACK, flags, align: STACK_ALIGN, size, ..MadeSegment::default() })
+}
+
+/// Whether a command says of the stack what makes PT_GNU_STACK.
+pub(super) fn says_stack(command: &Command) -> bool {
+    let words = [&b"execstack"[..], b"noexecstack"];
+    stack_size(command) != 0 || command.keywords.iter().any(|word| words.contains(&word.as_bytes()))
+}
+
+/// `-z stack-size=V`
+fn stack_size(command: &Command) -> u64 {
+    let size = |word: &BString| number(word.strip_prefix(b"stack-size=")?);
+    command.keywords.iter().rev().find_map(size).unwrap_or(0)
+}
+
 /// The flags of PT_GNU_STACK: what `-z` says, else what the objects do; those that say nothing want to execute it. An
 /// object without sections, as one of `-R`, has no say.
-fn stack_of(command: &Command, objects: &[Object]) -> Option<u32> {
+fn stack_flags(command: &Command, objects: &[Object], has_size: bool) -> Option<u32> {
     let said = command.keywords.iter().rev().find_map(|word| match word.as_bytes() {
         b"execstack" => Some(true),
         b"noexecstack" => Some(false),
@@ -92,7 +112,7 @@ fn stack_of(command: &Command, objects: &[Object]) -> Option<u32> {
     let notes = || have_say().map(|object| object.sections().find(|section| section.name == NOTE));
     let is_executed = match said {
         Some(said) => said,
-        None if notes().all(|note| note.is_none()) => return None,
+        None if !has_size && notes().all(|note| note.is_none()) => return None,
         None => notes().any(|note| note.map_or(true, |note| note.flags.has(SectionFlags::EXECINSTR))),
     };
     Some(elf::PF_R | elf::PF_W | if is_executed { elf::PF_X } else { 0 })
@@ -106,7 +126,7 @@ mod tests {
     fn a_word_says_it() {
         let of = |words: &[&str]| {
             let keywords = words.iter().map(|word| (*word).into()).collect();
-            stack_of(&Command { keywords, ..Command::default() }, &[])
+            stack_flags(&Command { keywords, ..Command::default() }, &[], false)
         };
         assert_eq!(of(&[]), None);
         assert_eq!(of(&["noexecstack"]), Some(6));
