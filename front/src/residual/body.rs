@@ -296,7 +296,7 @@ impl<'a> Walk<'a> {
             self.kept_by_name.extend(kept);
             let text = self.explicit_with(&sections, gaps, false, body);
             // The statement itself takes what `ldi` keeps besides.
-            let rest = if super::input::is_plain(node) { self.slice(span).to_string() } else { String::new() };
+            let rest = if self.is_as_written(node, span) { self.slice(span).to_string() } else { String::new() };
             return self.edits.replace(self.text, span, format!("{text} {rest}"));
         }
         if let Some(first) = places.first() {

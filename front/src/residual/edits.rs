@@ -115,23 +115,29 @@ fn line_ends(text: &[u8], span: Span) -> Vec<u8> {
 
 /// What stays of a text that is taken out: its comments and its line ends.
 fn kept(text: &[u8]) -> Vec<u8> {
-    let mut rest = Vec::new();
-    let mut at = 0;
-    while let Some(byte) = text.get(at) {
-        let here = text.get(at..).unwrap_or_default();
-        if here.starts_with(b"/*") {
-            let length =
-                memchr::memmem::find(here.get(2..).unwrap_or_default(), b"*/").map_or(here.len(), |end| end + 4);
-            rest.extend_from_slice(here.get(..length).unwrap_or_default());
-            at += length;
-            continue;
+    let mut kept = Vec::new();
+    let mut rest = text;
+    while let Some((byte, after)) = rest.split_first() {
+        let (length, is_comment) = comment_or_text(rest);
+        if is_comment || *byte == b'\n' {
+            kept.extend_from_slice(rest.get(..length.max(1)).unwrap_or_default());
         }
-        if *byte == b'\n' {
-            rest.push(b'\n');
-        }
-        at += 1;
+        rest = rest.get(length..).filter(|_| length > 0).unwrap_or(after);
     }
-    rest
+    kept
+}
+
+/// The length of the comment, or of the text in quotes, that a text begins with, and whether it is a comment; 0 of
+/// anything else.
+pub(super) fn comment_or_text(text: &[u8]) -> (usize, bool) {
+    let end_of = |begin: &[u8], end: &[u8]| {
+        let rest = text.strip_prefix(begin)?;
+        Some(begin.len() + memchr::memmem::find(rest, end)? + end.len())
+    };
+    match end_of(b"/*", b"*/") {
+        Some(length) => (length, true),
+        None => (end_of(b"\"", b"\"").unwrap_or(0), false),
+    }
 }
 
 /// Another text in place of a span.
@@ -298,6 +304,13 @@ mod tests {
         assert_eq!(done.0, "\n/* two */\nfour");
         let done = rendered(text, |edits| edits.replace(text.as_bytes(), span(0, 22), "x"));
         assert_eq!(done, ("x\n/* two */\nfour".into(), vec![0, 5, 23]));
+    }
+
+    #[test]
+    fn what_is_in_quotes_is_no_comment() {
+        let text = "one(\"*/a/*\" /* two */ \"/*b*/\")";
+        let done = rendered(text, |edits| edits.blank(text.as_bytes(), span(0, text.len() as u32)));
+        assert_eq!(done.0, "/* two */");
     }
 
     #[test]

@@ -145,7 +145,8 @@ impl<'a> Walk<'a> {
                 return true;
             }
         }
-        let is_plain = is_plain(node) && !self.has_renamed_file(node) && self.request.sort_section.is_none();
+        let is_plain =
+            self.is_as_written(node, span) && !self.has_renamed_file(node) && self.request.sort_section.is_none();
         let is_in_doubt = self.has_doubtful_file(node)
             || self.has_link_order(sections)
             || self.request.leaves_unique
@@ -233,7 +234,7 @@ impl<'a> Walk<'a> {
 
     /// Writes an input statement of `/DISCARD/`.
     pub(super) fn discarded(&mut self, node: &InputStatement, span: Span) {
-        if is_plain(node) && !node.is_kept {
+        if self.is_as_written(node, span) && !node.is_kept {
             return;
         }
         let what = self.quoted(span);
@@ -288,6 +289,11 @@ impl<'a> Walk<'a> {
             section.map_or(false, |section| section.bits & u64::from(elf::SHF_LINK_ORDER) != 0)
         };
         sections.len() > 1 && sections.iter().any(is_ordered)
+    }
+
+    /// Whether a statement is one of the profile as it stands: a name in quotes is none.
+    pub(super) fn is_as_written(&self, node: &InputStatement, span: Span) -> bool {
+        is_plain(node) && !self.slice(span).contains(&b'"')
     }
 
     /// Whether the file has another name than in the text, as it was found in another folder.
@@ -356,8 +362,8 @@ fn all_patterns(node: &InputStatement) -> impl Iterator<Item = &Pattern> {
     node.file.iter().map(|file| &file.node).chain(sections)
 }
 
-/// Whether a statement is one of the profile as it stands.
-pub(super) fn is_plain(node: &InputStatement) -> bool {
+/// Whether the profile has what a statement says.
+fn is_plain(node: &InputStatement) -> bool {
     let (file, sections) = match (&node.file, &node.sections) {
         (Some(file), Some(sections)) if node.section_flags.is_empty() => (&file.node, sections),
         _ => return false,

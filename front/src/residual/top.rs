@@ -2,6 +2,7 @@
 
 use bstr::{BStr, ByteSlice};
 
+use super::edits::comment_or_text;
 use super::expression::{any, folded, is_short, made, says, uses_dot, with_dot, written};
 use super::note::{NoteKind, Topic};
 use super::orphans::{Extent, Orphans};
@@ -851,20 +852,13 @@ fn is_own_arch(name: &Name) -> bool {
     name.ends_with(b"x86-64")
 }
 
-/// The first `{` of a text outside of comments.
+/// The first `{` of a text outside of comments and quotes.
 fn first_brace(text: &[u8]) -> Option<usize> {
     let mut at = 0;
-    while let Some(byte) = text.get(at) {
-        let rest = text.get(at..)?;
-        if rest.starts_with(b"/*") {
-            at += memchr::memmem::find(rest.get(2..)?, b"*/")? + 4;
-        } else if *byte == b'{' {
-            return Some(at);
-        } else {
-            at += 1;
-        }
+    while *text.get(at)? != b'{' {
+        at += comment_or_text(text.get(at..)?).0.max(1);
     }
-    None
+    Some(at)
 }
 
 /// A message with the bytes that a STRING may have.

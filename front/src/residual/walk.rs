@@ -4,7 +4,7 @@ use std::collections::{BTreeMap, HashMap, HashSet};
 
 use bstr::{BStr, BString, ByteSlice};
 
-use super::edits::Edits;
+use super::edits::{comment_or_text, Edits};
 use super::expression::{any, is_short, number, says, value, write};
 use super::limits::parted;
 use super::note::{Note, NoteKind, Topic};
@@ -558,9 +558,10 @@ pub(super) fn squeezed(text: &[u8]) -> Vec<u8> {
     let mut rest = text;
     let mut result = Vec::with_capacity(text.len());
     while let Some((byte, after)) = rest.split_first() {
-        if rest.starts_with(b"/*") {
-            let end = memchr::memmem::find(after, b"*/").map_or(rest.len(), |end| end + 3);
-            rest = rest.get(end..).unwrap_or_default();
+        let (length, is_comment) = comment_or_text(rest);
+        if length > 0 {
+            result.extend_from_slice(rest.get(..length).filter(|_| !is_comment).unwrap_or_default());
+            rest = rest.get(length..).unwrap_or_default();
             continue;
         }
         if !byte.is_ascii_whitespace() {

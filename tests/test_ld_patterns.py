@@ -1,0 +1,41 @@
+"""Names and patterns in which a comment seems to begin, beside GNU ld."""
+from __future__ import annotations
+
+from tests.linking import BesideGnu, needs
+
+SOURCE = ('.globl {0}\n.section .text,"ax"\n{0}: ret\n.section .data,"aw"\n.quad {0}\n'
+          '.section .data.more,"aw"\n.long 5\n.section .note.GNU-stack\n')
+MANY = " ".join(f"*(.none.{number})" for number in range(80))
+"""More parentheses than a run of the profile may have operators, if they were counted."""
+
+
+@needs("ld.bfd")
+class PatternTest(BesideGnu):
+    """Objects in folders."""
+
+    def objects(self) -> list[str]:
+        """Assembles two objects in folders, and one beside them."""
+        return [self.compile(name, SOURCE.format(f"of_{number}"))
+                for number, name in enumerate(("first.s", "lib/one/two.s", "lib/other/three.s"))]
+
+    def same(self, script: str) -> None:
+        """Links by both; nothing is said."""
+        self.write("image.ld", f"ENTRY(of_0) SECTIONS {{ . = 0x100000; .text : {{ *(.text) }} {script} "
+                   f".rest : {{ *(.data*) {MANY} }} }}")
+        self.both("-T", "image.ld", *self.objects())
+        self.assertNotIn("changed", self.links("-T", "image.ld", *self.objects(), "-o", "own").stderr)
+
+    def test_quotes(self) -> None:
+        """A text in quotes is a name, whatever is in it."""
+        for own in ('*(EXCLUDE_FILE ("*/one/*" "*/libnone.*.a:" "*/two/*") .data)',
+                    '*(EXCLUDE_FILE ("*/one/*") .data)\n*(EXCLUDE_FILE ("*/other/*" "*/none/*") .data.*)',
+                    '"lib/*/t*"(.data)', '"lib/*"(.data) /* a ( comment */ *(.data.more)'):
+            with self.subTest(own):
+                self.same(f".one : {{ {own} }} .two (.) : {{ KEEP(*(.data)); {MANY} }}")
+
+    def test_patterns(self) -> None:
+        """A pattern of many signs, in which `/*` begins no comment."""
+        for own in ("lib/*/two.o(.data)", "lib/*(.data) lib/*/*(.data.more)",
+                    "*(EXCLUDE_FILE(*/one/* */two/*) .data)/* comment */"):
+            with self.subTest(own):
+                self.same(f".one : {{ {own} {MANY} }} .two (.) : {{ *(.data) }}")
