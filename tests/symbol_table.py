@@ -5,7 +5,7 @@ import struct
 from itertools import zip_longest
 from typing import NamedTuple
 
-SYMTAB, RELA, ALLOC = 2, 4, 2
+SYMTAB, RELA = 2, 4
 RESERVED = {0: "UND", 0xFFF1: "ABS", 0xFFF2: "COM"}
 """Numbers of sections that are none."""
 BINDINGS = {0: "LOCAL", 1: "GLOBAL", 2: "WEAK", 10: "UNIQUE"}
@@ -70,12 +70,12 @@ class Relocation(NamedTuple):
 
 
 def read_relocations(data: bytes) -> dict[str, list[Relocation]]:
-    """The relocations of what an image loads, by their sections, which are named as `.rela.text of .text`."""
+    """The relocations of an image, by their sections, which are named as `.rela.text of .text`."""
     file, table = _File(data), read_table(data)
     entries = [] if table is None else table.entries
     found = {}
     for number, (_, kind, _, _, offset, size, _, info, *_) in enumerate(file.rows):
-        if kind == RELA and file.rows[info][2] & ALLOC:
+        if kind == RELA:
             rows = [(at, word & 0xFFFFFFFF, word >> 32, addend)
                     for at, word, addend in struct.iter_unpack("<QQq", data[offset:offset + size])]
             found[f"{file.names[number]} of {file.names[info]}"] = [

@@ -1,4 +1,4 @@
-"""`--emit-relocs`: relocations of what is loaded, each table beside GNU ld's of the same words."""
+"""`--emit-relocs`: the relocations of all sections, each table beside GNU ld's of the same words."""
 from __future__ import annotations
 
 from tests.symbol_table import Relocation, read_relocations, read_table
@@ -59,6 +59,29 @@ class RelocationTest(SymbolTest):
                             ".section .note.GNU-stack\n")
         for words in ((), ("-x",)):
             self.same_relocations("-e", "start", *words, "-T", "t.ld", name)
+
+    def test_discarded(self) -> None:
+        """References to what `--gc-sections` leaves out are of no type, and bring no name into the table of symbols."""
+        self.write("t.ld", "ENTRY(start) SECTIONS { . = 0x1000; .text : { *(.text*) } .data : { *(.data*) } }")
+        one = self.compile("a.s", ".globl start, used, unused\n.weak nowhere\n.section .text.start,\"ax\"\n"
+                           "start: call used\n.section .text.used,\"ax\"\nused: ret\n.section .text.unused,\"ax\"\n"
+                           "unused: call other\nlocal: ret\n.section .debug_one\n"
+                           ".quad unused, used, local, nowhere, other, .text.unused\n.section .note.GNU-stack\n")
+        other = self.compile("b.s", '.globl other\n.section .text.other,"ax"\nother: call unused\n'
+                             ".section .debug_one\n.quad other, unused, used\n.section .note.GNU-stack\n")
+        for words in ((), ("--gc-sections",), ("--gc-sections", "-x"), ("--gc-sections", "-S")):
+            with self.subTest(words):
+                self.same_relocations(*words, "-T", "t.ld", one, other)
+
+    def test_debug_information(self) -> None:
+        """Strings of debug information are merged; the reference is to the section that has them all."""
+        self.write("t.ld", WITHOUT_ALIAS)
+        flags = "-fcommon", "-g"
+        for words in ((), ("--gc-sections",), ("-O0",)):
+            with self.subTest(words):
+                found = self.same_relocations(*words, "-T", "t.ld", self.compile("a.c", FIRST, *flags),
+                                              self.compile("b.c", SECOND, *flags))
+                self.assertIn(".rela.debug_info of .debug_info", found)
 
     def test_bounds_that_go(self) -> None:
         """`__start_NAME` that GNU ld takes back, as no output section NAME has the sections: its visibility stays."""

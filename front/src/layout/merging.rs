@@ -126,15 +126,15 @@ impl Link<'_> {
         (loaded, beside)
     }
 
-    /// Whether a section that is not loaded is merged here: where something goes by its size, or it may have names, as
-    /// none of debug information and of `.comment` has.
+    /// Whether a section that is not loaded is merged here: where something goes by its size, relocations are written,
+    /// or it may have names, as none of debug information and of `.comment` has.
     fn is_merged_beside(&self, section: &InputSection, followed: &mut QuickMap<OutputId, bool>) -> bool {
         let output = match section.output() {
             None => return false,
             Some(output) => output,
         };
         let is_plain = section.flags.has(Flags::DEBUGGING) || self.program.names.get(section.name) == ".comment";
-        !is_plain || *followed.entry(output).or_insert_with(|| self.is_followed(output))
+        !is_plain || self.settings.keeps_empty || *followed.entry(output).or_insert_with(|| self.is_followed(output))
     }
 
     /// A section that is merged, and with which others: one that is in the image.

@@ -7,14 +7,14 @@ use crate::objects::{once_of, Home, Object, ObjectIndex, OnceKey, SectionIndex, 
 use bstr::BString;
 
 /// The groups of a link that are kept.
-pub(super) struct Kept<'a> {
+pub(crate) struct Kept<'a> {
     objects: &'a [Object],
     groups: HashMap<BString, (ObjectIndex, Vec<SectionIndex>)>,
 }
 
 impl<'a> Kept<'a> {
     /// Those of some objects.
-    pub(super) fn of(objects: &'a [Object]) -> Kept<'a> {
+    pub(crate) fn of(objects: &'a [Object]) -> Kept<'a> {
         let mut groups = HashMap::new();
         for (number, object) in objects.iter().enumerate().filter(|(_, object)| object.has_groups()) {
             for once in once_of(object.elf()) {
@@ -27,7 +27,7 @@ impl<'a> Kept<'a> {
     }
 
     /// The section that is kept in place of one of an object; `None` where there is none of its name and size.
-    pub(super) fn in_place_of(&self, object: ObjectIndex, number: SectionIndex) -> Option<(ObjectIndex, SectionIndex)> {
+    pub(crate) fn in_place_of(&self, object: ObjectIndex, number: SectionIndex) -> Option<(ObjectIndex, SectionIndex)> {
         let dropped = self.objects.get(object.0 as usize)?;
         let section = dropped.section(number)?;
         let (other, members) = self.groups.get(&signature_of(dropped, number)?)?;

@@ -29,7 +29,7 @@ use crate::objects::{Binding, LinkNames, Object, Relocation};
 use crate::report::link_map::LinkMap;
 use arrange::{Arrangement, Piece};
 use image::Answered;
-use kept::Kept;
+pub(crate) use kept::Kept;
 use places::Places;
 pub use relocate::Fault;
 use targets::{Target, Targets};

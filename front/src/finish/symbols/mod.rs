@@ -47,7 +47,7 @@ pub struct SymbolOptions {
     pub is_unique: bool,
     /// The visibility of `__start_NAME` and `__stop_NAME` (`-z start-stop-visibility`).
     pub of_bounds: Visibility,
-    /// `--emit-relocs`: the file has the relocations of what is loaded.
+    /// `--emit-relocs`: the file has the relocations of its sections.
     pub emits_relocations: bool,
 }
 

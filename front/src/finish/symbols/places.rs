@@ -4,6 +4,7 @@ use std::collections::HashMap;
 use std::sync::Arc;
 
 use bstr::{BStr, ByteSlice};
+use object::elf;
 
 use super::names::is_own_object;
 use super::outputs::Outputs;
@@ -124,6 +125,8 @@ impl Places {
         evaluation.output(id)?.in_image()?;
         let output = outputs.get(id)?;
         let is_merged = section.flags.has(Flags::MERGE);
+        // Compressed strings are merged where they are written.
+        self.has_lost |= is_merged && section.bits & u64::from(elf::SHF_COMPRESSED) != 0;
         let address = output.address.wrapping_add(section.offset);
         *self.slot(section.object.0 as usize, number)? = Some(Place {
             output: output.number,

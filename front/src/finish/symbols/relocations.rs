@@ -1,14 +1,16 @@
-//! `--emit-relocs`: the relocations of what is loaded, with the numbers of the file's symbols (elflink.c,
+//! `--emit-relocs`: the relocations of the sections of the file, with the numbers of the file's symbols (elflink.c,
 //! `elf_link_input_bfd`, `elf_link_adjust_relocs`).
 
-use super::names::is_own_object;
+use super::names::{is_own_object, LinkedName};
 use super::numbers::Numbers;
 use super::places::{Place, Places};
 use super::Symbols;
+use crate::layout::evaluation::{Definer, Fate};
 use crate::layout::ids::{OutputId, SectionId};
 use crate::layout::Flags;
-use crate::objects::{Binding, Home, Object, Relocation, SectionIndex, Symbol, SymbolIndex, SymbolKind};
+use crate::objects::{Binding, Home, Object, ObjectIndex, Relocation, SectionIndex, Symbol, SymbolIndex, SymbolKind};
 use crate::parallel::{do_all, map_all};
+use crate::unloaded::Kept;
 
 /// The bytes of an entry.
 const ENTRY: usize = 24;
@@ -55,7 +57,8 @@ impl Referred {
         self.0.get(number).map_or(&[], Vec::as_slice)
     }
 
-    /// By name: whether a symbol of it is among them.
+    /// By name: whether a symbol of it is among them. What is defined in a section that is left out is not: GNU ld
+    /// makes such a relocation R_X86_64_NONE (elf-bfd.h, `RELOC_AGAINST_DISCARDED_SECTION`).
     pub(super) fn names(&self, symbols: &Symbols<'_>) -> Vec<bool> {
         let mut used = vec![false; symbols.names.iter().count()];
         let objects = symbols.objects.iter().zip(&self.0).enumerate();
@@ -65,8 +68,23 @@ impl Referred {
                 name.and_then(|name| used.get_mut(name)).into_iter().for_each(|used| *used = true);
             }
         }
+        for (used, one) in used.iter_mut().zip(symbols.names.iter()).filter(|(used, _)| **used) {
+            *used = !is_discarded(one, symbols);
+        }
         used
     }
+}
+
+/// Whether the definition of a name is in a section that is left out.
+fn is_discarded(one: &LinkedName, symbols: &Symbols<'_>) -> bool {
+    let evaluation = symbols.evaluation;
+    let section = one.defined_by.and_then(|(number, index)| match symbols.objects.get(number)?.symbol(index)?.home {
+        Home::Section(section) => evaluation.section(evaluation.section_of(ObjectIndex(number as u32), section)?),
+        _ => None,
+    });
+    let is_out = section.map_or(false, |one| one.fate == Fate::Discarded || one.flags.has(Flags::EXCLUDE));
+    let known = if is_out && one.is_named { evaluation.symbol(&one.name) } else { None };
+    is_out && !known.map_or(false, |known| matches!(known.definer, Definer::Script(_) | Definer::Linker))
 }
 
 /// An input section with relocations that are in the file.
@@ -75,12 +93,15 @@ struct Input {
     section: SectionIndex,
     place: Place,
     count: usize,
+    /// Whether it is one of debug information.
+    is_debugging: bool,
 }
 
 /// The tables of all output sections that have relocations.
 pub(super) fn tables(symbols: &Symbols<'_>, places: &Places, numbers: &Numbers<'_>) -> Vec<RelocationTable> {
     let objects: Vec<(usize, &Object)> = symbols.objects.iter().enumerate().collect();
-    let targets = map_all(&objects, &|(number, object)| targets_of(*number, object, places, numbers));
+    let kept = Kept::of(symbols.objects);
+    let targets = map_all(&objects, &|(number, object)| targets_of(*number, object, (places, &kept), numbers));
     let ids: Vec<OutputId> = symbols.evaluation.order.clone();
     let inputs: Vec<Vec<Input>> = ids.iter().map(|id| inputs_of(*id, symbols, places)).collect();
     let table = |inputs: &Vec<Input>| {
@@ -112,7 +133,7 @@ pub(super) fn tables(symbols: &Symbols<'_>, places: &Places, numbers: &Numbers<'
     tables
 }
 
-/// The input sections of an output section that are loaded.
+/// The input sections of an output section.
 fn inputs_of(id: OutputId, symbols: &Symbols<'_>, places: &Places) -> Vec<Input> {
     let place = symbols.evaluation.output(id).and_then(|output| output.in_image());
     let inputs = place.map_or(&[][..], |place| place.inputs.as_slice());
@@ -120,9 +141,10 @@ fn inputs_of(id: OutputId, symbols: &Symbols<'_>, places: &Places) -> Vec<Input>
         let section = symbols.evaluation.section(*id)?;
         let (object, number) = (section.object.0 as usize, section.number()?);
         let is_left_out = section.flags.has(Flags::EXCLUDE | Flags::CREATED);
-        let place = places.get(object, number).filter(|place| place.is_loaded && !is_left_out)?;
+        let place = places.get(object, number).filter(|_| !is_left_out)?;
         let count = symbols.objects.get(object)?.relocation_count(number);
-        Some(Input { object, section: number, place, count })
+        let is_debugging = section.flags.has(Flags::DEBUGGING);
+        Some(Input { object, section: number, place, count, is_debugging })
     };
     inputs.iter().filter_map(input).collect()
 }
@@ -146,6 +168,9 @@ impl RelocationTable {
 enum Target {
     /// What is not in the image.
     Discarded,
+    /// What is not in the image, and to debug information is that of a group that is kept (elflink.c,
+    /// `_bfd_elf_default_action_discarded`): the symbol of an output section, and how far it is from its start.
+    Kept(u32, u64),
     /// The symbol of an output section, by the number of that symbol, and how far the input section is from its start.
     Section(u32, u64),
     /// What the addend says of a section of merged constants.
@@ -155,12 +180,27 @@ enum Target {
 }
 
 /// What the symbols of an object stand for, by their numbers (elflink.c, `_bfd_elf_rela_local_sym`).
-fn targets_of(number: usize, object: &Object, places: &Places, numbers: &Numbers<'_>) -> Vec<Target> {
+fn targets_of(
+    number: usize,
+    object: &Object,
+    (places, kept): (&Places, &Kept<'_>),
+    numbers: &Numbers<'_>,
+) -> Vec<Target> {
+    let instead = |section: SectionIndex| {
+        let (other, kept) = kept.in_place_of(ObjectIndex(number as u32), section)?;
+        match to_section(&places.get(other.0 as usize, kept)?, 0, numbers) {
+            Target::Section(symbol, within) => Some(Target::Kept(symbol, within)),
+            _ => None,
+        }
+    };
     let target = |symbol: Symbol<'_>| {
         let section = match (symbol.binding, symbol.home) {
             (Binding::Local, Home::Section(section)) => section,
             (Binding::Local, _) => return Target::Symbol(numbers.of_local(number, symbol.index)),
-            _ => return Target::Symbol(numbers.of_name(number, symbol.index)),
+            _ => match numbers.of_name(number, symbol.index) {
+                0 => return Target::Discarded,
+                name => return Target::Symbol(name),
+            },
         };
         if symbol.kind != SymbolKind::SECTION {
             let place = places.get_at(number, section, symbol.value);
@@ -169,7 +209,10 @@ fn targets_of(number: usize, object: &Object, places: &Places, numbers: &Numbers
         if places.is_merged(number, section) {
             return Target::Merged(section);
         }
-        places.get(number, section).map_or(Target::Discarded, |place| to_section(&place, 0, numbers))
+        match places.get(number, section) {
+            Some(place) => to_section(&place, 0, numbers),
+            None => instead(section).unwrap_or(Target::Discarded),
+        }
     };
     object.nameless_symbols().map(target).collect()
 }
@@ -199,7 +242,8 @@ fn row_of(
     };
     let row = |symbol: u32, addend: u64| [offset, u64::from(symbol) << 32 | u64::from(one.kind), addend];
     match target {
-        Target::Discarded | Target::Merged(_) => [offset, 0, 0],
+        Target::Kept(symbol, within) if input.is_debugging => row(symbol, within.wrapping_add(addend)),
+        Target::Discarded | Target::Merged(_) | Target::Kept(..) => [offset, 0, 0],
         Target::Section(symbol, within) => row(symbol, within.wrapping_add(addend)),
         Target::Symbol(symbol) => row(symbol, addend),
     }
