@@ -288,6 +288,17 @@ class ProgramHeaderTest(LinkTest):
         self.assertEqual(self._bytes("image")[".later"], self._bytes("gnu")[".later"])
         self.assertEqual(self._headers("image")[1][4], self._headers("image")[1][5])
 
+    @needs("ld.bfd")
+    def test_noload(self) -> None:
+        """NOLOAD is in no segment without a name, not in that of the section before it."""
+        script = """PHDRS { load PT_LOAD; } SECTIONS { . = 0x400000; .text : { *(.text*) *(.rodata*) } :load
+            . = 0x10000; .stack (NOLOAD) : { . += 0x1000; } . = 0x500000; .data : { *(.data* .later) } .bss : { *(.bss*) }
+            . = 0x600000; .named (NOLOAD) : { . += 16; } :load /DISCARD/ : { *(*) } }"""
+        for words in ((), ("-n",)):
+            said = self._links_both(script, "-e", "0", *words)
+            self.assertEqual(self._headers("image"), self._headers("gnu"), words)
+            self.assertNotIn("segments follow", said)
+
     def _plain(self) -> bytes:
         """The image of the script without PHDRS."""
         script = re.sub(r"PHDRS \{.*?\}", "", SEGMENTS, flags=re.DOTALL).replace("SIZEOF_HEADERS", hex(64 + 8 * 56))

@@ -18,7 +18,7 @@ pub struct Differs {
 }
 
 /// Tests each section that takes memory, but for those that are said to be in no segment.
-pub(super) fn check(file: &FileImage, segments: &[Segment], outside: &[&BString]) -> Result<(), FinishError> {
+pub(super) fn check(file: &FileImage, segments: &[Segment], outside: &[BString]) -> Result<(), FinishError> {
     let image = Image::read(file.image())?;
     for section in image.sections.iter().filter(|one| one.is_allocated() && one.size != 0) {
         let name = image.name(section)?;

@@ -157,9 +157,9 @@ pub fn finish_again(
         return Ok(Finished { file: FileImage::whole(flat), notes: Vec::new() });
     }
     rights::write(&mut image, &form.rights)?;
-    let mut notes = Vec::new();
+    let (mut notes, mut outside) = (Vec::new(), Vec::new());
     let mut plan = match (&form.segments, &form.headers) {
-        (Some(segments), _) => with_segments(&image, form, segments, &mut notes)?,
+        (Some(segments), _) => with_segments(&image, form, segments, (&mut notes, &mut outside))?,
         (None, Some(headers)) => with_headers(&image, form, headers)?,
         (None, None) => pages::with_pages(&image, form.page, false)?,
     };
@@ -171,13 +171,6 @@ pub fn finish_again(
         None => return Ok(Finished { file: FileImage::whole(image), notes }),
         Some(plan) => (plan.segments.clone(), plan.file(image)),
     };
-    let outside: Vec<&BString> = notes
-        .iter()
-        .filter_map(|note| match note {
-            FinishNote::Outside(name) => Some(name),
-            FinishNote::NotWritten(_) => None,
-        })
-        .collect();
     loaded::check(&file, &segments, &outside)?;
     Ok(Finished { file, notes })
 }
@@ -226,17 +219,21 @@ fn put_symbols(
     Ok(sections)
 }
 
-/// The file with the program headers of PHDRS, else with those of `ldi`, and a note of why.
+/// The file with the program headers of PHDRS, else with those of `ldi`, and a note of why; and the sections that are in
+/// no segment, of which nothing is said where what is in them is never loaded (NOLOAD).
 fn with_segments(
     image: &[u8],
     form: &Form,
     segments: &[WantedSegment],
-    notes: &mut Vec<FinishNote>,
+    (notes, outside): (&mut Vec<FinishNote>, &mut Vec<BString>),
 ) -> Result<Option<file_image::FilePlan>, FinishError> {
     let problem = form.segments_problem.clone().map(NotWritten::Unknown);
     match problem.map_or_else(|| program_headers::write(image, segments, form.page), Err) {
         Ok(plan) => {
-            notes.extend(program_headers::outside(image, segments)?.into_iter().map(FinishNote::Outside));
+            for (name, place) in program_headers::outside(image, segments)? {
+                notes.extend((!form.left_out.contains(&place)).then(|| FinishNote::Outside(name.clone())));
+                outside.push(name);
+            }
             Ok(Some(plan))
         }
         Err(NotWritten::NotAnImage(fault)) => Err(fault.into()),

@@ -165,12 +165,16 @@ pub(super) fn write(data: &[u8], wanted: &[WantedSegment], page: u64) -> Result<
     Ok(writer.plan(&image, end))
 }
 
+/// A section: its name, its address and its size.
+type NamedPlace = (BString, (u64, u64));
+
 /// The sections that are not empty and that PHDRS have in no segment.
-pub(super) fn outside(data: &[u8], wanted: &[WantedSegment]) -> Result<Vec<BString>, NotAnImage> {
+pub(super) fn outside(data: &[u8], wanted: &[WantedSegment]) -> Result<Vec<NamedPlace>, NotAnImage> {
     let image = Image::read(data)?;
     let is_inside = |part: &Part<'_>| wanted.iter().any(|one| one.sections.iter().any(|name| name == part.name));
     let parts = parts_of(&image)?;
-    Ok(parts.iter().filter(|part| part.header.size != 0 && !is_inside(part)).map(|part| part.name.to_owned()).collect())
+    let found = parts.iter().filter(|part| part.header.size != 0 && !is_inside(part));
+    Ok(found.map(|part| (part.name.to_owned(), (part.header.address, part.header.size))).collect())
 }
 
 fn parts_of<'a>(image: &Image<'a>) -> Result<Vec<Part<'a>>, NotAnImage> {

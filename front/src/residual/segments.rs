@@ -6,7 +6,7 @@ use object::elf;
 use super::items::sections;
 use super::walk::{At, Walk};
 use crate::finish::WantedSegment;
-use crate::script::tree::{Expr, ExprKind, Name, ProgramHeader, Spanned, Statement};
+use crate::script::tree::{Expr, ExprKind, Name, ProgramHeader, SectionType, Spanned, Statement};
 
 /// The name of no segment.
 const NONE: &[u8] = b"NONE";
@@ -35,8 +35,16 @@ pub(super) fn write(walk: &mut Walk<'_>) {
     }
 }
 
-/// An output section: its name in the image, where it is in it, and its `:NAME`s.
-type Member<'a> = (Option<Name>, Vec<&'a Name>);
+/// An output section.
+struct Member<'a> {
+    /// Its name in the image, where it is in it.
+    name: Option<Name>,
+    /// Its `:NAME`s.
+    segments: Vec<&'a Name>,
+    /// Whether it is in no segment without a name, not in that of the section before it (ldlang.c,
+    /// `lang_record_phdrs`).
+    is_unloaded: bool,
+}
 
 fn wanted(walk: &Walk<'_>, headers: &[&Spanned<ProgramHeader>]) -> Result<Vec<WantedSegment>, String> {
     let members = members(walk);
@@ -59,39 +67,44 @@ fn members<'a>(walk: &'a Walk<'_>) -> Vec<Member<'a>> {
             continue;
         }
         let name = walk.emitted.get(&span.start).cloned();
-        found.push((span.start, (name, section.segments.iter().map(|segment| &segment.node).collect())));
+        let segments = section.segments.iter().map(|segment| &segment.node).collect();
+        let kind = section.kind.as_ref().map(|kind| &kind.node);
+        let is_unloaded = matches!(kind, Some(SectionType::NoLoad | SectionType::NotAllocated(_)));
+        found.push((span.start, Member { name, segments, is_unloaded }));
     }
-    let orphans = walk.orphans.written();
-    found.extend(orphans.map(|(at, name, segments)| (at, (Some(name.clone()), segments.iter().collect()))));
+    let orphans = walk.orphans.written().map(|(at, name, segments)| {
+        (at, Member { name: Some(name.clone()), segments: segments.iter().collect(), is_unloaded: false })
+    });
+    found.extend(orphans);
     found.sort_by_key(|(at, _)| *at);
     found.into_iter().map(|(_, member)| member).collect()
 }
 
 /// What GNU ld refuses of names.
 fn check_names(headers: &[&Spanned<ProgramHeader>], members: &[Member<'_>]) -> Result<(), String> {
-    for (section, names) in members {
-        for name in names {
+    for member in members {
+        for name in &member.segments {
             let is_known = name.as_bytes() == NONE || headers.iter().any(|header| header.node.name.node == **name);
-            if let (Some(section), false) = (section, is_known) {
+            if let (Some(section), false) = (&member.name, is_known) {
                 return Err(format!("{section} is assigned to {name}, which PHDRS does not have"));
             }
         }
     }
-    match members.iter().any(|(_, names)| !names.is_empty()) {
+    match members.iter().any(|member| !member.segments.is_empty()) {
         true => Ok(()),
         false => Err("no section names a segment of PHDRS".into()),
     }
 }
 
-/// The sections of a program header. A section without `:NAME` is in the segments of the one before it. For those
-/// before the first `:NAME` GNU ld takes that one.
+/// The sections of a program header. A section without `:NAME` is in the segments of the one before it, but for those
+/// of NOLOAD. For those before the first `:NAME` GNU ld takes that one.
 fn inside(segment: &WantedSegment, members: &[Member<'_>]) -> Vec<Name> {
     let first: Vec<&Name> =
-        members.iter().find(|(_, names)| !names.is_empty()).map_or_else(Vec::new, |(_, names)| names.clone());
+        members.iter().find(|one| !one.segments.is_empty()).map_or_else(Vec::new, |one| one.segments.clone());
     let mut last = first;
     let mut found = Vec::new();
-    for (name, own) in members {
-        if own.is_empty() && segment.kind == elf::PT_INTERP {
+    for Member { name, segments: own, is_unloaded } in members {
+        if own.is_empty() && (segment.kind == elf::PT_INTERP || *is_unloaded) {
             continue;
         }
         if !own.is_empty() {
