@@ -39,6 +39,38 @@ extern "C" int NAME(int x) { Box<int> box(x); Box<long> wide(x); return box.more
 """
 
 
+STABS = """ .globl NAME
+ .stabs "NAME.c",100,0,0,.Ltext
+ .text
+.Ltext: .stabs "int:t(0,1)=r(0,1);0;127;",128,0,0,0
+ .stabs "shared.h",130,0,0,0
+ .stabs "point:T(FILE,1)=s8x:(0,1),0,32;;",128,0,0,0
+ .stabs "inner.h",130,0,0,0
+ .stabs "deep:t(2,1)=(0,1)",128,0,0,0
+ .stabn 162,0,0,0
+ .stabn 162,0,0,0
+ .stabs "own.h",130,0,0,0
+ .stabs "NAME_count:t(0,4)=(0,1)",128,0,0,0
+ .stabn 162,0,0,0
+ .stabs "NAME:F(0,1)",36,0,3,NAME
+NAME: call CALLED
+ .stabn 68,0,3,.Lreturn-NAME
+.Lreturn: ret
+.Lend: .stabs "",36,0,0,.Lend-NAME
+ .section .text.gone,"ax"
+ .stabs "gone:f(0,1)",36,0,7,gone
+gone: ret
+ .stabn 68,0,3,.Lgone-gone
+.Lgone: .stabs "",36,0,0,.Lgone-gone
+ .stabs "lost:S(0,1)",38,0,0,lost
+ .stabs "kept:S(0,1)",38,0,0,kept
+ .section .data.lost,"aw"
+lost: .long 4
+ .data
+kept: .quad NAME
+"""
+
+
 class Header(NamedTuple):
     """A section that is not loaded."""
 
@@ -148,6 +180,26 @@ class UnloadedTest(OutsideTest):
             self.must("clang", "-O1", "-g", "-ffreestanding", "-fno-pic", "-fno-asynchronous-unwind-tables", "-c",
                       f"{name}.c")
         self.same("-T", "t.ld", "main.o", "other.o")
+
+    def test_stabs(self) -> None:
+        """Stabs: one table of names, headers once, nothing of code that is not in the image."""
+        objects = []
+        for number, (name, called) in enumerate((("first", "second"), ("second", "first"), ("third", "first"))):
+            text = STABS.replace("CALLED", called).replace("NAME", name).replace("FILE", str(number + 1))
+            objects.append(self.compile(f"{name}.s", text.replace("x:(0", "y:(0") if name == "third" else text))
+        placed = ".stab 0 : { *(.stab) } .stabstr 0 : { *(.stabstr) } .debug_all 0"
+        self.write("stabs.ld", PLACED.replace(".debug_all 0", placed))
+        plain = self.compile("plain.s", " .data\n .long 1\n")
+        for words in ([], ["--gc-sections"], ["-T", "t.ld"], ["-T", "stabs.ld", "--gc-sections"]):
+            found = self.same("-e", "first", *words, plain, *objects)
+            self.assertEqual([one.name for one in found if one.name.startswith(".stab")], [".stab", ".stabstr"])
+            rows = self.must("objdump", "-G", "own")
+            self.assertIn("EXCL", rows)
+            self.assertEqual("gone:f(0,1)" in rows, "--gc-sections" not in words)
+        self.same("-S", *objects[:2], "-e", "first")
+        self.write("data.ld", PLACED.replace(".debug_all 0", ".stab 0 (INFO) : { *(.stab) BYTE(0) } .debug_all 0"))
+        done = self.links("-T", "data.ld", *objects, "-e", "first", "-o", "own")
+        self.assertIn(".stab: stabs beside data of the script: linked by ld.bfd", done.stderr)
 
     def test_strip(self) -> None:
         """`-S` and `-s` leave debug information out."""

@@ -157,7 +157,7 @@ impl FilePlan {
     fn renumber(&mut self, moved: &dyn Fn(usize) -> usize) {
         self.names_in = moved(self.names_in);
         self.contents = std::mem::take(&mut self.contents).into_iter().map(|(at, bytes)| (moved(at), bytes)).collect();
-        for section in self.sections.iter_mut().filter(|section| section.kind == elf::SHT_SYMTAB) {
+        for section in self.sections.iter_mut().filter(|section| section.link > 0 && !section.is_allocated()) {
             section.link = moved(section.link as usize) as u32;
         }
     }

@@ -8,7 +8,7 @@ use super::matching::{matches_of, Match};
 use super::names::{Names, QuickMap};
 use super::program::Taking;
 use super::settings::Settings;
-use crate::objects::{Object, ObjectIndex, Section, SectionIndex};
+use crate::objects::{Object, ObjectIndex, Section, SectionIndex, SectionKind};
 use bstr::ByteSlice;
 use object::elf;
 
@@ -171,9 +171,11 @@ impl Rows {
     }
 }
 
-/// The sections of an object that are linked.
+/// The sections of an object that are linked; the names of stabs are in a table that is none of the file's own (elf.c,
+/// `bfd_section_from_shdr`).
 fn linked(object: &Object) -> impl Iterator<Item = Section<'_>> + '_ {
-    object.sections().filter(|section| section.kind.is_linked())
+    let has_names_of_stabs = |section: &Section<'_>| section.kind == SectionKind::STRTAB && section.name == ".stabstr";
+    object.sections().filter(move |section| section.kind.is_linked() || has_names_of_stabs(section))
 }
 
 pub(crate) fn of_object(number: ObjectIndex, object: &Object, section: &Section<'_>, name: NameId) -> InputSection {

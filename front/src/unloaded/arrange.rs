@@ -5,6 +5,7 @@ use std::borrow::Cow;
 use object::elf;
 
 use super::compressed::inflated;
+use super::stabs::{self, Row, Stabs};
 use super::strings::Strings;
 use super::NotMade;
 use crate::layout::evaluation::{Evaluation, Gap, InputSection, OutputSection, Placed, StatementKind};
@@ -34,6 +35,15 @@ pub(super) struct Piece<'a> {
     pub(super) bytes: Cow<'a, [u8]>,
     /// The input section, whose relocations apply.
     pub(super) section: Option<SectionId>,
+    /// Of stabs: the rows that stay of the bytes.
+    pub(super) rows: Option<Vec<Row>>,
+}
+
+impl Piece<'_> {
+    /// Its bytes in the file.
+    pub(super) fn size(&self) -> usize {
+        self.rows.as_ref().map_or(self.bytes.len(), |rows| stabs::size(rows))
+    }
 }
 
 /// Where an input section is.
@@ -52,6 +62,8 @@ pub(super) struct Arrangement<'a> {
     spots: QuickMap<usize, Spot>,
     /// Strings that were merged together, and the sections that have them.
     strings: Vec<(Strings, Vec<SectionId>)>,
+    /// What stabs come to.
+    stabs: QuickMap<SectionId, Stabs>,
 }
 
 impl<'a> Arrangement<'a> {
@@ -63,8 +75,14 @@ impl<'a> Arrangement<'a> {
         strips_debugging: bool,
     ) -> Result<Arrangement<'a>, NotMade> {
         let mut arrangement = Arrangement::default();
-        for (output, place) in evaluation.in_image().filter(|(_, place)| !place.is_allocated()) {
-            let one = Making { evaluation, objects, strips_debugging, output, place };
+        let makings: Vec<Making<'a>> = evaluation
+            .in_image()
+            .filter(|(_, place)| !place.is_allocated())
+            .map(|(output, place)| Making { evaluation, objects, strips_debugging, output, place })
+            .collect();
+        let taken: Vec<SectionId> = makings.iter().flat_map(Making::taken).collect();
+        arrangement.stabs = stabs::merged(evaluation, objects, &taken);
+        for one in makings {
             if let Some(arranged) = one.arranged(&mut arrangement)? {
                 arrangement.outputs.push(arranged);
             }
@@ -122,6 +140,9 @@ impl<'a> Making<'a> {
         if has_more || place.kind == elf::SHT_NOBITS {
             if taken.iter().any(|id| self.section(*id).map_or(false, is_compressed)) {
                 return Err(NotMade::Compressed(output.name.clone()));
+            }
+            if taken.iter().any(|id| into.stabs.contains_key(id)) {
+                return Err(NotMade::Stabs(output.name.clone()));
             }
             self.keep_places(into, &taken, &mut arranged);
         } else {
@@ -215,7 +236,7 @@ impl<'a> Making<'a> {
         for id in taken {
             if let Some(section) = self.section(*id) {
                 let content = self.content(section)?;
-                let is_merged = self.is_merged(section, &content);
+                let is_merged = self.is_merged(section, &content) && !into.stabs.contains_key(id);
                 contents.push((*id, content, is_merged));
             }
         }
@@ -231,15 +252,23 @@ impl<'a> Making<'a> {
         let mut at = 0u64;
         for (id, content, _) in contents {
             let part = parts.get(&id).copied();
-            let Content { bytes, align } = match part.and_then(|part| strings.kept.get(part)) {
-                Some(kept) => Content { bytes: Cow::Owned(kept.clone()), align: 1 },
-                None => content,
+            let mut rows = None;
+            let Content { bytes, align } = match (part.and_then(|part| strings.kept.get(part)), into.stabs.get(&id)) {
+                (Some(kept), _) => Content { bytes: Cow::Owned(kept.clone()), align: 1 },
+                (None, Some(Stabs::Names(names))) => Content { bytes: Cow::Owned(names.clone()), align: 1 },
+                (None, Some(Stabs::Gone)) => continue,
+                (None, Some(Stabs::Rows(kept))) => {
+                    rows = Some(kept.clone());
+                    content
+                }
+                (None, None) => content,
             };
             at = at.checked_add(at.wrapping_neg() & (align - 1)).ok_or(NotMade::TooLarge)?;
             let address = self.place.address.wrapping_add(at);
             into.spots.insert(id.index(), Spot { address, strings: part.map(|part| (together, part)) });
-            let next = at.checked_add(bytes.len() as u64).ok_or(NotMade::TooLarge)?;
-            arranged.pieces.push(Piece { at, bytes, section: Some(id) });
+            let piece = Piece { at, bytes, section: Some(id), rows };
+            let next = at.checked_add(piece.size() as u64).ok_or(NotMade::TooLarge)?;
+            arranged.pieces.push(piece);
             at = next;
         }
         let mut sections: Vec<(usize, SectionId)> = parts.into_iter().map(|(id, part)| (part, id)).collect();
@@ -257,7 +286,7 @@ impl<'a> Making<'a> {
                 let address = self.place.address.wrapping_add(section.offset);
                 into.spots.insert(id.index(), Spot { address, strings: None });
                 let bytes = Cow::Borrowed(self.bytes(section));
-                arranged.pieces.push(Piece { at: section.offset, bytes, section: Some(*id) });
+                arranged.pieces.push(Piece { at: section.offset, bytes, section: Some(*id), rows: None });
             }
         }
         for statement in self.output.body.iter().filter_map(|id| self.evaluation.statement(*id)) {
@@ -265,7 +294,7 @@ impl<'a> Making<'a> {
                 StatementKind::Data { offset, size, value } => {
                     let bytes = value.to_le_bytes();
                     let bytes = bytes.get(..usize::from(*size)).unwrap_or_default().to_vec();
-                    arranged.pieces.push(Piece { at: *offset, bytes: Cow::Owned(bytes), section: None });
+                    arranged.pieces.push(Piece { at: *offset, bytes: Cow::Owned(bytes), section: None, rows: None });
                 }
                 StatementKind::Dot { gap: Some(gap), .. } => arranged.pieces.extend(filled(gap)),
                 StatementKind::Input { gaps, .. } => arranged.pieces.extend(gaps.iter().filter_map(filled)),
@@ -285,5 +314,5 @@ fn filled<'a>(gap: &Gap) -> Option<Piece<'a>> {
     let fill = gap.fill.as_ref().filter(|fill| fill.iter().any(|byte| *byte != 0))?;
     let size = usize::try_from(gap.size).ok()?;
     let bytes: Vec<u8> = fill.iter().copied().cycle().take(size).collect();
-    Some(Piece { at: gap.offset, bytes: Cow::Owned(bytes), section: None })
+    Some(Piece { at: gap.offset, bytes: Cow::Owned(bytes), section: None, rows: None })
 }

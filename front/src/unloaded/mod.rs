@@ -13,6 +13,7 @@ mod image;
 mod kept;
 mod places;
 mod relocate;
+mod stabs;
 mod strings;
 mod targets;
 
@@ -46,6 +47,9 @@ pub enum NotMade {
     /// A section is compressed in another way than by zlib, or stands beside data of the script.
     #[error("{0} is compressed")]
     Compressed(BString),
+    /// Stabs stand beside data of the script.
+    #[error("{0}: stabs beside data of the script")]
+    Stabs(BString),
     /// There are too many bytes.
     #[error("sections that are not loaded are too large")]
     TooLarge,
@@ -78,7 +82,7 @@ impl Spans {
             for piece in &output.pieces {
                 if let Some(id) = piece.section {
                     let address = output.place.address.wrapping_add(piece.at);
-                    spans.sections.insert(id, (address, piece.bytes.len() as u64));
+                    spans.sections.insert(id, (address, piece.size() as u64));
                     let section = evaluation.section(id);
                     let is_merged_away = section.map_or(false, |section| section.flags.has(Flags::EXCLUDE));
                     if is_merged_away || arrangement.is_left_out(id) {
@@ -208,7 +212,7 @@ fn written(arrangement: &Arrangement<'_>, targets: Option<&Targets<'_>>) -> Resu
         let (mut rest, mut end) = (content.as_mut_slice(), 0);
         for piece in &output.pieces {
             let start = usize::try_from(piece.at).map_err(|_| NotMade::TooLarge)?;
-            let size = piece.bytes.len();
+            let size = piece.size();
             if start < end || rest.len() < start - end + size {
                 continue; // what overlaps, as of a section that has no bytes in the file
             }
@@ -260,7 +264,18 @@ fn run(jobs: Vec<Job<'_>>, targets: Option<&Targets<'_>>) -> Result<(), NotMade>
 /// Writes a piece.
 fn write(job: Job<'_>, targets: Option<&Targets<'_>>) -> Result<(), NotMade> {
     let Job { piece, address, bytes } = job;
+    if let Some(rows) = &piece.rows {
+        let mut content = piece.bytes.to_vec();
+        apply(piece, address, &mut content, targets)?;
+        stabs::write(rows, &content, bytes);
+        return Ok(());
+    }
     bytes.copy_from_slice(&piece.bytes);
+    apply(piece, address, bytes, targets)
+}
+
+/// Applies the relocations of a piece.
+fn apply(piece: &Piece<'_>, address: u64, bytes: &mut [u8], targets: Option<&Targets<'_>>) -> Result<(), NotMade> {
     let (id, targets) = match (piece.section, targets) {
         (Some(id), Some(targets)) => (id, targets),
         _ => return Ok(()),
