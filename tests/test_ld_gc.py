@@ -235,6 +235,28 @@ class CollectingTest(BesideGnu):
             .tables : { *(.gcc_except_table*) *(.data*) } /DISCARD/ : { *(*) } }""")
         self.collects("tables.o")
 
+    def test_unwinding_of_many(self) -> None:
+        """Where `.eh_frame` keeps more than a page of functions that GNU ld leaves out, nothing overlaps."""
+        many = "".join(f"int left_out_{number}(int x) {{ return x * {number + 7} + 3; }}\n" for number in range(300))
+        self.compile("many.c", "int data = 3; const int first = 1; int zeros[9]; void _start(void) "
+                     "{ data += first + zeros[data]; }\n" + many, "-fasynchronous-unwind-tables")
+        self.compile("few.c", "int unused(int x) { return x + 1; }", "-fasynchronous-unwind-tables")
+        done = self.links("--gc-sections", "--no-fallback", "many.o", "few.o", "-o", "own")
+        self.assertIn("changed: --gc-sections: .eh_frame of many.o, .eh_frame of few.o: under KEEP", done.stderr)
+        self.assertIn(" left_out_299", self.run_tool("nm", "own"))
+
+    def test_files_without_contents(self) -> None:
+        """An object of which the image has nothing but zeros: GNU ld's table does not have its source file."""
+        flag = "-fno-asynchronous-unwind-tables"
+        self.compile("zeros.c", "char zeros[40]; static char own[8]; char *place(void) { return own; }", flag)
+        self.compile("uses.c", "extern char zeros[]; void _start(void) { zeros[1] = 2; }", flag)
+        self.links("--gc-sections", "--no-fallback", "uses.o", "zeros.o", "-o", "own")
+        self.run_tool("ld.bfd", "--gc-sections", "uses.o", "zeros.o", "-o", "gnu")
+        names = [self.run_tool("nm", "-a", one) for one in ("own", "gnu")]
+        self.assertEqual(*names)
+        self.assertIn("uses.c", names[0])
+        self.assertNotIn("zeros.c", names[0])
+
     def test_report(self) -> None:
         """What GNU ld keeps is in the image, also where no statement takes it; what stays beside it is said."""
         self.write("t.ld", "ENTRY(_start) SECTIONS { . = 0x10000; .text : { *(.text*) } }")

@@ -12,8 +12,9 @@ use super::Symbols;
 use crate::layout::evaluation::{InputSection, OutputSection, StatementKind};
 use crate::layout::ids::SectionId;
 use crate::layout::{Evaluation, Flags, Merges};
-use crate::objects::{Object, ObjectIndex, Section, SectionIndex};
+use crate::objects::{Object, ObjectIndex, Section, SectionFlags, SectionIndex};
 use crate::report::link_map::{LinkMap, Piece};
+use crate::unloaded::Spans;
 
 /// The place of an input section.
 #[derive(Clone, Copy, PartialEq, Eq, Debug)]
@@ -209,8 +210,24 @@ fn found_in<'a>(
     waiting.iter().filter_map(whole).flatten().collect()
 }
 
-/// The objects in the order in which GNU ld copies their sections into the file, each at its first one.
+/// The objects in the order in which GNU ld copies their sections into the file, each at its first one. Strings that are
+/// not loaded are merged, by which a section may be left out; that is looked up where it matters.
 fn order_of(evaluation: &Evaluation, objects: &[Object]) -> Vec<usize> {
+    let (order, has_open) = order_with(evaluation, objects, &|_| false);
+    if !has_open {
+        return order;
+    }
+    let spans = Spans::of(evaluation, objects, false);
+    order_with(evaluation, objects, &|id| spans.is_left_out(id)).0
+}
+
+/// The same where some sections are left out; and whether an object comes by a section of strings first.
+fn order_with(
+    evaluation: &Evaluation,
+    objects: &[Object],
+    is_left_out: &dyn Fn(SectionId) -> bool,
+) -> (Vec<usize>, bool) {
+    let mut has_open = false;
     let mut seen = vec![false; objects.len()];
     let mut order = Vec::with_capacity(objects.len());
     let copied = evaluation
@@ -220,16 +237,22 @@ fn order_of(evaluation: &Evaluation, objects: &[Object]) -> Vec<usize> {
         .flat_map(|output| copied_in(evaluation, output));
     for id in copied {
         let section = match evaluation.section(id) {
-            Some(section) if is_copied(section) => section,
+            Some(section) if is_copied(section) && !is_left_out(id) => section,
             _ => continue,
         };
         let object = stands_for(section.object.0 as usize, objects);
         if let Some(seen) = seen.get_mut(object).filter(|seen| !**seen) {
             *seen = true;
+            has_open |= has_strings_that_are_not_loaded(section);
             order.push(object);
         }
     }
-    order
+    (order, has_open)
+}
+
+fn has_strings_that_are_not_loaded(section: &InputSection) -> bool {
+    let flags = SectionFlags(section.bits);
+    flags.has(SectionFlags::STRINGS) && !flags.has(SectionFlags::ALLOC)
 }
 
 /// The object in which GNU ld makes what is in an object here: that is one before those of this program.
