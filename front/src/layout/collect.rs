@@ -196,7 +196,7 @@ impl<'a> Marked<'a> {
             };
             let unwinding = slot.get_or_insert_with(|| unwinding_of(object));
             let of_code = unwinding.references.get(&number).cloned().unwrap_or_default();
-            if unwinding.section != Some(number) {
+            if unwinding.section != Some(number) || self.settings.keeps_named_by_frames {
                 for relocation in object.relocations(number) {
                     self.mark_symbol(index, object, relocation.symbol);
                 }

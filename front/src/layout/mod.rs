@@ -109,6 +109,16 @@ impl Layout {
         self.rows.renew(&self.program.names, objects, changed)
     }
 
+    /// Sets whether what `.eh_frame` names is kept with it.
+    pub fn set_keeps_named_by_frames(&mut self, keeps: bool) {
+        self.settings.gc.iter_mut().for_each(|gc| gc.keeps_named_by_frames = keeps);
+    }
+
+    /// Whether what `.eh_frame` names is kept with it.
+    pub fn keeps_named_by_frames(&self) -> bool {
+        self.settings.gc.as_ref().map_or(false, |gc| gc.keeps_named_by_frames)
+    }
+
     /// Takes what an evaluation merged, of which the next one uses what is the same.
     pub fn remember(&mut self, merged: &Arc<Merges>) {
         self.merged = Some(Arc::clone(merged));

@@ -140,10 +140,18 @@ pub struct GcSettings {
     pub keeps_exported: bool,
     /// `-z start-stop-gc`: `__start_NAME` keeps nothing.
     pub start_stop_gc: bool,
+    /// What `.eh_frame` names is kept with it, as `ldi` does; GNU ld takes out its entries for code that goes.
+    pub keeps_named_by_frames: bool,
 }
 
 impl Default for GcSettings {
     fn default() -> Self {
-        GcSettings { init: "_init".into(), fini: "_fini".into(), keeps_exported: false, start_stop_gc: false }
+        GcSettings {
+            init: "_init".into(),
+            fini: "_fini".into(),
+            keeps_exported: false,
+            start_stop_gc: false,
+            keeps_named_by_frames: false,
+        }
     }
 }

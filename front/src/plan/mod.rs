@@ -213,14 +213,15 @@ impl LinkPlan {
     /// Lays the script out over the objects.
     pub fn begin(command: &Command, inputs: Inputs) -> Begun {
         let settings = settings_of(command, &inputs.scripts);
-        let laid_out = laid_out(&inputs, &settings);
+        let laid_out = as_collected(command, &inputs, laid_out(&inputs, &settings));
         Begun::new(command, inputs, laid_out, None, Remade::default())
     }
 
     /// Writes the script in the profile.
     pub fn finish(command: &Command, begun: Begun) -> LinkPlan {
         let Begun { inputs, layout, evaluation, made_loaded, remade, names, held } = begun;
-        let mut residual = written(command, &inputs, evaluation.as_ref().ok());
+        let keeps_more = layout.as_ref().map_or(false, Layout::keeps_named_by_frames);
+        let mut residual = written(command, &inputs, evaluation.as_ref().ok(), keeps_more);
         let table =
             evaluation.as_ref().ok().and_then(|evaluation| frame_table::note(command, &inputs.scripts, evaluation));
         residual.notes.extend(table);
@@ -260,11 +261,13 @@ impl LinkPlan {
         let laid_out = match kept {
             Some(mut layout) => {
                 merged.iter().for_each(|merged| layout.remember(merged));
+                layout.set_keeps_named_by_frames(false);
                 let evaluation = layout.evaluate(objects);
                 (Some(layout), evaluation)
             }
             None => laid_out(&self.inputs, &settings),
         };
+        let laid_out = as_collected(command, &self.inputs, laid_out);
         let begun = Begun::new(command, self.inputs, laid_out, self.names, self.remade);
         Some(LinkPlan::finish(command, begun))
     }
@@ -353,7 +356,10 @@ fn changed_of(
     Some(held)
 }
 
-fn laid_out(inputs: &Inputs, settings: &Settings) -> (Option<Layout>, Result<Evaluation, Stop>) {
+/// A layout and what it came to.
+type LaidOutScript = (Option<Layout>, Result<Evaluation, Stop>);
+
+fn laid_out(inputs: &Inputs, settings: &Settings) -> LaidOutScript {
     match Layout::new(&inputs.scripts.reading.script, inputs.objects(), settings) {
         Ok(layout) => {
             let evaluation = layout.evaluate(inputs.objects());
@@ -363,19 +369,42 @@ fn laid_out(inputs: &Inputs, settings: &Settings) -> (Option<Layout>, Result<Eva
     }
 }
 
-/// The script in the profile.
-fn written(command: &Command, inputs: &Inputs, evaluation: Option<&Evaluation>) -> Residual {
-    let objects: Vec<&BStr> = inputs.held.iter().map(|held| held.name.as_bstr()).collect();
-    let defines =
-        |name: &BStr| inputs.objects().iter().any(|object| object.globals_named(name).any(|one| one.rank().is_some()));
+/// The layout as `ldi` collects sections: where it keeps more than GNU ld for `.eh_frame`, with that, since numbers in
+/// the script are those of the layout.
+fn as_collected(command: &Command, inputs: &Inputs, laid_out: LaidOutScript) -> LaidOutScript {
+    let has_frames = |evaluation: &Evaluation| {
+        let mut kept = evaluation.sections.iter().filter(|one| one.size > 0 && one.output().is_some());
+        command.collects_sections && kept.any(|one| evaluation.section_name(one) == ".eh_frame")
+    };
+    let keeps_more = |evaluation| has_frames(evaluation) && kept_beside(command, inputs, Some(evaluation)).1;
+    match laid_out {
+        (Some(mut layout), Ok(evaluation)) if keeps_more(&evaluation) => {
+            layout.set_keeps_named_by_frames(true);
+            let evaluation = layout.evaluate(inputs.objects());
+            (Some(layout), evaluation)
+        }
+        other => other,
+    }
+}
+
+/// What of `--gc-sections` is other than GNU ld's: the sections that get KEEP, and whether more than GNU ld's are kept.
+fn kept_beside(command: &Command, inputs: &Inputs, evaluation: Option<&Evaluation>) -> (Vec<bool>, bool) {
     let entry = command.entry.as_ref().or_else(|| inputs.scripts.entry());
-    let (kept, keeps_more) = match evaluation.filter(|_| command.collects_sections) {
+    match evaluation.filter(|_| command.collects_sections) {
         Some(evaluation) => {
             let entry = entry.map_or_else(|| b"start".as_bstr(), |name| name.as_bstr());
             collecting::kept_beside(&inputs.scripts.reading.script, inputs.objects(), evaluation, entry)
         }
         None => (Vec::new(), false),
-    };
+    }
+}
+
+/// The script in the profile; `keeps_more`: as many sections are kept as `.eh_frame` names.
+fn written(command: &Command, inputs: &Inputs, evaluation: Option<&Evaluation>, keeps_more: bool) -> Residual {
+    let objects: Vec<&BStr> = inputs.held.iter().map(|held| held.name.as_bstr()).collect();
+    let defines =
+        |name: &BStr| inputs.objects().iter().any(|object| object.globals_named(name).any(|one| one.rank().is_some()));
+    let (kept, keeps_others) = kept_beside(command, inputs, evaluation);
     let of = |evaluation| first_values::kept_by_first_values(inputs.objects(), evaluation);
     let without_entries = evaluation.map_or_else(Vec::new, of);
     residual(Request {
@@ -393,7 +422,7 @@ fn written(command: &Command, inputs: &Inputs, evaluation: Option<&Evaluation>) 
         leaves_unique: command.unique.as_ref().map_or(false, |patterns| !patterns.is_empty()),
         places_orphans: command.orphans != Some(Orphans::Error),
         kept: &kept,
-        keeps_more,
+        keeps_more: keeps_more || keeps_others,
         collects_start_stop: command.collects_sections && command.collects_start_stop,
         without_entries: &without_entries,
     })

@@ -47,6 +47,7 @@ pub fn settings_of(command: &Command, scripts: &Scripts) -> Settings {
         fini: command.fini.clone(),
         keeps_exported: command.keeps_exported,
         start_stop_gc: command.collects_start_stop,
+        keeps_named_by_frames: false,
     });
     settings
 }
