@@ -53,9 +53,10 @@ HOLDS_UP = ("strace", "-qq", "-o", "/dev/null", "-e", "trace=/^rename", "-e")
 
 
 def said_by(data: bytes) -> Image:
-    """What an image says; one that is torn says something else."""
+    """What an image says, but for its program headers, which `ld.ldi` makes itself; one that is torn says something
+    else."""
     try:
-        return read_image(data)
+        return read_image(data)._replace(segments=[])
     except (struct.error, IndexError, ValueError):
         return Image(-2, [], [], {})
 
