@@ -39,3 +39,10 @@ class PatternTest(BesideGnu):
                     "*(EXCLUDE_FILE(*/one/* */two/*) .data)/* comment */"):
             with self.subTest(own):
                 self.same(f".one : {{ {own} {MANY} }} .two (.) : {{ *(.data) }}")
+
+    def test_parentheses(self) -> None:
+        """An expression of more operators and parentheses than a run of the profile may have, as coreboot's."""
+        for count in (10, 25, 40):
+            terms = "|".join(f"(0x4000000>>{number % 20})" for number in range(count))
+            with self.subTest(count):
+                self.same(f"mask = ~(({terms}) - 1); .two mask & 0x7000000 : {{ *(.data) }}")

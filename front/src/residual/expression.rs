@@ -374,7 +374,9 @@ fn operator_length(rest: &[u8]) -> Option<usize> {
 /// Whether a text of the script says an expression of the profile as it stands.
 pub(super) fn says(own: &[u8], e: &Expr, text: &[u8]) -> bool {
     let new = write(e, text);
-    let own = tokens(own).filter(|tokens| tokens.iter().filter(|token| is_sign(token)).count() <= MOST_SIGNS);
+    let open = own.iter().filter(|byte| **byte == b'(').count();
+    let signs = |tokens: &[&[u8]]| tokens.iter().filter(|token| is_sign(token)).count();
+    let own = tokens(own).filter(|tokens| open + signs(tokens) <= MOST_SIGNS);
     own.is_some() && own == tokens(new.as_bytes())
 }
 
@@ -466,6 +468,15 @@ mod tests {
             op(BinaryOperator::Multiply, op(BinaryOperator::ShiftRight, number(261), number(8)), number(0x1_0000));
         let e = op(BinaryOperator::Add, op(BinaryOperator::Subtract, base.clone(), symbol("a")), base);
         assert_eq!(write(&folded(&e), b""), "0x10000 - a + 0x10000");
+    }
+
+    /// docs/limits.md, 'Scripts': coreboot has a sum of more operators and parentheses than a run may have.
+    #[test]
+    fn a_text_of_many_parentheses_is_written_anew() {
+        let sum = |count: u64| (1..count).fold(number(0), |sum, part| op(BinaryOperator::Add, sum, number(part)));
+        let text = |count: u64| (1..count).fold("(0)".to_owned(), |sum, part| format!("{sum} + ({part})"));
+        assert!(says(text(20).as_bytes(), &sum(20), b""));
+        assert!(!says(text(30).as_bytes(), &sum(30), b""));
     }
 
     #[test]
