@@ -53,10 +53,9 @@ HOLDS_UP = ("strace", "-qq", "-o", "/dev/null", "-e", "trace=/^rename", "-e")
 
 
 def said_by(data: bytes) -> Image:
-    """What an image says, but for its program headers, which `ld.ldi` makes itself; one that is torn says something
-    else."""
+    """What an image says; one that is torn says something else."""
     try:
-        return read_image(data)._replace(segments=[])
+        return read_image(data)
     except (struct.error, IndexError, ValueError):
         return Image(-2, [], [], {})
 
@@ -173,7 +172,13 @@ class Soak:
         (self.folder / "expected.ld").write_bytes(script + (self.folder / "t.ld").read_bytes())
         command = [os.environ["LDI"], "link", "-T", "expected.ld", "-o", ".linked", *names]
         done = subprocess.run(command, cwd=self.folder.path, capture_output=True, timeout=LIMIT, check=False)
-        return said_by((self.folder / ".linked").read_bytes()) if done.returncode == 0 else NO_IMAGE
+        if done.returncode != 0:
+            return NO_IMAGE
+        # Program headers are `ld.ldi`'s own: they are those of a call without a server.
+        command = [LD_LDI, "--no-server", "-T", "expected.ld", "-o", ".alone", *names]
+        subprocess.run(command, cwd=self.folder.path, env=self.env, capture_output=True, timeout=LIMIT, check=True)
+        alone = said_by((self.folder / ".alone").read_bytes())
+        return said_by((self.folder / ".linked").read_bytes())._replace(segments=alone.segments)
 
     def _call(self, *before: str) -> subprocess.Popen[str]:
         words = [] if self.defsym is None else [f"--defsym=defined={self.defsym}"]

@@ -4,7 +4,7 @@ from __future__ import annotations
 import re
 import struct
 
-from tests.images import read_image
+from tests.images import PT_LOAD, read_image
 from tests.linking import LinkTest, needs
 from tests.programs import OutsideTest
 from tests.symbol_table import read_relocations, read_table
@@ -210,6 +210,15 @@ class KernelTest(LinkTest):
             self.run_tool("ld.bfd", "--no-warn-rwx-segments", "-T", "kernel.ld", "-o", "gnu", *words, *self.objects)
             own, gnu = (read_image((self.folder / image).read_bytes()).segments for image in (name, "gnu"))
             self.assertEqual(own, gnu)
+        plain, large = ((self.folder / name).read_bytes() for name in ("plain", "large"))
+        before, after = ([one for one in read_image(data).segments if one.kind == PT_LOAD] for data in (plain, large))
+        self.assertEqual(len(before), len(after))
+        for old, new in zip(before, after):
+            self.assertEqual((new.offset - new.address) % LARGE_PAGE, 0)
+            self.assertEqual((old.address, old.load, old.memory_size), (new.address, new.load, new.memory_size))
+            self.assertEqual(plain[old.offset:old.offset + old.file_size],
+                             large[new.offset:new.offset + new.file_size])
+            self.assertEqual(new.alignment, LARGE_PAGE)
         self.assertNotIn("warning", self.run_tool("readelf", "-lSW", "large").lower())
         self.assertEqual(self._symbols("plain"), self._symbols("large"))
         self.assertEqual(self.run_tool("objdump", "-d", "plain").split("\n")[3:],
@@ -292,7 +301,8 @@ class ProgramHeaderTest(LinkTest):
     def test_noload(self) -> None:
         """NOLOAD is in no segment without a name, not in that of the section before it."""
         script = """PHDRS { load PT_LOAD; } SECTIONS { . = 0x400000; .text : { *(.text*) *(.rodata*) } :load
-            . = 0x10000; .stack (NOLOAD) : { . += 0x1000; } . = 0x500000; .data : { *(.data* .later) } .bss : { *(.bss*) }
+            . = 0x10000; .stack (NOLOAD) : { . += 0x1000; }
+            . = 0x500000; .data : { *(.data* .later) } .bss : { *(.bss*) }
             . = 0x600000; .named (NOLOAD) : { . += 16; } :load /DISCARD/ : { *(*) } }"""
         for words in ((), ("-n",)):
             said = self._links_both(script, "-e", "0", *words)
