@@ -113,7 +113,7 @@ mod tests {
         assert_eq!(found.len(), texts.len());
     }
 
-    /// Words that differ in their highest bits collide with any seed where a hash only multiplies and rotates.
+    /// Words that differ in their highest bits collide with any seed if a hash only multiplies and rotates.
     #[test]
     fn a_difference_cannot_be_taken_back_without_the_seed() {
         let one = [0, 0].map(u64::to_le_bytes).concat();

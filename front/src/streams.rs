@@ -34,7 +34,7 @@ thread_local! {
     static KEPT: RefCell<Option<Kept>> = const { RefCell::new(None) };
 }
 
-/// Prints a text. That it cannot be printed, as where its reader has gone away, is no fault of the link.
+/// Prints a text. That it cannot be printed, for example if its reader has gone away, is no fault of the link.
 pub fn print(stream: Stream, text: &[u8]) {
     let is_kept = KEPT.with(|kept| match kept.borrow_mut().as_mut() {
         Some(kept) => {

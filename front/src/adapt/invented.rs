@@ -26,7 +26,7 @@ pub(crate) struct Invented {
 /// The kinds of objects over which GNU ld links the script.
 ///
 /// # Errors
-/// Where there is none: why it does not.
+/// If there is none: why it does not.
 pub(crate) fn all(script: &Script) -> Result<Vec<Invented>, Stop> {
     let (mut found, mut stopped) = (Vec::new(), None);
     for kind in Kind::ALL {
@@ -93,7 +93,7 @@ fn form_of(name: &[u8]) -> (u32, u64) {
     }
 }
 
-/// What stands for `*` in the names that a pattern matches: where one name is taken by an earlier pattern, others are
+/// What stands for `*` in the names that a pattern matches: if one name is taken by an earlier pattern, others are
 /// not.
 const STANDS_FOR_ANY: [u8; 2] = *b"wq";
 

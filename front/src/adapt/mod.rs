@@ -148,7 +148,7 @@ fn read_script(call: &Call, text: Vec<u8>) -> Result<Reading, AdaptFault> {
     Ok(reader.finish())
 }
 
-/// What is another in the image of the objects than GNU ld makes, where `ldi` can be had and links them.
+/// What is another in the image of the objects than GNU ld makes, if `ldi` can be had and links them.
 fn differences(
     reading: &Reading,
     objects: &[Object],

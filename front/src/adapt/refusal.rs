@@ -34,7 +34,7 @@ pub(super) fn lines(script: &Path, result: &Residual, environment: &Environment)
     found.into_iter().map(|one| format!("{}: {}", at(one.line), one.sentence)).collect()
 }
 
-/// The places and sentences for which a given script is refused; none where it is not. Where `readscript` cannot be
+/// The places and sentences for which a given script is refused; none if it is not. If `readscript` cannot be
 /// had, all that the profile has not counts.
 pub(super) fn of_given(call: &Call, text: &[u8], environment: &Environment) -> Vec<String> {
     let judgement = judged(text, environment);
@@ -63,7 +63,7 @@ fn judged(text: &[u8], environment: &Environment) -> Option<Judgement> {
     let path = std::env::temp_dir().join(format!("ldi-adapt-{}", std::process::id()));
     std::fs::write(&path, text).ok()?;
     let done = Command::new(find_program("readscript", environment)).arg(&path).stdin(Stdio::null()).output();
-    // The file is in a folder that the system clears where it cannot be removed.
+    // The file is in a folder that the system clears if it cannot be removed.
     let _ = std::fs::remove_file(&path);
     let done = done.ok()?;
     match done.status.code()? {

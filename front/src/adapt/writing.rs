@@ -59,7 +59,7 @@ fn adapted_over_any(reading: &Reading) -> Residual {
     result
 }
 
-/// Where nothing is known of what GNU ld makes of the script, it is written by the rules alone.
+/// If nothing is known of what GNU ld makes of the script, it is written by the rules alone.
 fn adapted_by_rules(reading: &Reading, stop: &Stop) -> Residual {
     let mut result = adapted_over(reading, &[], None, Some(&[]));
     let (kind, why) = match stop {
@@ -105,7 +105,7 @@ fn add_note(result: &mut Residual, note: Note) {
     result.notes.insert(at, note);
 }
 
-/// The script in the profile, by what GNU ld makes of it over objects. Where these are invented, the objects of the
+/// The script in the profile, by what GNU ld makes of it over objects. If these are invented, the objects of the
 /// link may define any name.
 fn adapted_over(
     reading: &Reading,

@@ -8,7 +8,7 @@ use std::fmt;
 pub struct Difference {
     /// What it is.
     pub kind: DifferenceKind,
-    /// Where in the script it comes from; `None` where it is of no statement.
+    /// Where in the script it comes from; `None` if it is of no statement.
     pub span: Option<Span>,
 }
 
@@ -19,7 +19,7 @@ pub enum DifferenceKind {
     Section {
         /// The section.
         name: Name,
-        /// Size and address in the image; `None` where it is not there.
+        /// Size and address in the image; `None` if it is not there.
         found: Option<(u64, u64)>,
         /// Size and address.
         wanted: (u64, u64),
@@ -69,7 +69,7 @@ pub enum DifferenceKind {
         section: Name,
         /// Its object, by its name in the session.
         object: Name,
-        /// Its address in the image; `None` where it is not there.
+        /// Its address in the image; `None` if it is not there.
         found: Option<u64>,
         /// To GNU ld.
         wanted: u64,
@@ -78,7 +78,7 @@ pub enum DifferenceKind {
     Symbol {
         /// The symbol.
         name: Name,
-        /// Its value in the image; `None` where it has none.
+        /// Its value in the image; `None` if it has none.
         found: Option<u64>,
         /// To GNU ld.
         wanted: u64,
@@ -166,7 +166,7 @@ impl fmt::Display for Difference {
 }
 
 /// Of each difference the construct that explains it, of those that the script of the profile says otherwise: the one
-/// that it stands in, else the last one in front of it, as what follows moves with it; where it is of no statement, the
+/// that it stands in, else the last one in front of it, as what follows moves with it; if it is of no statement, the
 /// first. `changed` are the places of these constructs. A difference without any is one that nothing explains.
 pub fn explained(differences: &[Difference], changed: &[Span]) -> Vec<Option<Span>> {
     let mut changed = changed.to_vec();

@@ -92,7 +92,7 @@ impl<'a> Image<'a> {
         found
     }
 
-    /// The bytes of a section; none where it has none, or they are not all there.
+    /// The bytes of a section; none if it has none, or they are not all there.
     fn bytes_of(&self, section: &SectionHeader64<Little>) -> &'a [u8] {
         let (start, size) = (section.sh_offset.get(Little), section.sh_size.get(Little));
         let end = start.checked_add(size).and_then(|end| usize::try_from(end).ok());

@@ -174,7 +174,7 @@ fn name_of(objects: &[Object], index: ObjectIndex) -> Name {
 
 // --- .eh_frame ---
 
-/// Why the bytes of an output section `.eh_frame` are others; `None` where they are the same.
+/// Why the bytes of an output section `.eh_frame` are others; `None` if they are the same.
 fn unwinding_cause(evaluation: &Evaluation, objects: &[Object], place: &Placed) -> Option<UnwindingCause> {
     let all: Vec<&InputSection> =
         place.inputs.iter().filter_map(|id| evaluation.section(*id)).filter(|section| section.size != 0).collect();
@@ -240,7 +240,7 @@ impl File<'_> {
         self.object.name().into()
     }
 
-    /// The entries; `None` where it is none of entries as compilers write them.
+    /// The entries; `None` if it is none of entries as compilers write them.
     fn entries(&self) -> Option<Vec<Entry>> {
         let data = self.object.contents(self.number);
         let codes: BTreeMap<u64, SymbolIndex> =
@@ -335,7 +335,7 @@ impl File<'_> {
         }
     }
 
-    /// The bytes that are taken out of the end of an entry, as they do nothing; all where that is not known.
+    /// The bytes that are taken out of the end of an entry, as they do nothing; all if that is not known.
     fn fill(&self, entry: &Entry) -> usize {
         let content = self.content(entry);
         let begin = match entry.common {

@@ -14,7 +14,7 @@ pub enum BuildId {
 }
 
 impl BuildId {
-    /// The style of a word; `None` where it is none (`compute_build_id_size`).
+    /// The style of a word; `None` if it is none (`compute_build_id_size`).
     pub fn of_style(style: &[u8]) -> Option<BuildId> {
         match style {
             b"" | b"sha1" => Some(BuildId::Sha1),

@@ -173,13 +173,13 @@ pub struct Defsym {
 /// What the words of a command line come to.
 #[derive(Clone, PartialEq, Eq, Debug)]
 pub struct Command {
-    /// The image's file: that of the last `-o`; `a.out` where there is none.
+    /// The image's file: that of the last `-o`; `a.out` if there is none.
     pub output: PathBuf,
     /// Whether `-o` names it: it goes before OUTPUT of a script.
     pub has_output: bool,
     /// The scripts of `-T`, in their order; they are among the inputs too.
     pub scripts: Vec<PathBuf>,
-    /// The script of `-dT`, which is read after all words, and not where there is a `-T`.
+    /// The script of `-dT`, which is read after all words, and not if there is a `-T`.
     pub default_script: Option<PathBuf>,
     /// `-e`: a symbol or a number
     pub entry: Option<BString>,
@@ -195,7 +195,7 @@ pub struct Command {
     pub collects_sections: bool,
     /// `--gc-keep-exported`
     pub keeps_exported: bool,
-    /// `--relax`: references by a global offset table become others where none is needed
+    /// `--relax`: references by a global offset table become others if none is needed
     pub relaxes: bool,
     /// `-z start-stop-gc`
     pub collects_start_stop: bool,
@@ -242,7 +242,7 @@ pub struct Command {
     /// `--section-start`: the address of each section
     pub section_starts: IndexMap<BString, u64>,
     /// `-Ttext-segment` and its like, `-Ttext`, `-Tdata`, `-Tbss`: what SEGMENT_START of a script gives for
-    /// `text-segment`, `rodata-segment`, `ldata-segment`, `text`, `data` or `bss`; where no SEGMENT_START of the last
+    /// `text-segment`, `rodata-segment`, `ldata-segment`, `text`, `data` or `bss`; if no SEGMENT_START of the last
     /// three is there, the address of the section `.text`, `.data` or `.bss`
     pub segment_starts: IndexMap<BString, u64>,
     /// How many scripts of `-T` stand before the last of these options.
@@ -267,7 +267,7 @@ pub struct Command {
     pub emits_relocations: bool,
     /// `--dependency-file`
     pub dependency_file: Option<PathBuf>,
-    /// `--build-id`, where it is not `none`
+    /// `--build-id`, if it is not `none`
     pub build_id: Option<BuildId>,
     /// `--verbose`
     pub is_verbose: bool,

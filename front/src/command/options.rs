@@ -480,7 +480,7 @@ const KEYWORDS_LENIENT: &[(&str, Leniency)] = &[
     ("undefs", Leniency::UndefinedNames),
 ];
 
-/// What becomes of a word of `-z`, without what stands after `=`; `None` where it is not known.
+/// What becomes of a word of `-z`, without what stands after `=`; `None` if it is not known.
 pub fn find_keyword(name: &[u8]) -> Option<KeywordEffect> {
     let is_here = |words: &[&str]| words.iter().any(|word| word.as_bytes() == name);
     if is_here(KEYWORDS_TAKEN) {
@@ -493,7 +493,7 @@ pub fn find_keyword(name: &[u8]) -> Option<KeywordEffect> {
     said.or_else(|| is_here(KEYWORDS_IGNORED).then_some(KeywordEffect::Ignored))
 }
 
-/// What a word with a dash names: the options (several where letters stand together), and the value in the word.
+/// What a word with a dash names: the options (several if letters stand together), and the value in the word.
 #[derive(Clone, PartialEq, Eq, Debug)]
 pub struct FoundOption {
     /// The options.

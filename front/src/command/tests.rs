@@ -308,7 +308,7 @@ fn a_library_or_a_file_is_an_input_and_a_script_is_none() {
     assert!(read(&["-lx"]).has_inputs());
 }
 
-/// Each option of GNU ld's own help is in the table, with a value where it has one there; skipped where it is missing.
+/// Each option of GNU ld's own help is in the table, with a value if it has one there; skipped if it is missing.
 #[test]
 fn every_option_of_gnu_lds_help_is_known() {
     let text = match std::process::Command::new("ld.bfd").arg("--help").output() {

@@ -41,7 +41,7 @@ fn expand(word: &BStr, depth: usize, found: &mut Words) {
     }
 }
 
-/// The bytes of a file. A pipe is waited for where somebody has it open to write it, and is empty else.
+/// The bytes of a file. A pipe is waited for if somebody has it open to write it, and is empty else.
 fn read(path: &Path) -> io::Result<Vec<u8>> {
     let flags = rustix::fs::OFlags::NONBLOCK.bits() as i32;
     let mut file: File = OpenOptions::new().read(true).custom_flags(flags).open(path)?;

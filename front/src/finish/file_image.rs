@@ -97,7 +97,7 @@ impl FileImage {
         self.pieces().skip(after.saturating_sub(1))
     }
 
-    /// Where a byte of the image of `ldi` is in the file; `None` where it is not there.
+    /// Where a byte of the image of `ldi` is in the file; `None` if it is not there.
     pub fn place_of(&self, offset: usize) -> Option<u64> {
         self.pieces.iter().find_map(|piece| match &piece.source {
             Source::Image(range) if range.contains(&offset) => Some(piece.at + (offset - range.start) as u64),
@@ -158,7 +158,7 @@ impl FileImage {
         all
     }
 
-    /// All of it in one, without a copy where it is the image as it was.
+    /// All of it in one, without a copy if it is the image as it was.
     pub fn into_vec(self) -> Vec<u8> {
         match self.pieces.as_slice() {
             [Piece { at: 0, source: Source::Image(range) }] if *range == (0..self.image.len()) => self.image.into_vec(),
@@ -178,11 +178,11 @@ pub(super) struct FilePlan {
     pub(super) end: u64,
     /// The section headers, those of what is loaded with their new places.
     pub(super) sections: Vec<Section>,
-    /// The names of sections, where they are others.
+    /// The names of sections, if they are others.
     pub(super) names: Option<Vec<u8>>,
     /// The number of the section with the names.
     pub(super) names_in: usize,
-    /// The table of symbols, where it is another, or there is to be none.
+    /// The table of symbols, if it is another, or there is to be none.
     pub(super) symbols: Option<Option<SymbolTable>>,
     /// The bytes of the sections that the image does not have, by their numbers.
     pub(super) contents: BTreeMap<usize, Bytes>,

@@ -46,11 +46,11 @@ pub struct Form {
     /// What segments are aligned to in the file, a power of two: `-z max-page-size`, and 1 with `-n` and `-N`. Segments
     /// of `ldi` are aligned to 4,096 at least.
     pub page: u64,
-    /// The program headers of PHDRS; `None` where the script has none, an empty list where they cannot be known.
+    /// The program headers of PHDRS; `None` if the script has none, an empty list if they cannot be known.
     pub segments: Option<Vec<WantedSegment>>,
     /// Why the program headers of PHDRS cannot be known.
     pub segments_problem: Option<String>,
-    /// The program headers where the script has no PHDRS; `None` for those of `ldi`.
+    /// The program headers if the script has no PHDRS; `None` for those of `ldi`.
     pub headers: Option<MadeHeaders>,
     /// Output sections that have another name in the image of `ldi`, and the names that they are to have.
     pub names: Vec<(BString, BString)>,
@@ -130,7 +130,7 @@ pub struct Finished {
 /// symbols is that of the image.
 ///
 /// # Errors
-/// Where the form has no file for this image, and where the file would not load what the image loads.
+/// If the form has no file for this image, and if the file would not load what the image loads.
 pub fn finish(
     image: impl Into<Answered>,
     form: &Form,
@@ -220,7 +220,7 @@ fn put_symbols(
 }
 
 /// The file with the program headers of PHDRS, else with those of `ldi`, and a note of why; and the sections that are in
-/// no segment, of which nothing is said where what is in them is never loaded (NOLOAD).
+/// no segment, of which nothing is said if what is in them is never loaded (NOLOAD).
 fn with_segments(
     image: &[u8],
     form: &Form,

@@ -16,7 +16,7 @@ pub struct TooFar {
     end: u64,
 }
 
-/// The file with segments aligned to a page; `None` where `ldi` aligns them so already.
+/// The file with segments aligned to a page; `None` if `ldi` aligns them so already.
 ///
 /// The program headers are in the order of addresses, as the gABI has them; with `in_file_order` in that of the script,
 /// as of a script whose PHDRS cannot be written.

@@ -1,4 +1,4 @@
-//! The program headers that GNU ld makes where the script has no PHDRS, and where it puts sections in the file (elf.c,
+//! The program headers that GNU ld makes if the script has no PHDRS, and where it puts sections in the file (elf.c,
 //! `_bfd_elf_map_sections_to_segments`, `assign_file_positions_for_load_sections`,
 //! `assign_file_positions_for_non_load_sections`).
 //!
@@ -77,15 +77,15 @@ pub struct MadeSegment {
     pub kind: u32,
     /// Its rights; else those of its sections.
     pub flags: Option<u32>,
-    /// Its alignment where it has no sections.
+    /// Its alignment if it has no sections.
     pub align: u64,
-    /// Its bytes in memory where it has no sections.
+    /// Its bytes in memory if it has no sections.
     pub size: u64,
     /// Its sections, by their places in the list.
     pub sections: Vec<usize>,
 }
 
-/// The file with these program headers. Where the image is laid out otherwise than GNU ld's they are those that GNU ld
+/// The file with these program headers. If the image is laid out otherwise than GNU ld's they are those that GNU ld
 /// would make of the sections of the image.
 pub(super) fn write(data: &[u8], made: &MadeHeaders, renamed: &[(BString, BString)]) -> Result<FilePlan, NotWritten> {
     let image = Image::read(data)?;
@@ -101,7 +101,7 @@ pub(super) fn write(data: &[u8], made: &MadeHeaders, renamed: &[(BString, BStrin
     writer.plan(&image, &homes, end)
 }
 
-/// By section: the number of its header in the image; `None` where the image has no header of it. Nothing where the
+/// By section: the number of its header in the image; `None` if the image has no header of it. Nothing if the
 /// image is laid out otherwise.
 fn homes_of(image: &Image<'_>, sections: &[MadeSection]) -> Result<Option<Vec<Option<usize>>>, NotAnImage> {
     let is_nonempty = |section: &MadeSection| section.memory.size != 0;

@@ -39,7 +39,7 @@ impl<'a> Places<'a> {
     }
 }
 
-/// The function and the line that addr2line finds in an object; question marks where it finds none.
+/// The function and the line that addr2line finds in an object; question marks if it finds none.
 fn source_line(paths: &HashMap<&BStr, PathBuf>, piece: &Piece, offset: u64) -> String {
     let unknown = || "?? ??:0".to_owned();
     let path = match paths.get(piece.object.as_bstr()) {

@@ -58,7 +58,7 @@ impl GdbFault {
     }
 }
 
-/// The script of gdb for a map, whose objects are in the working folder; `None` where the map is none.
+/// The script of gdb for a map, whose objects are in the working folder; `None` if the map is none.
 pub fn script_of(map: &[u8]) -> Option<Vec<u8>> {
     Some(Script::of(&LinkMap::read(map).ok()?, &Objects::new(Path::new(".")), None).text)
 }

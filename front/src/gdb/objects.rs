@@ -63,7 +63,7 @@ pub(super) fn placed_objects(map: &LinkMap) -> Vec<Placed<'_>> {
     objects
 }
 
-/// The name of an archive's member, `lib.a(member.o)`, with a number where it came more than once: `lib.a(member.o)#2`.
+/// The name of an archive's member, `lib.a(member.o)`, with a number if it came more than once: `lib.a(member.o)#2`.
 struct MemberName<'a> {
     archive: &'a [u8],
     member: &'a [u8],

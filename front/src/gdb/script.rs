@@ -16,7 +16,7 @@ use crate::snapshot::Bytes;
 const NOWHERE: u64 = 1 << 63;
 /// Each of them begins on a page of its own.
 const PAGE: u64 = 4096;
-/// A section that is put nowhere where it is not in the image: gdb would count its entries from there, and lose the
+/// A section that is put nowhere if it is not in the image: gdb would count its entries from there, and lose the
 /// callers of functions. Without it gdb finds them by the code of the functions.
 const UNWINDING: &str = ".eh_frame";
 
@@ -76,7 +76,7 @@ impl Script {
     }
 }
 
-/// A word as gdb reads it: between quotes where it has other than plain bytes.
+/// A word as gdb reads it: between quotes if it has other than plain bytes.
 fn quoted(word: &[u8]) -> Vec<u8> {
     if !word.is_empty() && word.iter().all(|byte| byte.is_ascii_alphanumeric() || b"_./+@%:=,~-".contains(byte)) {
         return word.to_vec();
@@ -96,7 +96,7 @@ fn is_merged(elf: &Elf, piece: &Piece) -> bool {
         && own.all(|section| section.size != piece.size)
 }
 
-/// The sections of an object that are not in the image, each at an address of its own where nothing is.
+/// The sections of an object that are not in the image, each at an address of its own if nothing is.
 fn left_out(pieces: &[&Piece], elf: Option<&Elf>) -> Vec<(BString, u64)> {
     let elf = match elf {
         Some(elf) => elf,

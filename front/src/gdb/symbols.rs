@@ -55,7 +55,7 @@ fn by_object(map: &LinkMap) -> indexmap::IndexMap<&BStr, Vec<PlacedPiece<'_>>> {
     result
 }
 
-/// For the sections of an object where they lie. Where several have one name and not all of them are in the output,
+/// For the sections of an object where they lie. If several have one name and not all of them are in the output,
 /// those of a size that is not unique are left out.
 fn places_of<'a>(
     name: &BStr,

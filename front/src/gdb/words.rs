@@ -45,7 +45,7 @@ pub(super) enum Task {
     Script,
     /// A copy of this image with local names.
     Copy(PathBuf),
-    /// Lines of these addresses; those of standard input where there are none.
+    /// Lines of these addresses; those of standard input if there are none.
     Lines(Vec<OsString>),
 }
 

@@ -191,7 +191,7 @@ impl<'a> Body<'a> {
         names.iter().for_each(|line| self.line(line));
     }
 
-    /// The bytes that a section has in its object; as many as it has now where it has none there.
+    /// The bytes that a section has in its object; as many as it has now if it has none there.
     fn own_size(&self, section: &InputSection) -> u64 {
         let number = section.number().unwrap_or(SectionIndex(0));
         let object = self.request.objects.get(section.object.0 as usize);
@@ -333,7 +333,7 @@ fn nodes_of_body<'a>(body: &'a [tree::Spanned<SectionStatement>], nodes: &mut Ha
     }
 }
 
-/// A name with spaces behind it, up to a column; on a line of its own where it is longer (ldmain.c,
+/// A name with spaces behind it, up to a column; on a line of its own if it is longer (ldmain.c,
 /// `add_archive_element`).
 pub(super) fn in_column(name: &str, column: usize) -> String {
     match name.len() >= column - 1 {

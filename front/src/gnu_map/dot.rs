@@ -4,7 +4,7 @@
 use super::Request;
 use crate::script::tree::{BinaryOperator, Expr, ExprKind, Function, Query, UnaryOperator};
 
-/// The value of an expression with `.`; `None` where it has no `.`, or something that is not found so.
+/// The value of an expression with `.`; `None` if it has no `.`, or something that is not found so.
 pub(super) fn value_of(request: &Request<'_>, expr: &Expr, dot: u64) -> Option<u64> {
     if has_dot(expr) {
         fold(request, expr, dot)

@@ -33,7 +33,7 @@ pub struct Request<'a> {
     pub objects: &'a [Object],
     /// The names of objects and script, in the order of GNU ld's table of symbols.
     pub names: Vec<BString>,
-    /// The entry symbol, where it has a name.
+    /// The entry symbol, if it has a name.
     pub entry: Option<BString>,
     /// The files that were read, an archive as one.
     pub files: &'a [PathBuf],

@@ -161,7 +161,7 @@ impl Archive {
         &self.members
     }
 
-    /// The entries of the symbol table, in their order; `None` where it has none.
+    /// The entries of the symbol table, in their order; `None` if it has none.
     pub fn symbols(&self) -> Option<&[ArchiveSymbol]> {
         self.symbols.as_deref()
     }

@@ -96,7 +96,7 @@ pub(super) struct Loader<'a> {
     first_names: Names,
     has_commons: bool,
     once: OnceLinked,
-    /// Made where there are common blocks.
+    /// Made if there are common blocks.
     undefined: Option<UndefinedNames>,
     entered: usize,
     used: HashSet<BString>,
@@ -375,7 +375,7 @@ impl<'a> Loader<'a> {
         archives
     }
 
-    /// What a text in the place of an object says of files and names; `None` where it is no script.
+    /// What a text in the place of an object says of files and names; `None` if it is no script.
     fn implicit_script(&mut self, path: &Path, text: &[u8]) -> Option<ScriptInputs> {
         if text.contains(&0) {
             return None;
@@ -385,7 +385,7 @@ impl<'a> Loader<'a> {
         Some(ScriptInputs::of(&reader.finish().script))
     }
 
-    /// Opens an archive: the one of before where it has the same bytes.
+    /// Opens an archive: the one of before if it has the same bytes.
     fn opened(&mut self, path: &Path, data: Bytes) -> Result<ArchiveIndex, InputFault> {
         let before = self.before.and_then(|before| before.archives.get(path));
         let archive = match before.filter(|before| before.data().is_identical(&data)) {
@@ -563,7 +563,7 @@ impl<'a> Loader<'a> {
         Ok(())
     }
 
-    /// The object of before where it is the same with the same bytes, which need not be sent again then.
+    /// The object of before if it is the same with the same bytes, which need not be sent again then.
     fn as_before(&self, object: Object) -> Object {
         let before = self.before.filter(|_| object.has_groups());
         let before = before.and_then(|before| before.objects.get(self.objects.len()));

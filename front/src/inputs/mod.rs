@@ -63,7 +63,7 @@ pub struct Loaded {
     /// The files that statements of a script name and that are in another folder: their paths.
     pub renamed: IndexMap<BString, BString>,
     names: Names,
-    /// By file: its objects, where it is one itself.
+    /// By file: its objects, if it is one itself.
     plain: HashMap<PathBuf, Vec<usize>>,
     known: KnownObjects,
     archives: HashMap<PathBuf, Arc<Archive>>,

@@ -12,7 +12,7 @@ pub(super) struct OnceLinked {
     first: HashMap<OnceKey, usize>,
     /// By the place of an object: the keys that it has, in its order.
     keys: HashMap<usize, Vec<OnceKey>>,
-    /// The names that sections define which are left out: where no other defines them, no member of an archive is taken
+    /// The names that sections define which are left out: if no other defines them, no member of an archive is taken
     /// for them (bfd/elflink.c, `elf_link_add_archive_symbols`).
     dropped: HashSet<BString>,
 }
@@ -49,7 +49,7 @@ impl OnceLinked {
         self.dropped.contains(name)
     }
 
-    /// The same for another object at the place of one of the same keys; `None` where it has others, so that other
+    /// The same for another object at the place of one of the same keys; `None` if it has others, so that other
     /// objects may change with it.
     fn take_again(&self, place: usize, object: Object) -> Option<Object> {
         let own = self.keys.get(&place).map_or(&[][..], Vec::as_slice);
@@ -87,7 +87,7 @@ fn signature_of(name: &[u8]) -> Option<&[u8]> {
 }
 
 impl Loaded {
-    /// An object with other bytes as it is in the link at its place; `None` where other objects may change with it.
+    /// An object with other bytes as it is in the link at its place; `None` if other objects may change with it.
     pub fn in_its_place(&self, place: usize, object: Object) -> Option<Object> {
         self.once.take_again(place, object)
     }

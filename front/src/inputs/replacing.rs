@@ -27,7 +27,7 @@ impl Loaded {
         Object::new(old.name().to_owned(), old.origin().clone(), with_wraps(data, &self.wraps))
     }
 
-    /// The places of the objects that a file is, where it is no archive.
+    /// The places of the objects that a file is, if it is no archive.
     pub fn places_of(&self, path: &Path) -> &[usize] {
         self.plain.get(path).map_or(&[], Vec::as_slice)
     }
@@ -68,7 +68,7 @@ impl Loaded {
         }
     }
 
-    /// The objects that a file is now; `None` where the link would be another.
+    /// The objects that a file is now; `None` if the link would be another.
     fn objects_of(&self, command: &Command, snapshot: &mut Snapshot, path: &Path) -> Option<Vec<Replaced>> {
         let places = self.plain.get(path)?;
         let data = snapshot.read(path).ok().filter(|data| !Archive::is_one(data))?;

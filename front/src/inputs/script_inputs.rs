@@ -33,7 +33,7 @@ pub struct ScriptInputs {
     pub undefined: Vec<BString>,
     /// ENTRY: the last of them counts.
     pub entry: Option<BString>,
-    /// OUTPUT: the image's name where there is no `-o`; the last of them counts.
+    /// OUTPUT: the image's name if there is no `-o`; the last of them counts.
     pub output: Option<BString>,
     /// OUTPUT_FORMAT; of several formats the first one
     pub output_format: Option<BString>,
@@ -56,7 +56,7 @@ impl ScriptInputs {
         self.startup.is_some() || !self.inputs.is_empty()
     }
 
-    /// The form of the image that it asks for: `None` where it does not say, or asks for another format
+    /// The form of the image that it asks for: `None` if it does not say, or asks for another format
     /// ([`ScriptInputs::other_format`]).
     pub fn image_format(&self) -> Option<OutputFormat> {
         match self.output_format.as_ref()?.as_bytes() {

@@ -1,4 +1,4 @@
-//! Archives, and which of their members a link needs; beside GNU ld where it is there.
+//! Archives, and which of their members a link needs; beside GNU ld if it is there.
 
 use super::*;
 use crate::command::read_command;

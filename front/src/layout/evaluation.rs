@@ -64,7 +64,7 @@ pub struct Evaluation {
     pub header_count: u64,
     /// Whether the script asks for SIZEOF_HEADERS.
     pub wants_headers: bool,
-    /// How the file is laid out in pages, where PHDRS do not say it.
+    /// How the file is laid out in pages, if PHDRS do not say it.
     pub paging: Option<Paging>,
     /// The output sections that take memory, in the order of the file's headers.
     pub memory: Vec<(OutputId, InMemory)>,
@@ -91,9 +91,9 @@ pub struct Evaluation {
 pub struct Entry {
     /// The name that `-e` or ENTRY gives, or `_start`'s stand-in of the format (`start`).
     pub name: Name,
-    /// Its address; 0 is in the file where there is none.
+    /// Its address; 0 is in the file if there is none.
     pub address: Option<u64>,
-    /// Whether the address is the name's: GNU ld warns where it is not.
+    /// Whether the address is the name's: GNU ld warns if it is not.
     pub is_by_name: bool,
 }
 
@@ -127,7 +127,7 @@ pub enum StatementKind {
     Assign {
         /// The symbol.
         symbol: SymbolId,
-        /// Its value at the end of this statement; `None` where it does not count (PROVIDE of what is not wanted).
+        /// Its value at the end of this statement; `None` if it does not count (PROVIDE of what is not wanted).
         value: Option<Value>,
     },
     /// An assignment to the location counter.
@@ -183,13 +183,13 @@ pub struct OutputSection {
     pub is_orphan: bool,
     /// Its statements.
     pub body: Vec<StatementId>,
-    /// Its place; `None` where GNU ld makes no section of it.
+    /// Its place; `None` if GNU ld makes no section of it.
     pub place: Option<Placed>,
     /// Its region.
     pub region: RegionId,
     /// The region of its load address.
     pub load_region: Option<RegionId>,
-    /// The segments of PHDRS that it is in, those of sections before where it names none.
+    /// The segments of PHDRS that it is in, those of sections before if it names none.
     pub segments: Vec<Name>,
     /// The address in front of the colon is given.
     pub has_own_address: bool,
@@ -198,7 +198,7 @@ pub struct OutputSection {
 }
 
 impl OutputSection {
-    /// Its place where it is in the image.
+    /// Its place if it is in the image.
     pub fn in_image(&self) -> Option<&Placed> {
         self.place.as_ref().filter(|place| !place.is_gone)
     }
@@ -350,7 +350,7 @@ pub struct Symbol {
     pub name: Name,
     /// Who gives it its value.
     pub definer: Definer,
-    /// Its value at the end; `None` where it is undefined.
+    /// Its value at the end; `None` if it is undefined.
     pub value: Option<Value>,
     /// Whether the script gives a value to what an object defines.
     pub is_overridden: bool,
@@ -365,7 +365,7 @@ pub struct Symbol {
     /// Whether the script hides it, by which it is local in the image.
     pub is_local: bool,
     /// Whether an assignment of it stands in an output section that counts, or outside of all: GNU ld's table of
-    /// symbols has it then, even where it is undefined.
+    /// symbols has it then, even if it is undefined.
     pub is_recorded: bool,
     /// Whether GNU ld has given it a value as the start or end of a section, which may not stay.
     pub is_bound: bool,
@@ -405,7 +405,7 @@ impl Evaluation {
         }
     }
 
-    /// The value that an expression had last, by its place in the text; `None` where it was never known.
+    /// The value that an expression had last, by its place in the text; `None` if it was never known.
     pub fn value_at(&self, span: Span) -> Option<Value> {
         self.values.get(&span).copied()
     }
@@ -435,7 +435,7 @@ impl Evaluation {
         self.names.get(section.name)
     }
 
-    /// The address of an input section; `None` where it is in no output section.
+    /// The address of an input section; `None` if it is in no output section.
     pub fn section_address(&self, section: &InputSection) -> Option<u64> {
         let place = self.output(section.output()?)?.place.as_ref()?;
         Some(place.address.wrapping_add(section.offset))

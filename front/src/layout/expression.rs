@@ -68,7 +68,7 @@ pub(crate) struct Expression {
 pub(crate) struct Expressions(Vec<Expression>);
 
 impl Expressions {
-    /// Enters a node; gives a number where GNU ld computes it at once.
+    /// Enters a node; gives a number if GNU ld computes it at once.
     pub fn enter(&mut self, node: Node, span: Option<Span>) -> Result<ExprId, Stop> {
         let node = self.folded(node, span)?;
         self.0.push(Expression { node, span, last: None });

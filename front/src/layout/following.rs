@@ -44,7 +44,7 @@ impl Link<'_> {
         false
     }
 
-    /// Whether an output section begins where `.` is; `None` where it may not be in the image.
+    /// Whether an output section begins where `.` is; `None` if it may not be in the image.
     fn begins_by_dot(&self, output: &Output) -> Option<bool> {
         let place = output.place.as_ref().filter(|_| output.counts())?;
         let begins_by_dot = match output.address {

@@ -54,7 +54,7 @@ fn wild(pattern: &[u8], name: &[u8]) -> bool {
     }
 }
 
-/// Where the pattern goes on after one byte of the name; `None` where that byte does not match.
+/// Where the pattern goes on after one byte of the name; `None` if that byte does not match.
 fn one(pattern: &[u8], at: usize, byte: u8) -> Option<usize> {
     match pattern.get(at)? {
         b'?' => Some(at + 1),
@@ -70,7 +70,7 @@ fn one(pattern: &[u8], at: usize, byte: u8) -> Option<usize> {
     }
 }
 
-/// The end of a set, and whether a byte is in it; `None` where `]` is missing.
+/// The end of a set, and whether a byte is in it; `None` if `]` is missing.
 fn set(pattern: &[u8], mut at: usize, byte: u8) -> Option<(usize, bool)> {
     let is_negated = matches!(pattern.get(at), Some(b'!' | b'^'));
     if is_negated {

@@ -112,7 +112,7 @@ impl Link<'_> {
         count
     }
 
-    /// How the file is laid out in pages, where PHDRS do not say it.
+    /// How the file is laid out in pages, if PHDRS do not say it.
     pub fn paging(&self) -> Option<Paging> {
         let count = self.headers.count.unwrap_or_else(|| self.guess_headers());
         let settings = self.settings;

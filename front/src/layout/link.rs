@@ -164,7 +164,7 @@ impl<'a> Link<'a> {
         self.fold(e, Base::Absolute, dot)
     }
 
-    /// An alignment; 0 where there is none (ldexp.c, `exp_get_power`).
+    /// An alignment; 0 if there is none (ldexp.c, `exp_get_power`).
     pub fn power(&mut self, e: Option<ExprId>) -> Result<u64, Stop> {
         let e = match e {
             None => return Ok(0),

@@ -251,7 +251,7 @@ impl Link<'_> {
 
     // --- output sections that are made ---
 
-    /// Makes the section of an output section statement, where it is not there yet (ldlang.c, `init_os`).
+    /// Makes the section of an output section statement, if it is not there yet (ldlang.c, `init_os`).
     pub fn make(&mut self, id: OutputId, flags: Flags) -> Result<(), Stop> {
         let (is_discard, name, address, load, align) = match self.output(id) {
             Some(output) if output.place.is_none() => {
@@ -379,7 +379,7 @@ fn join(place: &mut Place, input: &InputSection, mut flags: Flags) {
         if flags.has(Flags::MERGE) {
             place.entry_size = input.entry_size;
         }
-        // elf.c, `elf_init_private_section_data`: the type is the first input section's where the flags are the same.
+        // elf.c, `elf_init_private_section_data`: the type is the first input section's if the flags are the same.
         let own = Flags::CREATED | Flags::EXCLUDE;
         if matches!(place.kind, elf::SHT_PROGBITS | elf::SHT_NOTE | elf::SHT_NOBITS) {
             place.kind = elf::SHT_NULL;

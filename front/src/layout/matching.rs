@@ -13,7 +13,7 @@ use bstr::ByteSlice;
 #[derive(Clone, Copy, PartialEq, Eq, Debug)]
 pub(crate) struct Match {
     pub section: SectionId,
-    /// The number of the pattern; `None` where the statement has no patterns of sections.
+    /// The number of the pattern; `None` if the statement has no patterns of sections.
     pub pattern: Option<u32>,
 }
 

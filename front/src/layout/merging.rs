@@ -46,12 +46,12 @@ impl Merges {
         Some(OwnMerged { section, merged: &group.merged, part, sources: &group.sources })
     }
 
-    /// The bytes that a section of an object has now; `None` where it is not merged.
+    /// The bytes that a section of an object has now; `None` if it is not merged.
     pub fn size(&self, object: ObjectIndex, section: SectionIndex) -> Option<u64> {
         self.part(object, section).map(|part| part.contents.len() as u64)
     }
 
-    /// What a section of an object comes to; `None` where it is not merged.
+    /// What a section of an object comes to; `None` if it is not merged.
     pub fn part(&self, object: ObjectIndex, section: SectionIndex) -> Option<&MergedPart> {
         let (group, part) = *self.numbers.get(&MergeSource { object, section })?;
         self.groups.get(group as usize)?.merged.parts().get(part as usize)
@@ -62,7 +62,7 @@ impl Merges {
         &self.sources
     }
 
-    /// Where what was at a place of a section of an object is now; `None` where it is where it was.
+    /// Where what was at a place of a section of an object is now; `None` if it is where it was.
     pub fn place(&self, object: ObjectIndex, section: SectionIndex, offset: u64) -> Option<(MergeSource, u64)> {
         self.own(object, section)?.place(offset)
     }
@@ -126,7 +126,7 @@ impl Link<'_> {
         (loaded, beside)
     }
 
-    /// Whether a section that is not loaded is merged here: where something goes by its size, relocations are written,
+    /// Whether a section that is not loaded is merged here: if something goes by its size, relocations are written,
     /// or it may have names, as none of debug information and of `.comment` has.
     fn is_merged_beside(&self, section: &InputSection, followed: &mut QuickMap<OutputId, bool>) -> bool {
         let output = match section.output() {
@@ -170,7 +170,7 @@ struct Candidate {
     contents: Bytes,
 }
 
-/// What sections come to: as before where they are the same.
+/// What sections come to: as before if they are the same.
 fn group_of(kind: MergeKind, candidates: &[Candidate], before: Option<&Merges>) -> Arc<Group> {
     let first = candidates.first().and_then(|first| before?.numbers.get(&first.source));
     let old = first.and_then(|(group, _)| before?.groups.get(*group as usize));

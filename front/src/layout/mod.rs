@@ -68,7 +68,7 @@ use std::sync::Arc;
 /// What GNU ld makes of a script over objects.
 ///
 /// # Errors
-/// `Stop::Refused` where GNU ld makes no image, `Stop::NotEvaluated` where something is not evaluated.
+/// `Stop::Refused` if GNU ld makes no image, `Stop::NotEvaluated` if something is not evaluated.
 pub fn evaluate(script: &Script, objects: &[Object], settings: &Settings) -> Result<Evaluation, Stop> {
     Layout::new(script, objects, settings)?.evaluate(objects)
 }
@@ -135,7 +135,7 @@ impl Layout {
     /// Goes through the passes.
     ///
     /// # Errors
-    /// `Stop::Refused` where GNU ld makes no image, `Stop::NotEvaluated` where something is not evaluated.
+    /// `Stop::Refused` if GNU ld makes no image, `Stop::NotEvaluated` if something is not evaluated.
     pub fn evaluate(&self, objects: &[Object]) -> Result<Evaluation, Stop> {
         passes::run(self.program.clone(), &self.rows, objects, &self.settings, self.merged.as_deref())
     }

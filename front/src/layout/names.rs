@@ -12,7 +12,7 @@ pub struct Names {
 }
 
 impl Names {
-    /// The index of a name, which is entered where it is new.
+    /// The index of a name, which is entered if it is new.
     pub(crate) fn enter(&mut self, name: &[u8]) -> NameId {
         if let Some(id) = self.ids.get(name.as_bstr()) {
             return *id;

@@ -49,7 +49,7 @@ impl Link<'_> {
         is_changed
     }
 
-    /// The sections of a statement in their order; `None` where they are in it.
+    /// The sections of a statement in their order; `None` if they are in it.
     fn in_order(&self, sections: &[SectionId]) -> Option<Vec<SectionId>> {
         if sections.len() < 2 || !sections.iter().any(|id| self.linked.contains_key(id)) {
             return None;

@@ -181,7 +181,7 @@ impl Orphans {
         }
     }
 
-    /// Its flags with those of later orphans of its name; read-only where all of them are.
+    /// Its flags with those of later orphans of its name; read-only if all of them are.
     fn flags_of(&self, link: &Link<'_>, id: SectionId, section: &InputSection) -> Flags {
         let row = self.left.get(section.name.index()).map_or(&[][..], Vec::as_slice);
         let later = row.get(row.partition_point(|other| *other <= id)..).unwrap_or_default();

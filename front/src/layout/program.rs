@@ -151,7 +151,7 @@ pub(crate) struct Output {
     pub subalign: Option<ExprId>,
     pub load: Option<ExprId>,
     pub region: RegionId,
-    /// Whether the region goes on behind it: not where `--section-start` makes the section.
+    /// Whether the region goes on behind it: not if `--section-start` makes the section.
     pub moves_region: bool,
     pub load_region: Option<RegionId>,
     pub fill: FillBytes,
@@ -274,7 +274,7 @@ impl Program {
         self.find(self.names.find(name)?)
     }
 
-    /// A memory region, made where there is none of the name.
+    /// A memory region, made if there is none of the name.
     pub fn region(&mut self, name: &[u8]) -> RegionId {
         let name: Name = name.into();
         if let Some(found) = self.region_names.get(&name) {

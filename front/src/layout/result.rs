@@ -16,7 +16,7 @@ use crate::script::tree::{Name, Provision};
 use object::elf;
 use std::collections::HashSet;
 
-/// GNU ld's entry where nothing says it (elf.em, `ENTRY`: the scripts of x86-64 say `_start`).
+/// GNU ld's entry if nothing says it (elf.em, `ENTRY`: the scripts of x86-64 say `_start`).
 const DEFAULT_ENTRY: &[u8] = b"start";
 
 impl Link<'_> {
@@ -191,7 +191,7 @@ impl Link<'_> {
         Statement { span: step.span, output: step.output, dot: step.dot, kind }
     }
 
-    /// The gap of an assignment to `.`. Where an orphan follows that is aligned, GNU ld's statement of the gap is used
+    /// The gap of an assignment to `.`. If an orphan follows that is aligned, GNU ld's statement of the gap is used
     /// for that alignment once more, and nothing fills what it was for (ldlang.c, `insert_pad`).
     fn gap_of(&self, step: &Step) -> Option<Gap> {
         let end = step.gap_offset.wrapping_add(step.gap);
@@ -350,7 +350,7 @@ fn number_of(name: &Name) -> Option<u64> {
     }
 }
 
-/// The first output section of a name that was made, which is not that of the first statement where one before it names
+/// The first output section of a name that was made, which is not that of the first statement if one before it names
 /// that (section.c, `bfd_get_section_by_name`).
 pub(crate) fn first_made(link: &Link<'_>, name: &[u8]) -> Option<OutputId> {
     let outputs = link.program.outputs_of.get(&link.program.names.find(name)?)?;

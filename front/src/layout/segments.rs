@@ -1,4 +1,4 @@
-//! Which output sections GNU ld loads together where the script has no PHDRS (elf.c,
+//! Which output sections GNU ld loads together if the script has no PHDRS (elf.c,
 //! `_bfd_elf_map_sections_to_segments`).
 
 use super::flags::Flags;
@@ -122,7 +122,7 @@ pub fn is_relro(load: &Load, sections: &[InMemory], (low, high): (u64, u64)) -> 
     begins_inside && own.any(|one| one.size != 0 && one.flags.has_all(Flags::LOAD | Flags::CONTENTS))
 }
 
-/// Where the headers are in memory, if they are: with the first section, where there is room.
+/// Where the headers are in memory, if they are: with the first section, if there is room.
 fn place_of_headers(sections: &[InMemory], first: &InMemory, paging: &Paging) -> Option<HeaderPlace> {
     let (mask, size) = (paging.page.max(1) - 1, paging.header_size);
     let has_room = paging.wants_headers || first.load & mask >= size & mask;
@@ -132,7 +132,7 @@ fn place_of_headers(sections: &[InMemory], first: &InMemory, paging: &Paging) ->
     let mut load = first.load.wrapping_sub(size) & !mask;
     let mut is_apart = paging.separates_code && first.flags.has(Flags::CODE);
     if is_apart && load.wrapping_add(size).wrapping_sub(1) & !mask == first.load & !mask {
-        // On the page before, where there is one.
+        // On the page before, if there is one.
         is_apart = load > mask;
         load = if is_apart { load - mask - 1 } else { load };
     }
@@ -223,7 +223,7 @@ mod tests {
         assert_eq!(grouped(&[one, InMemory { region: 1, ..other }], &PAGED), [vec![0], vec![1]]);
     }
 
-    /// In front of the first section where there is room; in front of code in a segment of their own.
+    /// In front of the first section if there is room; in front of code in a segment of their own.
     #[test]
     fn headers() {
         let of = |load, flags, paging: &Paging| loads(&[section(load, 4, flags)], paging)[0].headers;

@@ -93,7 +93,7 @@ impl Default for Settings {
 }
 
 impl Settings {
-    /// Sets the page sizes from `-z max-page-size` and `-z common-page-size` (ldelf.c: where only one is given, the
+    /// Sets the page sizes from `-z max-page-size` and `-z common-page-size` (ldelf.c: if only one is given, the
     /// other follows).
     pub fn set_pages(&mut self, max_page: Option<u64>, common_page: Option<u64>) {
         let common = common_page.unwrap_or(0x1000);

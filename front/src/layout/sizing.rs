@@ -64,7 +64,7 @@ impl Link<'_> {
         Ok(())
     }
 
-    /// Lays out; once more where a page of the data segment can be saved, or its RELRO part is aligned.
+    /// Lays out; once more if a page of the data segment can be saved, or its RELRO part is aligned.
     pub fn size(&mut self, checks: bool) -> Result<(), Stop> {
         self.phase = Phase::Size;
         self.segment.phase = SegmentPhase::None;
@@ -515,7 +515,7 @@ impl Link<'_> {
         after
     }
 
-    /// The input sections of a statement, one after the other; as in the pass before, where they begin alike.
+    /// The input sections of a statement, one after the other; as in the pass before, if they begin alike.
     fn size_input(
         &mut self,
         id: OutputId,

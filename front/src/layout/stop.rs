@@ -30,7 +30,7 @@ impl Stop {
 pub struct Refused {
     /// Why.
     pub reason: RefusedReason,
-    /// Where in the script; `None` where it is of no statement.
+    /// Where in the script; `None` if it is of no statement.
     pub span: Option<Span>,
 }
 
@@ -153,7 +153,7 @@ impl RefusedReason {
 pub struct NotEvaluated {
     /// Why.
     pub reason: NotEvaluatedReason,
-    /// Where in the script; `None` where it is of no statement.
+    /// Where in the script; `None` if it is of no statement.
     pub span: Option<Span>,
 }
 

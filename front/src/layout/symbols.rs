@@ -71,7 +71,7 @@ pub(crate) struct Symbols {
 }
 
 impl Symbols {
-    /// The index of a name, which is entered where it is new, as one that nothing has named.
+    /// The index of a name, which is entered if it is new, as one that nothing has named.
     pub fn enter(&mut self, name: &[u8]) -> SymbolId {
         if let Some(id) = self.find(name) {
             return id;

@@ -6,7 +6,7 @@ use std::collections::BTreeMap;
 /// What an object's entries of `.eh_frame` refer to.
 #[derive(Clone, Debug, Default)]
 pub(crate) struct Unwinding {
-    /// The section, where it is one of entries as compilers write them.
+    /// The section, if it is one of entries as compilers write them.
     pub section: Option<SectionIndex>,
     /// By section of code: the symbols of its entries, and of the CIEs that these name.
     pub references: BTreeMap<SectionIndex, Vec<SymbolIndex>>,
@@ -27,7 +27,7 @@ pub(crate) fn unwinding_of(object: &Object) -> Unwinding {
     found
 }
 
-/// By section of code what its entries refer to; `None` where these are not understood.
+/// By section of code what its entries refer to; `None` if these are not understood.
 fn references_of(object: &Object, section: SectionIndex) -> Option<Vec<(SectionIndex, Vec<SymbolIndex>)>> {
     let data = object.contents(section);
     let relocations: BTreeMap<u64, SymbolIndex> =

@@ -49,7 +49,7 @@ impl Link<'_> {
         Ok(())
     }
 
-    /// Reads the file that a statement names without a wildcard, and those in front of it, where they are not read yet:
+    /// Reads the file that a statement names without a wildcard, and those in front of it, if they are not read yet:
     /// the statements that follow know its names (ldlang.c, `lookup_name`).
     fn read_named(&mut self, taking: usize, objects: &[Object], rows: &Rows) {
         let file = self.program.takings.get(taking).and_then(file_of);

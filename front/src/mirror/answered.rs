@@ -8,7 +8,7 @@ pub struct Answered {
     bytes: Vec<u8>,
     /// What was answered at the places that were written over, in the order of the writing.
     covered: Vec<(usize, Vec<u8>)>,
-    /// What differs from the image that was answered before; `None` where that is not known.
+    /// What differs from the image that was answered before; `None` if that is not known.
     changed: Option<Vec<Range<usize>>>,
     /// The number of the answer, as each has another one; 0 of no session's.
     pub(super) number: u64,
@@ -29,7 +29,7 @@ impl Answered {
         }
     }
 
-    /// The ranges outside of which it has the bytes of the image that was answered before; `None` where that is not
+    /// The ranges outside of which it has the bytes of the image that was answered before; `None` if that is not
     /// known.
     pub fn changed(&self) -> Option<&[Range<usize>]> {
         self.changed.as_deref()

@@ -20,7 +20,7 @@ pub(super) enum Change<'a> {
 }
 
 impl Change<'_> {
-    /// The edit that is sent; `None` where the object is too long to be sent.
+    /// The edit that is sent; `None` if the object is too long to be sent.
     pub(super) fn edit(&self) -> Option<Edit<'_>> {
         let edit = match self {
             Change::Add(held, position) => Edit::Add(held.name.as_bstr(), *position, &held.data),

@@ -21,7 +21,7 @@ pub use session::{
     GREATEST_PAYLOAD,
 };
 
-/// How often edits are made anew where a session refuses some.
+/// How often edits are made anew if a session refuses some.
 const ROUNDS: usize = 4;
 
 /// An object as a session has it.
@@ -53,7 +53,7 @@ pub struct Brought {
     pub length: u64,
     /// The objects that are refused, by their place in the link, in its order.
     pub refused: Vec<(usize, Refusal)>,
-    /// Why the script is refused, where it is, which is not sent where objects are refused; or that memory ran out as
+    /// Why the script is refused, if it is, which is not sent if objects are refused; or that memory ran out as
     /// all was linked.
     pub script_refused: Option<Refusal>,
     /// How many edits were sent.
@@ -65,7 +65,7 @@ pub struct Brought {
     pub stuck: Vec<(BString, Refusal)>,
 }
 
-/// A session, started where one is needed, and what it holds.
+/// A session, started if one is needed, and what it holds.
 #[derive(Debug)]
 pub struct Mirror {
     program: OsString,
@@ -115,7 +115,7 @@ impl Mirror {
         }
     }
 
-    /// Starts the session with these options, where it does not run with them already. It takes a while to get ready,
+    /// Starts the session with these options, if it does not run with them already. It takes a while to get ready,
     /// which the caller may use.
     pub fn start(&mut self, options: &Options) -> Result<(), SessionError> {
         if self.session.is_none() || self.options != *options {
@@ -135,7 +135,7 @@ impl Mirror {
     }
 
     /// Sends what the session does not hold yet, has it linked, and gives what its last link came to. The session is
-    /// started anew where the options are others. After an error it is ended, and the next call starts another one.
+    /// started anew if the options are others. After an error it is ended, and the next call starts another one.
     pub fn bring(&mut self, wanted: Wanted<'_>) -> Result<Brought, SessionError> {
         self.start(wanted.options)?;
         self.with_session(|session, state| {
@@ -155,7 +155,7 @@ impl Mirror {
         })
     }
 
-    /// The image of the last link; empty where it has faults. Of one after the image that was given back last the
+    /// The image of the last link; empty if it has faults. Of one after the image that was given back last the
     /// session answers what has changed.
     pub fn image(&mut self) -> Result<Answered, SessionError> {
         let spare = std::mem::take(&mut self.spare);
@@ -177,12 +177,12 @@ impl Mirror {
         self.spare = image;
     }
 
-    /// The map of the last link; empty where it has faults.
+    /// The map of the last link; empty if it has faults.
     pub fn map(&mut self) -> Result<Vec<u8>, SessionError> {
         self.query(Query::Map)
     }
 
-    /// The fault lines of the last link; empty where it has none.
+    /// The fault lines of the last link; empty if it has none.
     pub fn faults(&mut self) -> Result<Vec<u8>, SessionError> {
         self.query(Query::Faults)
     }
@@ -217,7 +217,7 @@ impl Mirror {
         self.answers += 1; // the next session has answered nothing
     }
 
-    /// Whether the session has ended by itself, as where it was killed.
+    /// Whether the session has ended by itself, for example if it was killed.
     pub fn has_ended(&mut self) -> bool {
         self.session.as_mut().map_or(false, Session::has_ended)
     }
@@ -237,7 +237,7 @@ impl Mirror {
         !self.state.order.is_empty()
     }
 
-    /// The number of the session's process, for other threads; 0 where there is none.
+    /// The number of the session's process, for other threads; 0 if there is none.
     pub fn process(&self) -> Arc<AtomicU32> {
         Arc::clone(&self.process)
     }
@@ -251,7 +251,7 @@ impl Mirror {
         self.with_session(|session, _| session.query(query))
     }
 
-    /// Does something with the session, and ends it where that fails.
+    /// Does something with the session, and ends it if that fails.
     fn with_session<T>(
         &mut self,
         act: impl FnOnce(&mut Session, &mut State) -> Result<T, SessionError>,
@@ -265,7 +265,7 @@ impl Mirror {
     }
 }
 
-/// Sets the script; gives why it is refused, where it is.
+/// Sets the script; gives why it is refused, if it is.
 fn send_script(session: &mut Session, state: &mut State, script: &[u8]) -> Result<Option<Refusal>, SessionError> {
     if script.len() > GREATEST_PAYLOAD {
         return Ok(Some(Refusal::TOO_LONG));
@@ -295,7 +295,7 @@ fn link(session: &mut Session, state: &mut State) -> Result<Option<Refusal>, Ses
     }
 }
 
-/// Sends the edits of objects; gives how many. Where some are refused, the places of others may be wrong, and further
+/// Sends the edits of objects; gives how many. If some are refused, the places of others may be wrong, and further
 /// edits follow.
 fn send_objects(session: &mut Session, state: &mut State, objects: &[Held]) -> Result<usize, SessionError> {
     state.refused.retain(|name, (data, _)| objects.iter().any(|held| held.name == *name && held.data == *data));

@@ -34,7 +34,7 @@ pub enum Orphans {
 pub struct Options {
     /// Whether sections that the program cannot reach are left out.
     pub collects_sections: bool,
-    /// The entry symbol, where the script cannot name it.
+    /// The entry symbol, if the script cannot name it.
     pub entry: Option<OsString>,
     /// What becomes of orphans; without it they are faults.
     pub orphans: Option<Orphans>,
@@ -146,11 +146,11 @@ pub struct Linked {
 /// What a session is asked for.
 #[derive(Clone, Copy, PartialEq, Eq, Debug)]
 pub enum Query {
-    /// The image of the last link; empty where that has faults.
+    /// The image of the last link; empty if that has faults.
     Image,
-    /// The map of the last link; empty where that has faults.
+    /// The map of the last link; empty if that has faults.
     Map,
-    /// The fault lines of the last link; empty where that has none.
+    /// The fault lines of the last link; empty if that has none.
     Faults,
 }
 
@@ -438,7 +438,7 @@ impl Session {
         Ok(length)
     }
 
-    /// Ends the session once it has answered all, and gives its status; `None` where a signal ended it.
+    /// Ends the session once it has answered all, and gives its status; `None` if a signal ended it.
     pub fn close(mut self) -> Option<i32> {
         self.to = None;
         self.child.wait().ok()?.code()
@@ -571,7 +571,7 @@ impl Session {
         }
     }
 
-    /// Reads after its input was closed: an end where nothing more comes.
+    /// Reads after its input was closed: an end if nothing more comes.
     fn read_last(&mut self) -> Result<(), SessionError> {
         self.wait_to_read()?;
         self.read_some()
@@ -583,7 +583,7 @@ impl Session {
 }
 
 impl AsFd for Session {
-    /// A descriptor that has something to read, between two commands, only where the session has ended.
+    /// A descriptor that has something to read, between two commands, only if the session has ended.
     fn as_fd(&self) -> std::os::unix::io::BorrowedFd<'_> {
         self.from.as_fd()
     }

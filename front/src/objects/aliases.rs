@@ -11,7 +11,7 @@ const SIZE_AT: usize = 32;
 /// What tables in a file are aligned to.
 const WORD: usize = 8;
 
-/// The bytes of an object in which each first name is one for the place of the second; `None` where one cannot be had.
+/// The bytes of an object in which each first name is one for the place of the second; `None` if one cannot be had.
 pub fn with_aliases(data: &[u8], aliases: &[(&BStr, &BStr)]) -> Option<Vec<u8>> {
     let headers = Headers::of(data)?;
     let (table_number, table) = headers.iter().find(|(_, header)| header.sh_type.get(Little) == elf::SHT_SYMTAB)?;
@@ -33,7 +33,7 @@ pub fn with_aliases(data: &[u8], aliases: &[(&BStr, &BStr)]) -> Option<Vec<u8>> 
     Some(changed)
 }
 
-/// Adds one name: in the place of a reference to it where there is one.
+/// Adds one name: in the place of a reference to it if there is one.
 fn add(
     symbols: &mut Vec<Sym64<Little>>,
     texts: &mut Vec<u8>,

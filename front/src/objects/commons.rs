@@ -40,7 +40,7 @@ pub struct CommonSection<'a> {
     pub place: &'a dyn Fn(&BStr) -> Option<BlockPlace>,
 }
 
-/// The bytes of an object with such a section; `None` where nothing changes, or the tables of the object are not whole.
+/// The bytes of an object with such a section; `None` if nothing changes, or the tables of the object are not whole.
 pub fn with_common_section(data: &[u8], section: &CommonSection<'_>) -> Option<Vec<u8>> {
     let header = FileHeader64::<Little>::parse(data).ok()?;
     let headers = header.section_headers(Little, data).ok()?;

@@ -32,7 +32,7 @@ impl Draft {
         }
     }
 
-    /// The bytes: those of before where nothing was changed.
+    /// The bytes: those of before if nothing was changed.
     pub(super) fn finish(self) -> Bytes {
         self.changed.map_or(self.data, Bytes::from)
     }
@@ -49,7 +49,7 @@ pub(super) struct Headers<'a> {
 }
 
 impl<'a> Headers<'a> {
-    /// The headers; `None` where the file is no such object, or its table is not whole.
+    /// The headers; `None` if the file is no such object, or its table is not whole.
     pub(super) fn of(data: &'a [u8]) -> Option<Headers<'a>> {
         if !data.starts_with(b"\x7fELF\x02\x01") {
             return None;
@@ -71,7 +71,7 @@ impl<'a> Headers<'a> {
         self.headers.get(number.0 as usize).filter(|_| number.0 > 0)
     }
 
-    /// The bytes of a section, and where they begin; none where they are not all in the file.
+    /// The bytes of a section, and where they begin; none if they are not all in the file.
     pub(super) fn contents(self, header: &SectionHeader64<Little>) -> (usize, &'a [u8]) {
         let range = range_of(header).filter(|_| header.sh_type(Little) != elf::SHT_NOBITS).unwrap_or(0..0);
         self.data.get(range.clone()).map_or((0, &[]), |bytes| (range.start, bytes))

@@ -71,7 +71,7 @@ impl Elf {
     /// Reads the tables of an object.
     ///
     /// # Errors
-    /// What the file is instead, where it is no relocatable object of ELF-64 for x86-64.
+    /// What the file is instead, if it is no relocatable object of ELF-64 for x86-64.
     pub fn parse(data: Bytes) -> Result<Elf, ObjectFault> {
         Elf::parse_cleared(data, Vec::new())
     }
@@ -144,7 +144,7 @@ impl Elf {
         (at > 0).then(|| self.section_of(index.0, header, *name))
     }
 
-    /// The bytes of a section; none where it has none in the file, or they are not all there.
+    /// The bytes of a section; none if it has none in the file, or they are not all there.
     pub fn contents(&self, index: SectionIndex) -> &[u8] {
         let header = self.headers().get(index.0 as usize);
         header.and_then(|header| self.data.get(contents_of(header, &self.data))).unwrap_or_default()
@@ -155,7 +155,7 @@ impl Elf {
         self.entries().len()
     }
 
-    /// The section that is the symbol table; number 0 where there is none.
+    /// The section that is the symbol table; number 0 if there is none.
     pub fn symbol_table(&self) -> SectionIndex {
         self.symbols.section
     }
@@ -370,7 +370,7 @@ fn entries<T: object::Pod>(bytes: &[u8]) -> &[T] {
     object::slice_from_bytes(bytes, count).map_or(&[], |(entries, _)| entries)
 }
 
-/// Where the bytes of a section are; empty where it has none, or they are not all there.
+/// Where the bytes of a section are; empty if it has none, or they are not all there.
 fn contents_of(header: &SectionHeader64<Little>, data: &[u8]) -> Range<usize> {
     if header.sh_type.get(Little) == elf::SHT_NOBITS {
         return 0..0;

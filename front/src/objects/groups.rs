@@ -65,7 +65,7 @@ fn words_of(bytes: &[u8]) -> Vec<u32> {
     bytes.chunks_exact(WORD).filter_map(|word| word.try_into().ok().map(u32::from_le_bytes)).collect()
 }
 
-/// The signature of a group: the name of a symbol, and that of its section where it has none.
+/// The signature of a group: the name of a symbol, and that of its section if it has none.
 fn signature(elf: &Elf, symbol: SymbolIndex) -> BString {
     let symbol = match elf.symbol(symbol) {
         Some(symbol) => symbol,

@@ -6,7 +6,7 @@ use object::elf::{self, FileHeader64, Sym64};
 use object::read::elf::FileHeader;
 use object::LittleEndian as Little;
 
-/// The object; `None` where a file is no ELF file of x86-64.
+/// The object; `None` if a file is no ELF file of x86-64.
 pub fn just_symbols(data: &[u8]) -> Option<Bytes> {
     let header = FileHeader64::<Little>::parse(data).ok()?;
     if header.e_machine.get(Little) != elf::EM_X86_64 {

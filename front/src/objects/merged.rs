@@ -150,7 +150,7 @@ enum Moved {
 
 impl MergeFindings {
     /// What changes in an object, of whose sections `own` are merged, ascending; `is_loaded` says of a section whether
-    /// it is in the image by more than its own flags. `None` where its tables are not whole.
+    /// it is in the image by more than its own flags. `None` if its tables are not whole.
     pub fn of(
         data: &[u8],
         object: ObjectIndex,
@@ -272,7 +272,7 @@ impl MergeFindings {
 
 impl MergeEdits {
     /// The bytes of an object with the changes, and with what others ask; `anchor` gives the name of a section of an
-    /// object. `None` where its tables are not whole.
+    /// object. `None` if its tables are not whole.
     pub fn applied(
         &self,
         asked: &MergeRequests,
@@ -306,7 +306,7 @@ impl MergeEdits {
         written.finish(headers.place(SectionIndex(0)), count)
     }
 
-    /// Changes the references, in place where nothing else of the file is there.
+    /// Changes the references, in place if nothing else of the file is there.
     fn put_references(&self, headers: Headers<'_>, written: &mut Written, names: &Names) -> Option<()> {
         let is_apart = !self.references.is_empty() && !has_overlaps(headers);
         let mut tables: BTreeMap<SectionIndex, usize> = BTreeMap::new();
@@ -457,7 +457,7 @@ impl Written {
         (self.headers.len() / SECTION_HEADER <= GREATEST_COUNT).then_some(())
     }
 
-    /// Puts the headers back: in their place, or at the end where there are more.
+    /// Puts the headers back: in their place, or at the end if there are more.
     fn finish(mut self, headers_at: usize, count: usize) -> Option<Bytes> {
         let now = self.headers.len() / SECTION_HEADER;
         if now == count {

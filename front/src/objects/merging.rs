@@ -24,7 +24,7 @@ pub struct MergeKind {
 }
 
 impl MergeKind {
-    /// The kind of a section; `None` where GNU ld leaves it as it is (merge.c, `_bfd_add_merge_section`).
+    /// The kind of a section; `None` if GNU ld leaves it as it is (merge.c, `_bfd_add_merge_section`).
     pub fn of(section: &Section<'_>) -> Option<MergeKind> {
         let is_strings = section.flags.has(SectionFlags::STRINGS);
         let (entry, align) = (section.entry_size, section.align);
@@ -64,7 +64,7 @@ pub struct Merged {
 /// What a section comes to.
 #[derive(Clone, PartialEq, Eq, Debug, Default)]
 pub struct MergedPart {
-    /// Its bytes; none where it is left out.
+    /// Its bytes; none if it is left out.
     pub contents: Vec<u8>,
     /// Whether it is left out, as all that it has is elsewhere.
     pub is_left_out: bool,
@@ -171,7 +171,7 @@ impl<'a> Table<'a> {
         Table { kind, slots, current: Vec::new(), entries: Vec::new(), found: vec![Vec::new(); sections.len()] }
     }
 
-    /// The slot of an entry, which is added where no section before has it with this alignment (merge.c,
+    /// The slot of an entry, which is added if no section before has it with this alignment (merge.c,
     /// `sec_merge_add`).
     fn add(&mut self, content: &'a [u8], align: u32, part: u32) -> u32 {
         let next = self.entries.len() as u32;
@@ -257,7 +257,7 @@ impl<'a> Table<'a> {
         }
     }
 
-    /// Sorts strings by their ends (merge.c, `strrevcmp`); where all have one alignment that is greater than a
+    /// Sorts strings by their ends (merge.c, `strrevcmp`); if all have one alignment that is greater than a
     /// character, first by what is past it (`strrevcmp_align`).
     fn sort(&self, order: &mut [u32]) {
         let entries = &self.entries;
@@ -340,7 +340,7 @@ impl<'a> Table<'a> {
                 *size = Some(one.offset + one.content.len() as u64 + end);
             }
         }
-        // The last section is filled up where all sections were.
+        // The last section is filled up if all sections were.
         let mask = self.kind.align - 1;
         let is_filled = sections.iter().all(|bytes| bytes.len() as u64 & mask == 0);
         if let Some(Some(size)) = last.and_then(|last| sizes.get_mut(last)).filter(|_| is_filled) {
@@ -524,7 +524,7 @@ mod tests {
         assert_eq!(at(&found, 1, 0), (0, 1));
     }
 
-    /// merge.c, `_bfd_merge_sections`: where all sections are filled up, the last one is.
+    /// merge.c, `_bfd_merge_sections`: if all sections are filled up, the last one is.
     #[test]
     fn the_last_section_is_filled_up() {
         let found = merged(strings(4), &[b"abc\0", b"defg\0\0\0\0h\0\0\0"]);

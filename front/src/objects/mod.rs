@@ -143,7 +143,7 @@ impl Object {
     /// An object: its name in the session of `ldi`, where it is from, and its bytes as its file has them.
     ///
     /// Its bytes become those of the profile of `ldi`: without flags that `ldi` need not know, and without references
-    /// by a global offset table where none is needed. Sections with SHF_GNU_RETAIN are in [`Object::retained`]. Bytes
+    /// by a global offset table if none is needed. Sections with SHF_GNU_RETAIN are in [`Object::retained`]. Bytes
     /// that are no object have no sections and no symbols, and [`Object::fault`] says why.
     pub fn new(name: BString, origin: Origin, data: Bytes) -> Object {
         let Profiled { data, cleared, retained, relaxed, tabled, unique } = Profiled::of(data);
@@ -171,7 +171,7 @@ impl Object {
         groups::without(self.data(), dropped).and_then(|data| self.with_bytes(data)).unwrap_or(self)
     }
 
-    /// The same with other bytes, which are in the profile; `None` where these are no object.
+    /// The same with other bytes, which are in the profile; `None` if these are no object.
     fn with_bytes(&self, data: Bytes) -> Option<Object> {
         let elf = Elf::parse_cleared(data, self.elf().cleared().to_vec()).ok()?;
         let mut changed = self.clone();

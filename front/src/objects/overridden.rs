@@ -11,7 +11,7 @@ const SYMBOL: usize = std::mem::size_of::<Sym64<Little>>();
 const HOME_AT: usize = 6;
 const VALUE_AT: usize = 8;
 
-/// The bytes of an object in which these names are undefined; `None` where there are none of them, or it has no
+/// The bytes of an object in which these names are undefined; `None` if there are none of them, or it has no
 /// symbols.
 pub fn without_names(data: &Bytes, names: &[&BStr]) -> Option<Bytes> {
     let headers = Headers::of(data).filter(|_| !names.is_empty())?;

@@ -41,7 +41,7 @@ pub(super) struct Profiled {
 
 impl Profiled {
     /// Takes out of an object what `ldi` need not know: flags of sections, STB_GNU_UNIQUE (a name is one in an image),
-    /// and references by a global offset table where none is needed.
+    /// and references by a global offset table if none is needed.
     pub(super) fn of(data: Bytes) -> Profiled {
         let mut found = Profiled { data: data.clone(), ..Profiled::default() };
         let headers = match Headers::of(&data) {
@@ -160,7 +160,7 @@ fn take_unique(draft: &mut Draft, headers: Headers<'_>, table: &SectionHeader64<
 }
 
 /// The bytes of an object whose sections of these numbers have SHF_ALLOC, without flags that `ldi` does not link;
-/// `None` where its table of sections is not whole.
+/// `None` if its table of sections is not whole.
 pub fn with_loaded(data: &[u8], sections: &[SectionIndex]) -> Option<Vec<u8>> {
     const FLAGS_AT: usize = 8;
     let header = FileHeader64::<Little>::parse(data).ok()?;

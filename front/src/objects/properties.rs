@@ -30,7 +30,7 @@ enum Rule {
     Or,
     /// The bits that all have.
     And,
-    /// The bits that any has, where all have the property.
+    /// The bits that any has, if all have the property.
     OrOfAll,
 }
 
@@ -83,7 +83,7 @@ impl Rule {
 pub struct Properties(BTreeMap<u32, u64>);
 
 impl Properties {
-    /// The properties of a note; `None` where GNU ld does not know one, or the note is another.
+    /// The properties of a note; `None` if GNU ld does not know one, or the note is another.
     pub fn parse(note: &[u8]) -> Option<Properties> {
         let mut found = BTreeMap::new();
         let size = word(note, 4)? as usize;
@@ -105,7 +105,7 @@ impl Properties {
         Some(Properties(found))
     }
 
-    /// Takes what another object has: nothing, where it has no note (elf-properties.c, `elf_merge_gnu_property_list`).
+    /// Takes what another object has: nothing, if it has no note (elf-properties.c, `elf_merge_gnu_property_list`).
     pub fn merge(&mut self, other: Option<&Properties>) {
         let empty = Properties::default();
         let other = other.unwrap_or(&empty);
@@ -120,7 +120,7 @@ impl Properties {
         self.0 = merged;
     }
 
-    /// The note of the properties; `None` where there are none (elfxx-x86.c, `_bfd_x86_elf_link_fixup_gnu_properties`).
+    /// The note of the properties; `None` if there are none (elfxx-x86.c, `_bfd_x86_elf_link_fixup_gnu_properties`).
     pub fn note(&self) -> Option<Vec<u8>> {
         let counts = |(kind, value): &(&u32, &u64)| {
             let rule = Rule::of(**kind);
@@ -160,7 +160,7 @@ impl Object {
         self.sections().filter(is_one).map(|section| section.index)
     }
 
-    /// The same whose section has other bytes, which are of the whole link; `None` where its tables are not whole.
+    /// The same whose section has other bytes, which are of the whole link; `None` if its tables are not whole.
     pub fn with_note(&self, section: SectionIndex, note: &[u8]) -> Option<Object> {
         let mut object = self.with_bytes(with_contents(self.data(), section, note)?)?;
         object.set_note_of_link();

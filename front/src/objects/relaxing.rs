@@ -69,7 +69,7 @@ pub(super) fn may_relax(kind: u32) -> bool {
     matches!(kind, elf::R_X86_64_GOTPCREL | elf::R_X86_64_GOTPCRELX | elf::R_X86_64_REX_GOTPCRELX)
 }
 
-/// The same reference without a table; `None` where GNU ld has an entry for it.
+/// The same reference without a table; `None` if GNU ld has an entry for it.
 pub(super) fn relaxed(code: &[u8], reference: Reference) -> Option<Relaxed> {
     let Reference { offset, kind, addend, symbol } = reference;
     let has_rex = kind == elf::R_X86_64_REX_GOTPCRELX;
@@ -134,7 +134,7 @@ impl Instruction {
         Relaxed { offset: self.offset, kind, addend: -4, bytes }
     }
 
-    /// An operation with the value itself; `narrowing` are the bits of REX that are not needed where the value is not
+    /// An operation with the value itself; `narrowing` are the bits of REX that are not needed if the value is not
     /// extended by its sign.
     fn immediate(&self, operation: u8, modrm: u8, narrowing: u8, symbol: Referred) -> Option<Relaxed> {
         let is_wide = self.rex & REX_W != 0;

@@ -101,7 +101,7 @@ impl fmt::Debug for SectionFlags {
 pub struct Section<'a> {
     /// Its number.
     pub index: SectionIndex,
-    /// Its name; empty where the table of names does not have it.
+    /// Its name; empty if the table of names does not have it.
     pub name: &'a BStr,
     /// `sh_type`
     pub kind: SectionKind,

@@ -127,7 +127,7 @@ impl From<u16> for Home {
 pub struct Symbol<'a> {
     /// Its number.
     pub index: SymbolIndex,
-    /// Its name; empty where the table of names does not have it.
+    /// Its name; empty if the table of names does not have it.
     pub name: &'a BStr,
     /// Its binding.
     pub binding: Binding,
@@ -149,7 +149,7 @@ impl Symbol<'_> {
         self.home == Home::Undefined
     }
 
-    /// How good a definition it is: strong, a common block, weak; `None` where it is none.
+    /// How good a definition it is: strong, a common block, weak; `None` if it is none.
     pub fn rank(&self) -> Option<Rank> {
         match (self.home, self.binding) {
             (Home::Undefined, _) => None,

@@ -100,7 +100,7 @@ pub struct NamedLocal {
 
 impl Object {
     /// The same whose references by the table are to its symbols: `place_of` gives the place of an entry in the table,
-    /// and `None` for a name that nothing defines; `named` are local symbols that have one. `None` where its tables are
+    /// and `None` for a name that nothing defines; `named` are local symbols that have one. `None` if its tables are
     /// not whole.
     pub fn with_table(&self, place_of: &dyn Fn(SymbolIndex) -> Option<u64>, named: &[NamedLocal]) -> Option<Object> {
         let (data, table) = with_symbols(self.data(), named)?;

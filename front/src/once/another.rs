@@ -26,11 +26,11 @@ pub(crate) fn of_what_is_left(plan: &LinkPlan) -> Option<String> {
     first(left.map(Note::to_string).collect())
 }
 
-/// Why GNU ld may make a link that has faults; `None` where they are the program's, which GNU ld has too.
+/// Why GNU ld may make a link that has faults; `None` if they are the program's, which GNU ld has too.
 pub(crate) fn of_faults(command: &Command, plan: &LinkPlan, faults: &[u8]) -> Option<String> {
     let stops = matches!(plan.evaluation, Err(Stop::Refused(_)));
     let is_own = |line: FaultLine<'_>| match &line.fault {
-        // GNU ld has an entry of a table where a number does not fit.
+        // GNU ld has an entry of a table if a number does not fit.
         Some((FaultRule::FieldOverflow, words)) => !is_in_relaxed(plan, words),
         Some((FaultRule::TargetNotInOutput, words)) if is_placed(command, plan, words) => false,
         Some((rule, words)) => is_own(*rule, words, command, stops),

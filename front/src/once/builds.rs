@@ -35,7 +35,7 @@ fn process(number: u32) -> Option<Process> {
     Some(Process { name: name.into(), parent: words.get(1)?.parse().ok()?, start: (*words.get(19)?).into() })
 }
 
-/// What tells the build of a process from others; `None` where it is in none.
+/// What tells the build of a process from others; `None` if it is in none.
 fn build_of(mut number: u32) -> Option<String> {
     let mut found = None;
     for _ in 0..GREATEST_DEPTH {

@@ -13,9 +13,9 @@ use crate::streams::{self, Printed};
 
 /// The variable that names another linker.
 const VARIABLE: &str = "LDI_FALLBACK";
-/// What it is where no other linker is to link.
+/// What it is if no other linker is to link.
 const NONE: &str = "none";
-/// The names of the linkers on PATH that are taken where it is not set.
+/// The names of the linkers on PATH that are taken if it is not set.
 const OTHERS: [&str; 2] = ["ld.bfd", "ld"];
 
 /// Why another linker is needed.
@@ -23,11 +23,11 @@ pub(crate) struct Reasons<'a> {
     lines: Vec<String>,
     /// What is the same for links that need it for the same reason, of whatever objects; else the lines are.
     kind: Option<String>,
-    /// Says more than the lines, before them: where nothing links, or with `--verbose`.
+    /// Says more than the lines, before them: if nothing links, or with `--verbose`.
     say_more: Option<&'a dyn Fn()>,
-    /// What is said in place of the lines where the other linker links: the first thing that is to blame.
+    /// What is said in place of the lines if the other linker links: the first thing that is to blame.
     first: Option<&'a dyn Fn() -> String>,
-    /// The status where nothing links, which `say_more` alone says then; `None`: the lines are said.
+    /// The status if nothing links, which `say_more` alone says then; `None`: the lines are said.
     status: Option<Status>,
 }
 
@@ -42,12 +42,12 @@ impl<'a> Reasons<'a> {
         Reasons { kind: Some(kind.into()), say_more: Some(say_more), ..Reasons::of(vec![line]) }
     }
 
-    /// Why another linker may make a link that came to no image; what is said, and the status, where it does not.
+    /// Why another linker may make a link that came to no image; what is said, and the status, if it does not.
     pub(super) fn of_no_image(line: String, say: &'a dyn Fn(), status: Status) -> Reasons<'a> {
         Reasons { say_more: Some(say), status: Some(status), ..Reasons::of(vec![line]) }
     }
 
-    /// The same with what is said where the other linker links.
+    /// The same with what is said if the other linker links.
     pub(super) fn with_first(self, first: &'a dyn Fn() -> String) -> Reasons<'a> {
         Reasons { first: Some(first), ..self }
     }
@@ -73,15 +73,15 @@ pub(crate) struct HandedOver {
     pub(crate) lines: Vec<String>,
     /// What is the same for links of one kind.
     pub(crate) kind: Option<String>,
-    /// What is said before the lines, where nothing links or with `--verbose`.
+    /// What is said before the lines, if nothing links or with `--verbose`.
     pub(crate) more: Vec<Printed>,
-    /// What is said in their place where the other linker links.
+    /// What is said in their place if the other linker links.
     pub(crate) first: Option<String>,
     /// `--verbose`
     pub(crate) is_verbose: bool,
     /// Whether no other linker is to link.
     pub(crate) is_forbidden: bool,
-    /// The status where nothing links, and no line says so.
+    /// The status if nothing links, and no line says so.
     pub(crate) status: Option<Status>,
 }
 
@@ -100,7 +100,7 @@ impl HandedOver {
         }
     }
 
-    /// Runs the other linker in place of this process; gives a status where there is none.
+    /// Runs the other linker in place of this process; gives a status if there is none.
     pub(crate) fn run(&self, words: &[OsString], environment: &Environment) -> Status {
         let mut environment = environment.clone();
         if self.is_forbidden {
@@ -143,7 +143,7 @@ enum BadFallback {
 /// The path of a program with its words.
 type Linker = (PathBuf, Vec<OsString>);
 
-/// The linker that is to link; `None` where there is none.
+/// The linker that is to link; `None` if there is none.
 fn fallback_of(environment: &Environment) -> Result<Option<Linker>, BadFallback> {
     let text = environment.get(OsStr::new(VARIABLE)).cloned().unwrap_or_default();
     let shown = text.to_string_lossy().into_owned();
@@ -170,7 +170,7 @@ fn fallback_of(environment: &Environment) -> Result<Option<Linker>, BadFallback>
     }
 }
 
-/// The words of a text as a shell parts them; `None` where a quotation has no end.
+/// The words of a text as a shell parts them; `None` if a quotation has no end.
 fn words_of(text: &[u8]) -> Option<Vec<OsString>> {
     let (mut words, mut word, mut quote) = (Vec::new(), None::<Vec<u8>>, None);
     let mut bytes = text.iter().copied();
@@ -204,7 +204,7 @@ fn of_others(words: &[OsString]) -> Vec<&OsStr> {
     found
 }
 
-/// Runs the other linker in place of this process, with the same words; gives a status where there is none.
+/// Runs the other linker in place of this process, with the same words; gives a status if there is none.
 ///
 /// That it does is said once a build for reasons of one kind, and always if `is_verbose`.
 pub(super) fn hand_over(

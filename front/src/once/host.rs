@@ -18,7 +18,7 @@ pub(crate) trait Host {
     /// It cannot be written, and then the old one stands as it was.
     fn write(&self, path: &Path, pieces: &[&[u8]], mode: Mode) -> Result<(), NotWritten>;
 
-    /// Has another linker link; gives a status where none does.
+    /// Has another linker link; gives a status if none does.
     fn hand_over(&self, reasons: &Reasons<'_>, link: &Asked<'_>) -> Status;
 
     /// Whether the session is for other links too.

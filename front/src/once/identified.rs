@@ -68,7 +68,7 @@ pub(crate) fn file_of(
     }
 }
 
-/// Gives a file the image with the ID that the note has now, which stands at a place of it; where that image differs
+/// Gives a file the image with the ID that the note has now, which stands at a place of it; if that image differs
 /// from the one before in more, it is given, and the file is to be made anew.
 fn with_id(
     plan: &mut LinkPlan,
@@ -132,7 +132,7 @@ fn image_again(plan: &LinkPlan, mirror: &mut Mirror) -> Result<Answered, Session
     mirror.image()
 }
 
-/// The ID of a file, whose ID so far is at a stretch; `None` where it is a number that is given.
+/// The ID of a file, whose ID so far is at a stretch; `None` if it is a number that is given.
 fn id_of(style: &BuildId, file: &FileImage, stretch: Range<u64>) -> Option<Vec<u8>> {
     match style {
         BuildId::Sha1 => Some(hash_of(file, HashKind::Sha1, stretch)),

@@ -49,7 +49,7 @@ pub enum Status {
 }
 
 impl Status {
-    /// The status of a number; `None` where it has none.
+    /// The status of a number; `None` if it has none.
     pub(crate) fn of(number: u8) -> Option<Status> {
         let all = [Status::Good, Status::Faults, Status::Refused, Status::Device, Status::Memory];
         all.into_iter().find(|status| *status as u8 == number)
@@ -124,7 +124,7 @@ pub(crate) fn plan_link(
     asked: &Asked<'_>,
 ) -> Result<Planned, LinkFault> {
     if mirror.session().is_none() {
-        // It gets ready while the objects are read; where it cannot be started, that is said once they are.
+        // It gets ready while the objects are read; if it cannot be started, that is said once they are.
         let _ = mirror.start(&options_of(&command, None));
     }
     let inputs = Inputs::load(&command, scripts, snapshot)?;
@@ -208,7 +208,7 @@ fn while_sending<T>(
 struct Link<'a> {
     command: &'a Command,
     plan: &'a mut LinkPlan,
-    /// What came of the comparison, where an image of the plan was compared before.
+    /// What came of the comparison, if an image of the plan was compared before.
     known: &'a mut Option<Verdict>,
     asked: Asked<'a>,
     host: &'a dyn Host,
@@ -251,7 +251,7 @@ impl Link<'_> {
             .for_each(|note| eprintln!("{note}"));
     }
 
-    /// A link that comes to no image: another linker makes it where there is a reason, else this is said.
+    /// A link that comes to no image: another linker makes it if there is a reason, else this is said.
     fn no_image(&self, why: Option<String>, say: &dyn Fn(), status: Status) -> Status {
         match why {
             Some(why) => {
@@ -490,7 +490,7 @@ pub(crate) fn notes_of(command: &Command, plan: &LinkPlan) -> Vec<String> {
     command.notes.iter().cloned().chain(absent).chain(plan.inputs.without_identity()).chain(placed).collect()
 }
 
-/// Why a symbol has no value, where its section is not in the image.
+/// Why a symbol has no value, if its section is not in the image.
 pub(crate) fn section_outside(plan: &LinkPlan) -> Option<String> {
     match &plan.evaluation {
         Err(Stop::Refused(refused)) => match &refused.reason {

@@ -53,7 +53,7 @@ pub(super) fn detail(plan: &LinkPlan, refused: &[(usize, Refusal)], environment:
     }
 }
 
-/// The script, where it is refused.
+/// The script, if it is refused.
 pub(super) fn say_refused_script(plan: &LinkPlan, refusal: Refusal, environment: &Environment) {
     say_all(&of_script(plan, refusal, environment));
 }

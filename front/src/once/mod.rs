@@ -53,7 +53,7 @@ fn by_itself(words: &[OsString], environment: &Environment) -> u8 {
     status as u8
 }
 
-/// Says why a link ended, where it did; gives its status, and the plan that it went by.
+/// Says why a link ended, if it did; gives its status, and the plan that it went by.
 pub(crate) fn said(done: Result<Done, LinkFault>) -> Done {
     match done {
         Ok(done) => done,

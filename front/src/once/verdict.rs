@@ -79,7 +79,7 @@ pub(crate) fn verdict(plan: &LinkPlan, image: &[u8], map: &[u8], is_verbose: boo
     Ok(verdict)
 }
 
-/// The differences: with the constructs that explain them, where some are said otherwise.
+/// The differences: with the constructs that explain them, if some are said otherwise.
 fn different(plan: &LinkPlan, checked: &Checked, is_verbose: bool) -> Verdict {
     let mut lines: Vec<String> =
         plan.residual.changed().filter(|note| is_said(plan, note)).map(Note::to_string).collect();
@@ -124,7 +124,7 @@ fn unknown(plan: &LinkPlan, stop: &Stop) -> Vec<String> {
     lines
 }
 
-/// The type in the head of an output section, as `(INFO)`, where it has one by which it is not loaded.
+/// The type in the head of an output section, as `(INFO)`, if it has one by which it is not loaded.
 fn kind_of(plan: &LinkPlan, span: Option<Span>) -> Option<String> {
     let statement = plan.evaluation.as_ref().ok()?.statement_at(span?)?;
     if !matches!(statement.kind, StatementKind::Output(_)) {

@@ -25,7 +25,7 @@ pub struct Apart {
 
 impl Apart {
     /// Writes the pieces of a file whose place is the path, or what that leads to; `mode` is less the umask. `None`
-    /// where the place is one of no regular file.
+    /// if the place is one of no regular file.
     ///
     /// # Errors
     /// It cannot be written, and then nothing is left of it.
@@ -55,7 +55,7 @@ impl Apart {
         }
     }
 
-    /// Puts it in place, in one step: the names are exchanged where there is a regular file, which is quicker on ext4.
+    /// Puts it in place, in one step: the names are exchanged if there is a regular file, which is quicker on ext4.
     ///
     /// # Errors
     /// It is not there any more, is not this user's, or cannot be put there.

@@ -1,4 +1,4 @@
-//! Whether somebody has a file open for writing: asked of the system by a lease, which it refuses where one has.
+//! Whether somebody has a file open for writing: asked of the system by a lease, which it refuses if one has.
 //!
 //! A lease to read (`F_SETLEASE`) is refused with EAGAIN while a writer has the file open, through whatever name. It is
 //! given back at once. It can be had of one's own files, or as root, and on local file systems alone: what network file
@@ -21,7 +21,7 @@ const LOCAL: &[u64] = &[
 /// fcntl(2): the signal to one who has a lease.
 const F_SETSIG: libc::c_int = 10;
 
-/// Whether a process has a file open for writing, which is open here for reading alone; `None` where that cannot be
+/// Whether a process has a file open for writing, which is open here for reading alone; `None` if that cannot be
 /// asked.
 pub fn has_writer(file: &File) -> Option<bool> {
     let kind = rustix::fs::fstatfs(file).ok()?.f_type as u64 & 0xFFFF_FFFF;

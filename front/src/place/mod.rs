@@ -1,6 +1,6 @@
 //! Files written beside their place and exchanged: whole, or not at all.
 //!
-//! The step is an exchange of the two names where the system has it and a file is there, else a rename. ext4 writes a
+//! The step is an exchange of the two names if the system has it and a file is there, else a rename. ext4 writes a
 //! new file out to the disk when it is renamed over another (a rename of 12 MB takes some 20 ms), but not when it is
 //! exchanged. The old file then has the name beside, and is removed.
 

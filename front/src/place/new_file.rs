@@ -24,7 +24,7 @@ pub enum Opened {
     InPlace(PathBuf),
 }
 
-/// A file beside its place, which it has not taken yet. It is removed when it is dropped. Where the file system can, it
+/// A file beside its place, which it has not taken yet. It is removed when it is dropped. If the file system can, it
 /// has no name until it is whole (O_TMPFILE), so that a process that is killed leaves nothing.
 #[derive(Debug)]
 pub struct NewFile {
@@ -62,7 +62,7 @@ impl NewFile {
         Ok(Opened::Beside(new))
     }
 
-    /// Makes it without a name; `None` where the file system cannot, or `/proc` is not there.
+    /// Makes it without a name; `None` if the file system cannot, or `/proc` is not there.
     fn nameless(target: &Path, mode: Mode) -> Option<NewFile> {
         let folder = target.parent().filter(|folder| !folder.as_os_str().is_empty()).unwrap_or_else(|| Path::new("."));
         let mut options = OpenOptions::new();
@@ -74,7 +74,7 @@ impl NewFile {
         Some(NewFile { target, beside, is_named: false, file: Some(file), reader, is_in_place: false })
     }
 
-    /// Gives it its name beside its place, where it has none yet.
+    /// Gives it its name beside its place, if it has none yet.
     fn name(&mut self) -> io::Result<()> {
         for _ in 0..MOST_NAMES {
             if self.is_named {
@@ -205,7 +205,7 @@ fn reader_of(beside: &Path, file: &File) -> io::Result<File> {
     }
 }
 
-/// Puts a file in the place of another in one step. Where that is a regular file, the two are exchanged, so that the
+/// Puts a file in the place of another in one step. If that is a regular file, the two are exchanged, so that the
 /// old one has the first name now, which is given.
 ///
 /// # Errors
@@ -219,7 +219,7 @@ pub fn put_in_place(beside: &Path, target: &Path) -> io::Result<Option<PathBuf>>
     Ok(None)
 }
 
-/// What a path leads to by symbolic links, also where no file is there yet.
+/// What a path leads to by symbolic links, also if no file is there yet.
 pub(super) fn resolved(path: &Path) -> io::Result<PathBuf> {
     let mut path = path.to_owned();
     for _ in 0..MOST_LINKS {

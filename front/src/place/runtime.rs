@@ -6,7 +6,7 @@ use std::io;
 use std::os::unix::fs::{DirBuilderExt, MetadataExt};
 use std::path::{Path, PathBuf};
 
-/// The folder `ldi` in that of `XDG_RUNTIME_DIR`, else a folder of the user's own under `/tmp`; `None` where neither
+/// The folder `ldi` in that of `XDG_RUNTIME_DIR`, else a folder of the user's own under `/tmp`; `None` if neither
 /// can be had. Each is this user's and no other's: mode 0700, and no symbolic link.
 pub fn runtime_folder(xdg_runtime_dir: Option<&OsStr>) -> Option<PathBuf> {
     let above = xdg_runtime_dir.map(Path::new).filter(|above| above.is_absolute() && is_own(above));
@@ -20,7 +20,7 @@ fn user() -> u32 {
     rustix::process::getuid().as_raw()
 }
 
-/// The folder, made where it is not there.
+/// The folder, made if it is not there.
 fn made(path: PathBuf) -> Option<PathBuf> {
     match DirBuilder::new().mode(0o700).create(&path) {
         Err(fault) if fault.kind() != io::ErrorKind::AlreadyExists => None,

@@ -136,7 +136,7 @@ fn a_full_disk_leaves_the_old_file() {
     fs::write(&path, "old").unwrap();
     if let Opened::Beside(mut new) = NewFile::open(&path, TEXT, false).unwrap() {
         new.write(&[b"half"]).unwrap();
-        drop(new); // as where a write fails
+        drop(new); // as when a write fails
     }
     assert_eq!(fs::read(&path).unwrap(), b"old");
     assert_eq!(folder.names(), ["image"]);

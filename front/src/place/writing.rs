@@ -18,7 +18,7 @@ const MOST_PIECES: usize = 1000;
 pub(super) fn take_length_as_error() {
     static TAKEN: Once = Once::new();
     TAKEN.call_once(|| {
-        // where it cannot be done, the signal ends the process, which leaves the old file
+        // if it cannot be done, the signal ends the process, which leaves the old file
         let _ = signal_hook::flag::register(SIGXFSZ, Arc::new(AtomicBool::new(false)));
     });
 }
@@ -60,7 +60,7 @@ pub fn write_all(to: &mut impl Write, pieces: &[&[u8]]) -> io::Result<()> {
 /// Writes to something that is no regular file, as `/dev/null` or a pipe.
 ///
 /// # Errors
-/// What the system says; also where it is a pipe that nobody reads and a reader is needed.
+/// What the system says; also if it is a pipe that nobody reads and a reader is needed.
 pub fn write_in_place(path: &Path, pieces: &[&[u8]], reader: Reader) -> io::Result<()> {
     let waits = reader == Reader::IsWaitedFor;
     let flags = if waits { OFlags::NOCTTY } else { OFlags::NOCTTY | OFlags::NONBLOCK };

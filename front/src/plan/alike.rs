@@ -20,7 +20,7 @@ impl LinkPlan {
     }
 
     /// Takes other bytes of files that are objects and say the same of names, sections and relocations as before: with
-    /// these the plan is the same but for what the session holds. Nothing is taken where one is another.
+    /// these the plan is the same but for what the session holds. Nothing is taken if one is another.
     pub fn take_alike(&mut self, snapshot: &Snapshot, changed: &[PathBuf]) -> bool {
         let mut taken: Vec<(usize, Object)> = Vec::new();
         for path in changed {

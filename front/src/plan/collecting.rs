@@ -79,9 +79,9 @@ fn kept_statements(script: &Script) -> impl Iterator<Item = (&InputStatement, Sp
 /// What is reached so far.
 struct Reach<'a> {
     objects: &'a [Object],
-    /// By name: where its definition is, where it is in a section.
+    /// By name: where its definition is, if it is in a section.
     definitions: QuickMap<&'a BStr, Part>,
-    /// The sections that may be reached: those that are linked, also where GNU ld leaves them out as unused.
+    /// The sections that may be reached: those that are linked, also if GNU ld leaves them out as unused.
     linked: QuickMap<Part, SectionId>,
     reached: QuickMap<Part, ()>,
     waiting: Vec<Part>,

@@ -27,7 +27,7 @@ pub(super) fn with_places(held: &mut [Held], objects: &[Object], evaluation: &Ev
     }
 }
 
-/// What becomes of the common block of a name in an object; `None` where a definition or the script takes its place.
+/// What becomes of the common block of a name in an object; `None` if a definition or the script takes its place.
 fn place_of(evaluation: &Evaluation, object: u32, name: &BStr) -> Option<BlockPlace> {
     let symbol = evaluation.symbol(name)?;
     let section = match symbol.definer {

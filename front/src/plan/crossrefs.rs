@@ -23,7 +23,7 @@ pub struct Prohibited {
     pub offset: u64,
     /// The output section that it is in.
     pub from: Name,
-    /// The symbol; the name of its section where it has none.
+    /// The symbol; the name of its section if it has none.
     pub symbol: BString,
     /// The output section of the symbol.
     pub to: Name,

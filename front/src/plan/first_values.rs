@@ -8,7 +8,7 @@ use object::elf;
 use crate::layout::Evaluation;
 use crate::objects::Object;
 
-/// The symbols of the script for which GNU ld has entries for this reason, where the objects are linked without.
+/// The symbols of the script for which GNU ld has entries for this reason, if the objects are linked without.
 pub(super) fn kept_by_first_values(objects: &[Object], evaluation: &Evaluation) -> Vec<BString> {
     let with_values = evaluation.symbols.iter().filter(|symbol| symbol.is_in_objects).filter_map(|symbol| {
         let value = symbol.first_value.filter(|value| *value >= 1 << 31)?;

@@ -13,7 +13,7 @@ const TABLE: &[u8] = b".eh_frame_hdr";
 /// The bytes of a section that has no entry.
 const NO_ENTRY: u64 = 8;
 
-/// What is said where GNU ld makes the table. Where the script does not place the frames, it places no table either:
+/// What is said if GNU ld makes the table. If the script does not place the frames, it places no table either:
 /// such a link is GNU ld's.
 pub(super) fn note(command: &Command, scripts: &Scripts, evaluation: &Evaluation) -> Option<Note> {
     let script = &scripts.reading.script;

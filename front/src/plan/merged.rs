@@ -117,7 +117,7 @@ impl Remade {
         with_requests(found, objects, collects)
     }
 
-    /// What merging changes in an object, where it is the same as before, and what it is merged with.
+    /// What merging changes in an object, if it is the same as before, and what it is merged with.
     fn known(
         &self,
         index: ObjectIndex,
@@ -137,7 +137,7 @@ impl Remade {
     }
 }
 
-/// What merging changes in an object; `None` where its tables are not whole.
+/// What merging changes in an object; `None` if its tables are not whole.
 fn findings_of(
     index: ObjectIndex,
     object: &Object,

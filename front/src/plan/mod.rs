@@ -89,7 +89,7 @@ impl Inputs {
     /// Reads scripts and objects.
     ///
     /// # Errors
-    /// Where one cannot be read or is none, and where a required name is not defined.
+    /// If one cannot be read or is none, and if a required name is not defined.
     pub fn load(command: &Command, mut scripts: Scripts, snapshot: &mut Snapshot) -> Result<Inputs, PlanFault> {
         let entry = command.entry.clone().or_else(|| scripts.entry().cloned());
         let wanted: Vec<BString> =
@@ -127,7 +127,7 @@ impl Inputs {
         self.identity.as_ref().ok()
     }
 
-    /// Why the image has no build ID, where one is asked for.
+    /// Why the image has no build ID, if one is asked for.
     pub fn without_identity(&self) -> Option<String> {
         self.identity.as_ref().err().filter(|why| **why != NoIdentity::NotWanted).map(ToString::to_string)
     }
@@ -190,11 +190,11 @@ pub struct LinkPlan {
     made_loaded: MadeLoaded,
     /// The objects that merging has made.
     remade: Remade,
-    /// The objects as the session is to hold them, where these are others than were read.
+    /// The objects as the session is to hold them, if these are others than were read.
     changed: Option<Vec<Held>>,
 }
 
-/// The options of a session for a command; `entry` is the entry symbol where the script cannot name it.
+/// The options of a session for a command; `entry` is the entry symbol if the script cannot name it.
 pub fn options_of(command: &Command, entry: Option<&BStr>) -> mirror::Options {
     let orphans = command.orphans.map(|orphans| match orphans {
         Orphans::Discard => mirror::Orphans::Discard,
@@ -235,7 +235,7 @@ impl LinkPlan {
         LinkPlan { inputs, evaluation, residual, options, form, tables, layout, names, made_loaded, remade, changed }
     }
 
-    /// The same plan where some files have other bytes now; `None` where all must be planned anew, as these files are
+    /// The same plan if some files have other bytes now; `None` if all must be planned anew, as these files are
     /// no objects, or decide about members of archives.
     pub fn replan(mut self, command: &Command, snapshot: &mut Snapshot, changed: &[PathBuf]) -> Option<LinkPlan> {
         if !self.inputs.loaded.take_changed(command, snapshot, changed) {
@@ -283,7 +283,7 @@ impl LinkPlan {
         self.inputs.loaded.put(place, new);
     }
 
-    /// Holds the objects as they are now, where all of the plan but their bytes stays.
+    /// Holds the objects as they are now, if all of the plan but their bytes stays.
     fn hold_again(&mut self) {
         self.inputs.held = held_of(self.inputs.objects());
         if let Some(names) = &mut self.names {
@@ -305,7 +305,7 @@ impl LinkPlan {
         self.hold_again();
     }
 
-    /// What the table of symbols of an image is made of; `None` where the layout is not known.
+    /// What the table of symbols of an image is made of; `None` if the layout is not known.
     pub fn symbols<'a>(&'a self, laid_out: LaidOut<'a>) -> Option<Symbols<'a>> {
         let (evaluation, names) = (self.evaluation.as_ref().ok()?, self.names.as_ref()?);
         let map = match laid_out {
@@ -333,7 +333,7 @@ impl LinkPlan {
     }
 }
 
-/// The objects as the session is to hold them, of those that were merged; `None` where they are those that were read.
+/// The objects as the session is to hold them, of those that were merged; `None` if they are those that were read.
 fn changed_of(
     mut held: Vec<Held>,
     inputs: &Inputs,
@@ -369,7 +369,7 @@ fn laid_out(inputs: &Inputs, settings: &Settings) -> LaidOutScript {
     }
 }
 
-/// The layout as `ldi` collects sections: where it keeps more than GNU ld for `.eh_frame`, with that, since numbers in
+/// The layout as `ldi` collects sections: if it keeps more than GNU ld for `.eh_frame`, with that, since numbers in
 /// the script are those of the layout.
 fn as_collected(command: &Command, inputs: &Inputs, laid_out: LaidOutScript) -> LaidOutScript {
     let has_frames = |evaluation: &Evaluation| {

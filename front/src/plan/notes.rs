@@ -14,14 +14,14 @@ const WORDS: [&[u8]; 6] = [b"ibt", b"shstk", b"lam-", b"x86-64-", b"stack-size="
 pub(super) struct Notes {
     /// The place of the object that has it.
     first: usize,
-    /// Its bytes; `None` where no property is left.
+    /// Its bytes; `None` if no property is left.
     note: Option<Vec<u8>>,
     /// The objects.
     objects: Vec<Object>,
 }
 
 impl Notes {
-    /// One note for objects; `None` where there is none, the script leaves all out, or it is not known what GNU ld
+    /// One note for objects; `None` if there is none, the script leaves all out, or it is not known what GNU ld
     /// makes of them.
     pub(super) fn of(command: &Command, script: &Script, objects: &[Object]) -> Option<Notes> {
         let first = objects.iter().position(|object| object.property_notes().next().is_some())?;
@@ -65,7 +65,7 @@ impl Notes {
     }
 }
 
-/// The properties of an object, if it has a note of them; `None` where it is not known what GNU ld makes of its notes.
+/// The properties of an object, if it has a note of them; `None` if it is not known what GNU ld makes of its notes.
 fn properties_of(object: &Object) -> Option<Option<Properties>> {
     let mut sections = object.property_notes();
     match (sections.next(), sections.next()) {

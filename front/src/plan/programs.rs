@@ -8,7 +8,7 @@ use std::process::{Command as Process, Stdio};
 
 use bstr::ByteSlice;
 
-/// Set for a linker that `ld.ldi` starts to ask it something: a `ld.ldi` that has it asks no other. So also where a
+/// Set for a linker that `ld.ldi` starts to ask it something: a `ld.ldi` that has it asks no other. So also if a
 /// script on PATH, which cannot be told from a linker, leads back to `ld.ldi`.
 pub const WITHIN: &str = "LDI_WITHIN";
 

@@ -15,7 +15,7 @@ use crate::script::tree::{InputStatement, Script, SectionStatement, SectionsStat
 use crate::script::{ErrorKind, Reader, Reading, ScriptError};
 use crate::snapshot::Snapshot;
 
-/// A script of the same sections as GNU ld's default one, where GNU ld is not there.
+/// A script of the same sections as GNU ld's default one, if GNU ld is not there.
 const DEFAULT: &str = include_str!("default.ld");
 
 /// The names of default scripts, which are no files: that of GNU ld, and the one that comes with this program.
@@ -79,7 +79,7 @@ impl Scripts {
                 defsym.scripts_before == index + 1 || is_last && defsym.scripts_before > index + 1
             })?;
         }
-        // What stands before INSERT goes into the default script where no other is given (ldlang.c, `lang_add_insert`).
+        // What stands before INSERT goes into the default script if no other is given (ldlang.c, `lang_add_insert`).
         let is_own = command.default_script.is_some() || !ranges.iter().all(|range| reader.has_insert(range));
         if !is_own {
             let (path, text) = default_text(command, environment);
@@ -174,7 +174,7 @@ fn files_of(reading: &Reading) -> Vec<PathBuf> {
     files.filter(|path| is_file(path)).cloned().collect()
 }
 
-/// GNU ld's default script where GNU ld is there, else one of the same sections.
+/// GNU ld's default script if GNU ld is there, else one of the same sections.
 fn default_script(command: &Command, environment: &Environment) -> Result<Scripts, ScriptsFault> {
     let (path, text) = default_text(command, environment);
     let mut files = crate::script::NoFiles;

@@ -1,4 +1,4 @@
-//! What the program headers of a file are made of where the script has no PHDRS (elf.c,
+//! What the program headers of a file are made of if the script has no PHDRS (elf.c,
 //! `_bfd_elf_map_sections_to_segments`; elflink.c, `bfd_elf_size_dynamic_sections`).
 
 use bstr::{BString, ByteSlice};
@@ -16,7 +16,7 @@ const NOTE: &[u8] = b".note.GNU-stack";
 /// The alignment of PT_GNU_STACK (elf64-x86-64.c, `elf_backend_stack_align`).
 const STACK_ALIGN: u64 = 16;
 
-/// The program headers, where PHDRS do not say them.
+/// The program headers, if PHDRS do not say them.
 pub(super) fn headers_of(command: &Command, objects: &[Object], evaluation: &Evaluation) -> Option<MadeHeaders> {
     let paging = evaluation.paging?;
     let memory = || evaluation.memory.iter().filter_map(|(id, memory)| Some((evaluation.output(*id)?, memory)));
@@ -52,7 +52,7 @@ fn places(evaluation: &Evaluation) -> impl Iterator<Item = (usize, &OutputSectio
     })
 }
 
-/// A segment of the section of a name, where that is loaded and not empty.
+/// A segment of the section of a name, if that is loaded and not empty.
 fn of_section(evaluation: &Evaluation, name: &str, kind: u32) -> Option<MadeSegment> {
     let (at, _, place) = places(evaluation).find(|(_, output, _)| output.name == name)?;
     let is_loaded = place.flags.has(Flags::LOAD) && (place.size != 0 || kind == elf::PT_DYNAMIC);

@@ -24,7 +24,7 @@ pub(super) struct Table {
     /// The names that nothing defines, though a reference needs them: these have no entry, and are a fault where they
     /// are.
     undefined: HashSet<Entry>,
-    /// The place of its object among the others; `None` where no reference that is in the image needs it.
+    /// The place of its object among the others; `None` if no reference that is in the image needs it.
     at: Option<usize>,
     /// The objects of the link, that of the table among them.
     objects: Vec<Object>,
@@ -61,7 +61,7 @@ impl Entry {
 }
 
 impl Table {
-    /// The table of a link; `None` where no object has a reference that needs one.
+    /// The table of a link; `None` if no object has a reference that needs one.
     pub(super) fn of(command: &Command, scripts: &Scripts, objects: &[Object]) -> Option<Table> {
         let refers = |object: &Object| object.globals_named(GLOBAL_OFFSET_TABLE.into()).any(|one| one.is_undefined());
         if !objects.iter().any(|object| !object.tabled().is_empty() || refers(object)) {

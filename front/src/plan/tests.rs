@@ -71,7 +71,7 @@ fn is_as_anew(found: &LinkPlan, command: &Command) {
     assert_eq!(one.sections, other.sections);
 }
 
-/// Makes a plan with objects that became others; says whether they were alike, and gives `None` where all must be
+/// Makes a plan with objects that became others; says whether they were alike, and gives `None` if all must be
 /// planned anew. The plan is the one that is made anew in any case.
 fn again(project: &Project, files: &[&str], changed: &[(&str, Vec<u8>)]) -> Option<bool> {
     let command = project.command(files);

@@ -1,4 +1,4 @@
-//! `--wrap` where a script speaks of such a name: GNU ld reads it in expressions as in references (ldexp.c,
+//! `--wrap` if a script speaks of such a name: GNU ld reads it in expressions as in references (ldexp.c,
 //! `fold_name`).
 
 use bstr::{BStr, ByteSlice};

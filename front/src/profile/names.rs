@@ -145,7 +145,7 @@ fn number_fault(text: &[u8]) -> Option<(Cause, String)> {
     Some((Cause::Tokens, format!("{shown} is no number of the profile: {why}")))
 }
 
-/// The value of a number of the profile: none where it is no such number, and no value of one past 2^64.
+/// The value of a number of the profile: none if it is no such number, and no value of one past 2^64.
 fn value_of(text: &[u8]) -> Option<Option<u64>> {
     let (digits, scale) = match text {
         [digits @ .., b'K'] => (digits, 1 << 10),

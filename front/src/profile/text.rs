@@ -161,7 +161,7 @@ enum Stretch {
 struct Counts {
     braces: usize,
     signs: usize,
-    /// The byte before, where it was a piece of its own.
+    /// The byte before, if it was a piece of its own.
     last: u8,
 }
 

@@ -72,7 +72,7 @@ fn ends_set(text: &[u8], left: usize) -> bool {
     text.len().checked_sub(left + 1).and_then(|at| text.get(at)) == Some(&b']')
 }
 
-/// The WORD that matches a name alone; `None` where there is none.
+/// The WORD that matches a name alone; `None` if there is none.
 pub(crate) fn word_of_name(name: &[u8]) -> Option<Vec<u8>> {
     let mut word = Vec::with_capacity(name.len());
     for byte in name {
@@ -116,7 +116,7 @@ pub(crate) fn word_of(pattern: &[u8]) -> (Cow<'_, [u8]>, bool) {
     (Cow::Owned(word), is_exact)
 }
 
-/// A byte that is meant itself; `?` where a WORD cannot say it.
+/// A byte that is meant itself; `?` if a WORD cannot say it.
 fn write_byte(byte: u8, word: &mut Vec<u8>) -> bool {
     if !byte.is_ascii_graphic() {
         word.push(b'?');

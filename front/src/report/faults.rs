@@ -15,7 +15,7 @@ use super::{plain, Diagnostic};
 use crate::objects::{Object, Relocation, SymbolIndex, SymbolKind};
 use crate::script::Place;
 
-/// What stands at the front where no file is to blame.
+/// What stands at the front if no file is to blame.
 const PROGRAM: &str = "ldi";
 /// The longest image of `ldi`, in bytes.
 const MOST_IMAGE_BYTES: u64 = 1 << 28;
@@ -32,7 +32,7 @@ pub struct Inputs<'a> {
     pub origin: &'a dyn Fn(u32) -> Option<Place>,
     /// The objects as they were sent, or none.
     pub objects: &'a [Object],
-    /// The symbol of `-e`, where that is given.
+    /// The symbol of `-e`, if that is given.
     pub entry: Option<&'a OsStr>,
 }
 
@@ -151,7 +151,7 @@ impl Sentences<'_> {
         diagnostic
     }
 
-    /// An error at the line of an output section, where the script has it once.
+    /// An error at the line of an output section, if the script has it once.
     fn at_output(&self, section: &[u8], sentence: String) -> Diagnostic {
         match self.outline.outputs.get(section.as_bstr()) {
             Some(output) => Diagnostic::error(sentence).at(&self.place(output.line)),
@@ -161,7 +161,7 @@ impl Sentences<'_> {
 
     // Names
 
-    /// F1. Where one object has both definitions, which is which is not said.
+    /// F1. If one object has both definitions, which is which is not said.
     fn duplicate(&mut self, name: &[u8], again: &[u8], first: &[u8]) -> Diagnostic {
         let line = self.outline.assignments.get(name.as_bstr()).copied();
         let is_by_script = first == b"script" && (line.is_some() || self.names.object(first).is_none());
@@ -312,7 +312,7 @@ impl Sentences<'_> {
         site.error(format!("{target}, which is not in the output")).with_advice("take it in")
     }
 
-    /// The symbol of a number, and its section where that is certain.
+    /// The symbol of a number, and its section if that is certain.
     fn left_out_target(&mut self, name: &[u8], index: SymbolIndex) -> String {
         let unknown = format!("symbol {} of {} is defined in a section", index.0, self.names.shown(name));
         let (object, symbol) = match self.names.object(name).and_then(|object| Some((object, object.symbol(index)?))) {
@@ -355,7 +355,7 @@ impl Sentences<'_> {
         with_range(diagnostic, kind, value)
     }
 
-    /// The symbol that the relocation of a site is against, where it is known.
+    /// The symbol that the relocation of a site is against, if it is known.
     fn target(&self, object: &[u8], site: &Site) -> String {
         let object = self.names.object(object);
         let found = object.and_then(|object| Some((object, object.symbol(site.relocation?.symbol)?)));

@@ -37,7 +37,7 @@ pub struct MapSection {
 /// A name that is not local.
 #[derive(Clone, PartialEq, Eq, Debug)]
 pub struct MapSymbol {
-    /// Its value; none where its section is not in the output.
+    /// Its value; none if its section is not in the output.
     pub value: Option<u64>,
     /// The name.
     pub name: BString,

@@ -19,7 +19,7 @@ pub(super) struct Site {
     pub file: String,
     pub line: Option<u32>,
     pub place: Option<String>,
-    /// The relocation that stands there, where it is certain.
+    /// The relocation that stands there, if it is certain.
     pub relocation: Option<Relocation>,
 }
 
@@ -87,7 +87,7 @@ impl<'a> Tables<'a> {
         self.relocations.entry(section).or_insert_with(read).get(&offset).copied()
     }
 
-    /// The function or variable whose bytes the offset lies in; none where there is none, or several begin together.
+    /// The function or variable whose bytes the offset lies in; none if there is none, or several begin together.
     fn enclosing<'o>(&self, object: &'o Object, section: SectionIndex, offset: u64) -> Option<Symbol<'o>> {
         let spans = self.spans.get(&section)?;
         let index = spans.partition_point(|(start, _)| *start <= offset).checked_sub(1)?;
@@ -136,7 +136,7 @@ impl<'a> Names<'a> {
         Some((object, index, self.tables.entry(index).or_insert_with(|| Tables::new(object))))
     }
 
-    /// The size of the one linked section of a name; none where there is none, or several.
+    /// The size of the one linked section of a name; none if there is none, or several.
     pub fn section_size(&mut self, object: &[u8], section: &[u8]) -> Option<u64> {
         let (object, _, tables) = self.tables(object)?;
         match tables.linked.get(section.as_bstr())?.as_slice() {
@@ -261,7 +261,7 @@ impl<'a> Names<'a> {
         self.definers.entry(BString::from(name)).or_insert_with(find)
     }
 
-    /// The section, and its object, that a symbol of an object stands for, where that is certain: a local symbol, or
+    /// The section, and its object, that a symbol of an object stands for, if that is certain: a local symbol, or
     /// the one strong definition of its name.
     pub fn section_of(&mut self, object: &'a Object, symbol: Symbol<'a>) -> Option<String> {
         let (object, symbol) = match symbol.binding {

@@ -82,7 +82,7 @@ impl Outline {
         self.doubtful.get(&line).copied().unwrap_or_default()
     }
 
-    /// The symbols that the ASSERT of a line with this message names; none where there are several such.
+    /// The symbols that the ASSERT of a line with this message names; none if there are several such.
     pub fn asserted_names(&self, line: u32, message: &[u8]) -> &[Name] {
         let mut found = self.assertions.iter().filter(|one| one.line == line && one.message == message);
         match (found.next(), found.next()) {
@@ -228,7 +228,7 @@ impl<'a> Lines<'a> {
         Lines { text, starts }
     }
 
-    /// A line, from 1 on, for a message; none where there is no such line.
+    /// A line, from 1 on, for a message; none if there is no such line.
     pub fn excerpt(&self, line: u32) -> Option<Excerpt> {
         let index = (line as usize).checked_sub(1)?;
         let start = *self.starts.get(index)?;

@@ -245,7 +245,7 @@ fn of_relocations(object: &Object, is_meant: &dyn Fn(Need) -> bool) -> Vec<Diagn
 
 // What `readobj` says
 
-/// What `readobj` says of refused bytes, a reason for each place; none where it cannot be asked, or says another
+/// What `readobj` says of refused bytes, a reason for each place; none if it cannot be asked, or says another
 /// number.
 fn reasons_of_object(input: &RefusedInput<'_>) -> Vec<String> {
     let output = input.data.and_then(|data| ask(&beside(input.ldi, "readobj"), data)).unwrap_or_default();
@@ -276,7 +276,7 @@ fn beside(ldi: &OsStr, program: &str) -> OsString {
     found.map_or_else(|| program.into(), PathBuf::into_os_string)
 }
 
-/// What a program prints of a file with these bytes, which is in memory alone; nothing where it cannot be asked.
+/// What a program prints of a file with these bytes, which is in memory alone; nothing if it cannot be asked.
 fn ask(program: &OsStr, data: &[u8]) -> Option<Vec<u8>> {
     let file = rustix::fs::memfd_create("payload", rustix::fs::MemfdFlags::empty()).ok()?;
     let mut file = File::from(rustix::fd::OwnedFd::from(file));

@@ -11,7 +11,7 @@ pub struct RelocationRule {
     pub name: &'static str,
     /// The bytes of its field.
     pub width: u8,
-    /// The least and the greatest value that fits, where not every value does.
+    /// The least and the greatest value that fits, if not every value does.
     pub range: Option<(i64, i64)>,
     /// Whether it counts from the place of its field.
     pub is_pc_relative: bool,

@@ -24,7 +24,7 @@ pub(super) fn is_slim(object: &Object) -> bool {
     matches!(object.fault(), Some(ObjectFault::SlimLto))
 }
 
-/// The names that an object of slim LTO defines; none where its tables cannot be read.
+/// The names that an object of slim LTO defines; none if its tables cannot be read.
 pub(super) fn definitions(object: &Object) -> HashSet<BString> {
     let data: &[u8] = object.data();
     let header = match FileHeader64::<Little>::parse(data) {

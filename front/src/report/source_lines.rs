@@ -24,7 +24,7 @@ type Slice<'a> = EndianSlice<'a, LittleEndian>;
 /// A place in a source file.
 #[derive(Clone, PartialEq, Eq, Hash, Debug)]
 pub struct SourceLine {
-    /// The path: from the working folder where the file lies there, else as the compiler had it.
+    /// The path: from the working folder if the file lies there, else as the compiler had it.
     pub path: String,
     /// The line, from 1.
     pub line: u32,
@@ -263,7 +263,7 @@ fn file_index(value: &AttributeValue<Slice<'_>>) -> Option<u64> {
     }
 }
 
-/// The path of a file of a line program; none where it is not known.
+/// The path of a file of a line program; none if it is not known.
 fn path_of<'a>(dwarf: &Dwarf<Slice<'a>>, header: &LineProgramHeader<Slice<'a>>, index: u64) -> Option<String> {
     let file = header.file(index)?;
     let text = |value| text_of(dwarf, value).unwrap_or_default();
@@ -286,7 +286,7 @@ fn text_of<'a>(dwarf: &Dwarf<Slice<'a>>, value: AttributeValue<Slice<'a>>) -> Op
     Some(slice.slice())
 }
 
-/// The path of a file of a folder, which is one of a base folder: from the working folder where it lies there.
+/// The path of a file of a folder, which is one of a base folder: from the working folder if it lies there.
 fn shown_path(base: &[u8], folder: &[u8], name: &[u8]) -> String {
     let mut whole = BString::default();
     for part in [base, folder, name] {
@@ -325,7 +325,7 @@ fn normal(path: &[u8]) -> Vec<u8> {
     }
 }
 
-/// The debug sections with their relocations applied; none where the object has no debug information.
+/// The debug sections with their relocations applied; none if the object has no debug information.
 fn load(object: &Object) -> Option<Dwarf<Vec<u8>>> {
     let mut sections: HashMap<&[u8], SectionIndex> = HashMap::new();
     for section in object.sections().filter(|section| section.name.starts_with(b".debug_")) {

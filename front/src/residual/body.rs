@@ -98,7 +98,7 @@ impl<'a> Walk<'a> {
         }
     }
 
-    /// The fill after a section. Where the objects are not known, FILL in front of all that may leave a gap is one too.
+    /// The fill after a section. If the objects are not known, FILL in front of all that may leave a gap is one too.
     pub(super) fn tail_fill(&self, section: &'a OutputSection) -> Option<&'a Fill> {
         if section.fill.is_some() || !self.is_without_objects() {
             return section.fill.as_ref();
@@ -130,7 +130,7 @@ impl<'a> Walk<'a> {
         }
     }
 
-    /// The statements of these two; empty where there is none.
+    /// The statements of these two; empty if there is none.
     pub(super) fn bounds_of(&mut self, section: &Name, place: &Placed, at: u32) -> [String; 2] {
         let end = place.address.wrapping_add(place.size);
         [("__start_", place.address), ("__stop_", end)].map(|(front, wanted)| {
@@ -487,7 +487,7 @@ impl<'a> Walk<'a> {
         }
     }
 
-    /// The form of an assignment to `.` by what GNU ld makes of its expression; `None` where that is not known.
+    /// The form of an assignment to `.` by what GNU ld makes of its expression; `None` if that is not known.
     fn counted_dot(
         &mut self,
         e: &Expr,
@@ -537,7 +537,7 @@ impl<'a> Walk<'a> {
         Some((format!(". = {};", self.written(&e)), settled(e, Some(why.into()))))
     }
 
-    /// The form of an assignment to `.` in an output section; `None` where it does not move.
+    /// The form of an assignment to `.` in an output section; `None` if it does not move.
     fn dot_form(
         &mut self,
         e: &Expr,
@@ -593,7 +593,7 @@ impl<'a> Walk<'a> {
         *reasons = settled.reasons;
     }
 
-    /// Writes an assignment to `.`, where it is another.
+    /// Writes an assignment to `.`, if it is another.
     fn put_dot(&mut self, assignment: &Assignment, span: Span, text: &str, settled: &mut Settled) {
         let own = self.squeezed(span.start, span.end);
         let new = super::walk::squeezed(text.as_bytes());
@@ -671,7 +671,7 @@ impl<'a> Walk<'a> {
     }
 }
 
-/// n, where an expression is `. + n`, `n + .` or `. + a + b`.
+/// n, if an expression is `. + n`, `n + .` or `. + a + b`.
 fn added(e: &Expr) -> Option<Expr> {
     let (operator, left, right) = match &e.kind {
         ExprKind::Dot => return None,

@@ -10,7 +10,7 @@ const MOST_SIGNS: usize = 56;
 
 /// What an expression of the profile may name at a place.
 pub(super) trait Known {
-    /// The location counter; `None` where it may not be used.
+    /// The location counter; `None` if it may not be used.
     fn dot(&self) -> Option<u64>;
     /// The value of a symbol that is complete.
     fn symbol(&self, name: &Name) -> Option<u64>;
@@ -141,7 +141,7 @@ pub(super) fn folded(e: &Expr) -> Expr {
     })
 }
 
-/// The value of an expression of the profile; `None` where it has none.
+/// The value of an expression of the profile; `None` if it has none.
 pub(super) fn value(e: &Expr, known: &dyn Known) -> Option<u64> {
     match &e.kind {
         ExprKind::Number(value) => Some(*value),
@@ -230,7 +230,7 @@ fn looseness(operator: BinaryOperator) -> u8 {
     CONDITIONAL - operator.level()
 }
 
-/// The text of an expression of the profile, with parentheses where it needs them. Numbers keep their spelling where
+/// The text of an expression of the profile, with parentheses if it needs them. Numbers keep their spelling if
 /// the profile has it.
 pub(super) fn write(e: &Expr, text: &[u8]) -> String {
     let mut result = String::new();
@@ -296,7 +296,7 @@ fn put(e: &Expr, text: &[u8], most: u8, to: &mut String) {
     }
 }
 
-/// A number as the profile spells it: as it stands in the text where that is a NUMBER, else in decimal where short.
+/// A number as the profile spells it: as it stands in the text if that is a NUMBER, else in decimal if short.
 fn spelled(value: u64, span: Span, text: &[u8]) -> String {
     let own = text.get(span.start as usize..span.end as usize).unwrap_or_default();
     let own = own.trim_with(|c| c == '(' || c == ')' || c.is_whitespace());
@@ -306,7 +306,7 @@ fn spelled(value: u64, span: Span, text: &[u8]) -> String {
     written(value)
 }
 
-/// A number: decimal where that is short, else hexadecimal.
+/// A number: decimal if that is short, else hexadecimal.
 pub(super) fn written(value: u64) -> String {
     if value < 4096 {
         value.to_string()
@@ -315,7 +315,7 @@ pub(super) fn written(value: u64) -> String {
     }
 }
 
-/// The value of a NUMBER of the profile; `None` where a text is none.
+/// The value of a NUMBER of the profile; `None` if a text is none.
 pub(super) fn number_of(text: &[u8]) -> Option<u64> {
     let (digits, factor) = match text {
         [digits @ .., b'K'] => (digits, 1 << 10),
@@ -331,7 +331,7 @@ pub(super) fn number_of(text: &[u8]) -> Option<u64> {
     u64::from_str_radix(digits, base).ok()?.checked_mul(factor)
 }
 
-/// The tokens of a text of expressions in the profile's spelling, without parentheses and comments; `None` where it has
+/// The tokens of a text of expressions in the profile's spelling, without parentheses and comments; `None` if it has
 /// bytes that begin none.
 fn tokens(text: &[u8]) -> Option<Vec<&[u8]>> {
     let mut found = Vec::new();

@@ -265,7 +265,7 @@ impl<'a> Walk<'a> {
     }
 
     /// Aligns a section that has one of those that GNU ld makes itself, which no object has (elf-bfd.h,
-    /// `bed->s->log_file_align`): where nothing is known of the objects, and it stays without it.
+    /// `bed->s->log_file_align`): if nothing is known of the objects, and it stays without it.
     fn align_as_own(
         &mut self,
         section: &OutputSection,
@@ -337,7 +337,7 @@ impl<'a> Walk<'a> {
         Some(region)
     }
 
-    /// The region that GNU ld has a section in, where MEMORY has it.
+    /// The region that GNU ld has a section in, if MEMORY has it.
     fn region_of_output(&self, output: &Output) -> Option<Name> {
         output.in_image()?;
         let evaluation = self.request.evaluation?;
@@ -394,7 +394,7 @@ impl<'a> Walk<'a> {
     }
 
     /// Where a section begins that has no address: at `.`, or where its region is free, aligned. Writes an alignment or
-    /// an address where that is not where GNU ld has it.
+    /// an address if that is not where GNU ld has it.
     fn unwritten_address(&mut self, head: &mut Written, place: Option<&Placed>) -> u64 {
         let free = head.region.as_ref().and_then(|name| self.regions.get(name)).map(|region: &Memory| region.next);
         let base = free.unwrap_or(self.dot);
@@ -456,8 +456,8 @@ impl<'a> Walk<'a> {
         needed
     }
 
-    /// AT>r, where nothing is known of the objects. Beside >r of the same region a section is loaded where it starts,
-    /// but with an address where r is free; here AT>r moves r to the load end, so without file bytes back. In another
+    /// AT>r, if nothing is known of the objects. Beside >r of the same region a section is loaded where it starts,
+    /// but with an address if r is free; here AT>r moves r to the load end, so without file bytes back. In another
     /// region GNU ld aligns the load address by the head's ALIGN alone.
     fn load_by_region(&mut self, section: &OutputSection, head: &mut Written, needed: u64, at: At) -> Option<u64> {
         let name = section.name.node.clone();
@@ -558,7 +558,7 @@ impl<'a> Walk<'a> {
         head.start.wrapping_sub(self.distances.get(&head.region).copied().unwrap_or(0))
     }
 
-    /// AT(e): as it is; without it, where the distance is that of the section before; with the start in place of
+    /// AT(e): as it is; without it, if the distance is that of the section before; with the start in place of
     /// ADDR of the section itself; or as a number.
     fn own_load(&mut self, section: &OutputSection, e: &Expr, head: &mut Written, needed: Option<u64>, at: At) -> u64 {
         head.load_region = None;
@@ -598,7 +598,7 @@ impl<'a> Walk<'a> {
         needed.or_else(|| self.value_of(&settled.e, at)).unwrap_or(head.start)
     }
 
-    /// An expression that is the start of a section, before it: its address, or `.`, aligned where that is needed.
+    /// An expression that is the start of a section, before it: its address, or `.`, aligned if that is needed.
     fn start_expression(&self, section: &OutputSection, head: &Written) -> Expr {
         let at = At { at: u32::MAX, is_assert: false, dot: Some(self.dot) };
         if let (Some(e), Some(_)) = (&section.address, &head.address) {
@@ -617,7 +617,7 @@ impl<'a> Walk<'a> {
 
     // --- the text ---
 
-    /// Writes a head, where it is another.
+    /// Writes a head, if it is another.
     fn put_head(&mut self, section: &OutputSection, emitted: &Name, head: &Written, span: Span) {
         let new = self.head_text(emitted, head);
         let end = section.body.span.start + 1;
@@ -644,7 +644,7 @@ impl<'a> Walk<'a> {
         text
     }
 
-    /// Writes a tail, where it is another.
+    /// Writes a tail, if it is another.
     fn put_tail(&mut self, section: &'a OutputSection, head: &Written, span: Span) {
         let mut new = tail_text(head);
         if let Some(fill) = self.tail_fill(section).and_then(|fill| self.fill(fill, span)) {

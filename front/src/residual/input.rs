@@ -41,9 +41,9 @@ struct Form {
     said: Vec<String>,
     /// Whether it may take something else, or in another order, than the statement of GNU ld's.
     is_in_doubt: bool,
-    /// Whether that is so for some names alone, which are looked at where they are known.
+    /// Whether that is so for some names alone, which are looked at if they are known.
     is_of_names: bool,
-    /// What is other for some objects, where nothing is known of them.
+    /// What is other for some objects, if nothing is known of them.
     changed: Vec<String>,
 }
 
@@ -180,7 +180,7 @@ impl<'a> Walk<'a> {
         true
     }
 
-    /// Whether a form may be written where nothing is known of the objects, and what is said of it.
+    /// Whether a form may be written if nothing is known of the objects, and what is said of it.
     fn holds_of_any(&mut self, form: &Form, is_looked_at: bool, span: Span, sections: &[SectionId]) -> bool {
         let what = self.quoted(span);
         for why in &form.changed {
@@ -195,7 +195,7 @@ impl<'a> Walk<'a> {
         false
     }
 
-    /// Says what may be another where nothing is known of the objects.
+    /// Says what may be another if nothing is known of the objects.
     fn say_without_objects(&mut self, node: &InputStatement, span: Span) {
         let what = self.quoted(span);
         if !node.section_flags.is_empty() {

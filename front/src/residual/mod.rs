@@ -2,7 +2,7 @@
 //!
 //! There is one mechanism. What the profile can say stays as it is written, or gets an equal form by a local rule
 //! (`rules`). The walk over the statements computes the layout that `ldi` will make of what is written, and compares it
-//! with GNU ld's own (`layout`) at each place. Where the two differ, the value that GNU ld finds is written, with an
+//! with GNU ld's own (`layout`) at each place. If the two differ, the value that GNU ld finds is written, with an
 //! ASSERT of it if it is an object's. So a rule need not know where it holds.
 
 mod aliases;
@@ -51,7 +51,7 @@ pub struct Request<'a> {
     pub source: &'a Source,
     /// What GNU ld makes of it; without it, only the rules are gone by.
     pub evaluation: Option<&'a Evaluation>,
-    /// Where the objects are not known, and the evaluation is one over invented objects: those over others. What is not
+    /// If the objects are not known, and the evaluation is one over invented objects: those over others. What is not
     /// the same in all of them depends on the objects, and is not written as a number.
     pub others: Option<&'a [&'a Evaluation]>,
     /// The names of the objects in the session, in the order of the link.
@@ -60,7 +60,7 @@ pub struct Request<'a> {
     pub is_followed: bool,
     /// `-e`: a symbol, or a number.
     pub entry: Option<&'a BStr>,
-    /// Whether an entry is written where the script has none: GNU ld's is `start`, else the start of `.text`.
+    /// Whether an entry is written if the script has none: GNU ld's is `start`, else the start of `.text`.
     pub has_default_entry: bool,
     /// Names of symbols and the objects that define them, for what is said.
     pub defines: &'a dyn Fn(&BStr) -> bool,
@@ -73,7 +73,7 @@ pub struct Request<'a> {
     /// Whether input sections that no statement takes are placed: not with `--orphan-handling=error`.
     pub places_orphans: bool,
     /// The input sections, by their index, that stay by KEEP alone: GNU ld's --gc-sections keeps them, and `ldi` would
-    /// not by itself. Empty where there are none.
+    /// not by itself. Empty if there are none.
     pub kept: &'a [bool],
     /// Whether `ldi` keeps sections that GNU ld's --gc-sections leaves out.
     pub keeps_more: bool,
@@ -98,7 +98,7 @@ pub struct Residual {
     pub aliases: Vec<Alias>,
     /// Whether values that move with an edit are written as numbers.
     pub has_moving_values: bool,
-    /// The entry symbol, where the script cannot name it: it is an option of the session.
+    /// The entry symbol, if the script cannot name it: it is an option of the session.
     pub entry: Option<BString>,
     /// Output sections that have another name in the image, and their own.
     pub names: Vec<(BString, BString)>,

@@ -85,7 +85,7 @@ fn contains(outer: Span, inner: Span) -> bool {
     outer.start <= inner.start && inner.end <= outer.end
 }
 
-/// Whether an output section is one of orphans that are linked; an empty one is where a symbol is in it.
+/// Whether an output section is one of orphans that are linked; an empty one is if a symbol is in it.
 fn is_wanted(request: &Request<'_>, evaluation: &Evaluation, id: OutputId) -> bool {
     let place = evaluation.output(id).and_then(|output| output.place.as_ref()).filter(|place| place.is_allocated());
     let (place, linked) = match place {
@@ -171,7 +171,7 @@ impl<'a> Walk<'a> {
         Some(text)
     }
 
-    /// The statements that take input sections: one by the name, where that takes the same.
+    /// The statements that take input sections: one by the name, if that takes the same.
     fn orphans_body(&mut self, sections: &[SectionId], body: &mut Body<'a>) -> String {
         match self.of_one_name(sections, body) {
             Some((text, end, has_bytes)) => {
@@ -183,7 +183,7 @@ impl<'a> Walk<'a> {
         }
     }
 
-    /// `*(NAME)`, where input sections are all those of a name, each at the first place that it may have; with where
+    /// `*(NAME)`, if input sections are all those of a name, each at the first place that it may have; with where
     /// they end, and whether the file has bytes for them.
     fn of_one_name(&self, sections: &[SectionId], body: &Body<'a>) -> Option<(String, u64, bool)> {
         let evaluation = self.request.evaluation?;

@@ -1,7 +1,7 @@
 //! How GNU ld evaluates an expression whose parts may be relative to a section (ldexp.c, `fold_binary`, `fold_unary`).
 //!
 //! To GNU ld a value is a plain number, an absolute one, or the distance from the start of an output section; this
-//! decides what an operator works on. Here a relative value is kept as its address; where GNU ld works on the distance,
+//! decides what an operator works on. Here a relative value is kept as its address; if GNU ld works on the distance,
 //! the start is subtracted first.
 
 use super::expression::{binary, difference, made, number};
@@ -39,14 +39,14 @@ pub(super) struct Inside {
 }
 
 impl Walk<'_> {
-    /// The value of an expression as an assignment takes it: an address, where it counts from a section.
+    /// The value of an expression as an assignment takes it: an address, if it counts from a section.
     pub(super) fn assigned(&self, e: &Expr, at: At) -> Option<Expr> {
         let counting = Counting { walk: self, at };
         let term = counting.term(e)?;
         counting.assigned(term)
     }
 
-    /// The value of an expression as GNU ld has it in hand: a distance, where it counts from a section.
+    /// The value of an expression as GNU ld has it in hand: a distance, if it counts from a section.
     pub(super) fn in_hand(&self, e: &Expr, at: At) -> Option<Expr> {
         let counting = Counting { walk: self, at };
         let term = counting.term(e)?;
@@ -66,7 +66,7 @@ struct Counting<'w, 'a> {
 }
 
 impl Counting<'_, '_> {
-    /// The section around, where numbers count from its start.
+    /// The section around, if numbers count from its start.
     fn own(&self) -> Option<OutputId> {
         self.walk.inside.as_ref().filter(|inside| !inside.is_absolute).map(|inside| inside.id)
     }

@@ -9,7 +9,7 @@ use crate::script::tree::{BinaryOperator, Expr, ExprKind, Function, Name, Query,
 
 /// The file header and three program headers.
 const USUAL_HEADERS: u64 = 64 + 3 * 56;
-/// MAXPAGESIZE and COMMONPAGESIZE, where the command line says nothing.
+/// MAXPAGESIZE and COMMONPAGESIZE, if the command line says nothing.
 const DEFAULT_PAGE: u64 = 0x1000;
 
 /// What the rules ask of the place where an expression stands.
@@ -20,7 +20,7 @@ pub(super) trait Around {
     fn section(&self, name: &Name) -> Option<Name>;
     /// The region's own name, for an alias.
     fn region(&self, name: &Name) -> Name;
-    /// The value that GNU ld has for an expression; `None` where that is not known.
+    /// The value that GNU ld has for an expression; `None` if that is not known.
     fn value(&self, e: &Expr) -> Option<u64>;
     /// Whether nothing is known of the objects.
     fn is_without_objects(&self) -> bool;

@@ -37,7 +37,7 @@ pub(super) fn write(walk: &mut Walk<'_>) {
 
 /// An output section.
 struct Member<'a> {
-    /// Its name in the image, where it is in it.
+    /// Its name in the image, if it is in it.
     name: Option<Name>,
     /// Its `:NAME`s.
     segments: Vec<&'a Name>,

@@ -188,7 +188,7 @@ fn one_entry_stands_before_sections() {
     assert!(done.starts_with("ENTRY(go) SECTIONS"), "{done}");
 }
 
-/// ldlang.c, `lang_end`: where nothing defines the entry symbol, the program begins at the start of `.text`.
+/// ldlang.c, `lang_end`: if nothing defines the entry symbol, the program begins at the start of `.text`.
 #[test]
 fn an_entry_that_nothing_defines_is_written_as_an_address() {
     let reading = crate::script::parse(Path::new("t.ld"), b"ENTRY(no) SECTIONS { . = 0x1000; .text : { *(.text) } }");
@@ -254,7 +254,7 @@ fn no_text_makes_it_panic() {
     }
 }
 
-/// What stands in `.t` and behind it for statements where nothing is known of the objects.
+/// What stands in `.t` and behind it for statements if nothing is known of the objects.
 fn of_any(statements: &str, after: &str) -> String {
     let script = format!("SECTIONS {{ . = 0x1000; .t : {{ *(.text) {statements} }} {after} }}");
     let reading = crate::script::parse(Path::new("t.ld"), script.as_bytes()).unwrap();

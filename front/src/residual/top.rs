@@ -322,7 +322,7 @@ impl<'a> Walk<'a> {
         }
     }
 
-    /// An assignment that waited, after its section; `None` where it still waits.
+    /// An assignment that waited, after its section; `None` if it still waits.
     fn written_late(&mut self, waiting: &Waiting<'a>) -> Option<String> {
         let name = &waiting.assignment.target.node;
         let version = self.versions.of_statement(name, waiting.span.start)?.0.clone();
@@ -607,7 +607,7 @@ impl<'a> Walk<'a> {
         self.note(NoteKind::Rewritten, span.start, format!("{what} as ASSERT({text}, ..)"));
     }
 
-    /// The condition of an ASSERT: the first form that is true where GNU ld finds it true; `.` by a symbol before it.
+    /// The condition of an ASSERT: the first form that is true if GNU ld finds it true; `.` by a symbol before it.
     fn condition(&mut self, e: &Expr, span: Span, may_use_dot: bool) -> String {
         let at = At { at: span.start, is_assert: true, dot: None };
         let span_of_text = e.span;
@@ -709,7 +709,7 @@ impl<'a> Walk<'a> {
         }
     }
 
-    /// Writes the address of GNU ld's entry where it is not that of the name, which nothing defines or whose section is
+    /// Writes the address of GNU ld's entry if it is not that of the name, which nothing defines or whose section is
     /// left out, for a caller that links.
     fn put_entry_beside(&mut self, name: &BStr, insertion: u32) -> bool {
         let evaluation = match self.request.evaluation.filter(|_| self.request.is_followed) {
@@ -807,7 +807,7 @@ pub(super) fn whole_value(assignment: &Assignment) -> Expr {
     }
 }
 
-/// A condition that holds where a name is defined: the name, which is a fault where nothing defines it, in place of
+/// A condition that holds if a name is defined: the name, which is a fault if nothing defines it, in place of
 /// DEFINED.
 fn with_defined(e: &Expr) -> Expr {
     match &e.kind {

@@ -46,7 +46,7 @@ pub(super) struct At {
     pub(super) at: u32,
     /// Whether it is the condition of an ASSERT, which is evaluated after the layout.
     pub(super) is_assert: bool,
-    /// The location counter; `None` where it may not be used.
+    /// The location counter; `None` if it may not be used.
     pub(super) dot: Option<u64>,
 }
 
@@ -93,7 +93,7 @@ pub(super) struct Walk<'a> {
     pub(super) inside: Option<Inside>,
     /// The assignments that wait for what they need.
     pub(super) waiting: Vec<Waiting<'a>>,
-    /// Why `.` is another than GNU ld's, where the objects are not known.
+    /// Why `.` is another than GNU ld's, if the objects are not known.
     pub(super) passed: Option<String>,
     /// The names of output sections that are taken.
     pub(super) section_names: HashSet<Name>,
@@ -221,7 +221,7 @@ impl<'a> Walk<'a> {
         }
     }
 
-    /// Says that GNU ld goes by PROVIDE of `__start_NAME` where no section NAME stays.
+    /// Says that GNU ld goes by PROVIDE of `__start_NAME` if no section NAME stays.
     fn say_provided_bounds(&mut self, at: u32) {
         let evaluation = match self.request.evaluation.filter(|_| self.request.collects_start_stop) {
             Some(evaluation) => evaluation,
@@ -254,7 +254,7 @@ impl<'a> Walk<'a> {
         }
     }
 
-    /// The first of some input sections, for people; `None` where there is none.
+    /// The first of some input sections, for people; `None` if there is none.
     fn listed(&self, sections: &[SectionId]) -> Option<String> {
         const GREATEST_NAMES: usize = 3;
         let evaluation = self.request.evaluation?;
@@ -440,7 +440,7 @@ impl<'a> Walk<'a> {
         self.result.has_moving_values |= reasons.is_numeric;
     }
 
-    /// Writes an expression in place of that of the text, where it is another one.
+    /// Writes an expression in place of that of the text, if it is another one.
     pub(super) fn write_over(&mut self, old: &Expr, settled: &mut Settled) {
         if says(self.slice(old.span), &settled.e, self.text) {
             return;

@@ -18,7 +18,7 @@ pub(super) enum Dialect {
 /// The assignments that begin with a byte of patterns.
 const UPDATES: [&[u8]; 4] = [b"+=", b"-=", b"*=", b"/="];
 
-/// The token that a text begins with, and its length; None where none begins so.
+/// The token that a text begins with, and its length; None if none begins so.
 pub(super) fn scan(state: State, rest: &[u8]) -> Option<(Kind, usize)> {
     match state {
         State::Script | State::Expression => {

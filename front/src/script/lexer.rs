@@ -323,7 +323,7 @@ fn skip(state: State, text: &[u8], mut at: usize) -> Result<usize, usize> {
     }
 }
 
-/// The token that a text begins with, and its length; None where none begins so.
+/// The token that a text begins with, and its length; None if none begins so.
 pub(super) fn scan(state: State, rest: &[u8]) -> Option<(Kind, usize)> {
     let mut best: Option<(Kind, usize)> = None;
     for rule in [number, mark, name, library, quoted] {

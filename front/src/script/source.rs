@@ -105,7 +105,7 @@ impl Source {
         &self.text
     }
 
-    /// The text of a span; empty where there is no such.
+    /// The text of a span; empty if there is no such.
     #[must_use]
     pub fn slice(&self, span: Span) -> &BStr {
         self.text.get(span.start as usize..span.end as usize).unwrap_or_default().as_bstr()

@@ -413,7 +413,7 @@ pub struct InputStatement {
     pub section_flags: Vec<Name>,
     /// The files; `None` for `[..]` without a file.
     pub file: Option<Spanned<Pattern>>,
-    /// The sections; `None` where a file stands alone.
+    /// The sections; `None` if a file stands alone.
     pub sections: Option<Vec<Spanned<Pattern>>>,
 }
 

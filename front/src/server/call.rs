@@ -72,7 +72,7 @@ pub(super) struct Call<'a> {
     pub(super) key: &'a Key,
 }
 
-/// The seconds of a variable, where it has a number of them.
+/// The seconds of a variable, if it has a number of them.
 pub(super) fn seconds_of(text: &OsString, otherwise: f64) -> Duration {
     let seconds = text.to_str().and_then(|text| text.trim().parse().ok()).filter(|&found| found > 0.0 && found < 1e6);
     Duration::from_secs_f64(seconds.unwrap_or(otherwise))

@@ -33,7 +33,7 @@ impl Key {
     /// The key of a call with these words.
     ///
     /// # Errors
-    /// It is not known where names lead, as where the working folder was removed.
+    /// It is not known where names lead, for example if the working folder was removed.
     pub(super) fn of(words: &[OsString], environment: &Environment) -> io::Result<Key> {
         let mut parts: Vec<Vec<u8>> = vec![real_path(&output_of(words)).as_os_str().as_bytes().to_owned()];
         parts.extend(standing()?);
@@ -50,7 +50,7 @@ impl Key {
         &self.text
     }
 
-    /// The socket of the server; `None` where there is no place for one.
+    /// The socket of the server; `None` if there is no place for one.
     pub(super) fn socket(&self, folder: &Path) -> Option<PathBuf> {
         let digest: String = (0..2_u8)
             .map(|half| {
@@ -63,7 +63,7 @@ impl Key {
     }
 }
 
-/// The value of a variable; empty where it is not set.
+/// The value of a variable; empty if it is not set.
 pub(super) fn value_of(environment: &Environment, name: &str) -> OsString {
     environment.get(OsStr::new(name)).cloned().unwrap_or_default()
 }
@@ -102,7 +102,7 @@ pub(super) fn output_of(words: &[OsString]) -> PathBuf {
     found.into()
 }
 
-/// What a path leads to, also where no file is there yet.
+/// What a path leads to, also if no file is there yet.
 pub(super) fn real_path(path: &Path) -> PathBuf {
     if let Ok(whole) = path.canonicalize() {
         return whole;

@@ -119,7 +119,7 @@ impl Links {
         Outcome::declined("inputs change all the time")
     }
 
-    /// What came of a link; `None` where inputs are others meanwhile.
+    /// What came of a link; `None` if inputs are others meanwhile.
     fn outcome(&mut self, done: Done, found: Found, texts: Vec<Printed>, wish: &Wish) -> Option<Outcome> {
         let Done(status, planned) = done;
         let hindrance = self.hindrance(status, &found);
@@ -197,7 +197,7 @@ impl Links {
             && kept.default_script == self.default_script(&kept.planned)
     }
 
-    /// The plan of the link before with the objects as they are now; `None` where all is to be planned anew.
+    /// The plan of the link before with the objects as they are now; `None` if all is to be planned anew.
     fn again(&mut self, planned: Planned) -> Option<Planned> {
         let changes = self.snapshot.changed();
         if changes.has_other_inputs {
@@ -213,7 +213,7 @@ impl Links {
         Some(Planned { command, plan, verdict: None })
     }
 
-    /// Reads files again; gives those that have other bytes, or `None` where one cannot be read.
+    /// Reads files again; gives those that have other bytes, or `None` if one cannot be read.
     fn read_again(&mut self, files: Vec<PathBuf>) -> Option<Vec<PathBuf>> {
         let mut changed = Vec::new();
         for path in files {
@@ -225,7 +225,7 @@ impl Links {
         Some(changed)
     }
 
-    /// What the default script is made of, where it is that of the link.
+    /// What the default script is made of, if it is that of the link.
     fn default_script(&self, planned: &Planned) -> Option<(PathBuf, Option<Stamp>)> {
         if planned.plan.inputs.scripts.is_own {
             return None;
@@ -322,7 +322,7 @@ done
             fs::write(self.folder.join(name), data).unwrap();
         }
 
-        /// Makes the link; gives the edits that the session got for it, and `link` where it was to link.
+        /// Makes the link; gives the edits that the session got for it, and `link` if it was to link.
         fn edits(&mut self) -> Vec<String> {
             let log = self.folder.join("log");
             fs::write(&log, "").unwrap();

@@ -1,7 +1,7 @@
 //! The server behind `ld.ldi`: a process in the background that keeps the link of an output open.
 //!
-//! A call asks the server of its output, and starts one where there is none. The server makes the link and writes the
-//! new files beside their places; the call puts them there and prints what the server said. Where the server does not
+//! A call asks the server of its output, and starts one if there is none. The server makes the link and writes the
+//! new files beside their places; the call puts them there and prints what the server said. If the server does not
 //! link, the call links by itself.
 
 mod call;
@@ -52,7 +52,7 @@ pub fn call(words: &[OsString], environment: &Environment, by_itself: impl Fn(&[
     }
 }
 
-/// The exit status by a server; `None` where the call links by itself.
+/// The exit status by a server; `None` if the call links by itself.
 fn served(words: &[OsString], environment: &Environment, is_verbose: bool) -> Option<u8> {
     let key = Key::of(words, environment).ok()?;
     let path = key.socket(&sockets_folder(environment)?)?;
@@ -112,7 +112,7 @@ fn clear(words: &[OsString], declined: &Declined, is_verbose: bool) {
 /// Ends the call at once by a signal, whatever the server does.
 fn end_by_signals() {
     for signal in [SIGTERM, SIGHUP, SIGINT] {
-        // Where that cannot be, the system's own way is as good.
+        // If that cannot be, the system's own way is as good.
         let always = Arc::new(AtomicBool::new(true));
         let _ = signal_hook::flag::register_conditional_shutdown(signal, 128 + signal, always);
     }

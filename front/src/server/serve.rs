@@ -79,7 +79,7 @@ fn detached() -> io::Result<UnixListener> {
     for number in numbers.into_iter().filter(|number| *number > 2 && !own.contains(number)) {
         let _ = nix::unistd::close(number); // that of the list itself is closed
     }
-    // It is none where the call has set it apart already.
+    // It is none if the call has set it apart already.
     let _ = rustix::process::setsid();
     let listener = UnixListener::from(listener);
     listener.set_nonblocking(true)?;
@@ -320,7 +320,7 @@ impl Server {
                 self.is_ending = true;
                 let _ = Message::of(Kind::Refused).with("its link does not go on").send(&job.connection);
             }
-            // Where the call has gone, its link goes on all the same.
+            // If the call has gone, its link goes on all the same.
             Err(_) => drop(Message::of(Kind::Working).send(&job.connection)),
         }
     }
@@ -356,7 +356,7 @@ impl Server {
 
     // whether it is wanted
 
-    /// Ends where the socket or the folder is gone or another's, other programs are there, or no call comes.
+    /// Ends if the socket or the folder is gone or another's, other programs are there, or no call comes.
     fn look(&mut self) {
         let idle = seconds_of(&value_of(&self.environment, "LDI_SERVER_IDLE"), IDLE);
         let folder = self.key.as_ref().map_or(true, |(_, output, id)| output.parent().and_then(identity) == *id);
@@ -367,7 +367,7 @@ impl Server {
         self.is_ending = !is_wanted;
     }
 
-    /// Has the oldest servers end where all hold too much together; looks again when it holds an eighth more.
+    /// Has the oldest servers end if all hold too much together; looks again when it holds an eighth more.
     fn share(&mut self) {
         let held = self.memory();
         if held <= self.held + (self.held >> 3) {
@@ -428,8 +428,8 @@ fn links_of(mut links: Links, wished: &Receiver<Wish>, made: &Sender<Outcome>, m
     }
 }
 
-/// Whether nothing has worked on a link for long, as where its session was stopped. The time in which the server itself
-/// was stopped does not count.
+/// Whether nothing has worked on a link for long, for example if its session was stopped. The time in which the server
+/// itself was stopped does not count.
 fn rests(job: &mut Job, session: u32, now: Instant) -> bool {
     let work = work_of(session);
     let was_stopped = now.duration_since(std::mem::replace(&mut job.looked, now)) > PERIOD;

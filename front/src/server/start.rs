@@ -64,7 +64,7 @@ fn has_files(words: &[OsString]) -> bool {
     words.iter().any(|word| word.as_bytes().starts_with(b"@"))
 }
 
-/// Starts a server, which is asked at its socket then. Does nothing where one answers there, unless it `replaces` that.
+/// Starts a server, which is asked at its socket then. Does nothing if one answers there, unless it `replaces` that.
 ///
 /// # Errors
 /// There is no place for a socket, or no process.

@@ -99,7 +99,7 @@ pub(super) fn run(words: &[OsString], environment: &Environment, stops: bool) ->
     0
 }
 
-/// What a server says of itself; `None` where there is none: its socket is removed. One that ends while it is asked is
+/// What a server says of itself; `None` if there is none: its socket is removed. One that ends while it is asked is
 /// asked again, as its socket may take a call until it is gone.
 ///
 /// # Errors

@@ -13,7 +13,7 @@ pub struct Bytes {
 }
 
 impl Bytes {
-    /// A stretch of these bytes; `None` where it is not within them.
+    /// A stretch of these bytes; `None` if it is not within them.
     pub fn slice(&self, range: Range<usize>) -> Option<Bytes> {
         self.get(range.clone())?;
         Some(Bytes { whole: Arc::clone(&self.whole), start: self.start + range.start, end: self.start + range.end })

@@ -12,7 +12,7 @@ use thiserror::Error;
 const SECOND: i128 = 1_000_000_000;
 /// Nanoseconds: a file's times go by ticks of the system, so that two changes within one may leave the same stamp.
 const TICK: i128 = 20_000_000;
-/// The same where a time is one of whole seconds, as some file systems have them, and even seconds.
+/// The same if a time is one of whole seconds, as some file systems have them, and even seconds.
 const COARSE_TICK: i128 = 2 * SECOND + TICK;
 /// The most bytes that are read of what is no regular file.
 const GREATEST_STREAM: u64 = 1 << 26;
@@ -118,7 +118,7 @@ fn plain(fault: &io::Error) -> String {
 pub struct Seen {
     /// Its bytes.
     pub data: Bytes,
-    /// Its stamp; `None` where that is no proof: it is no regular file, or changed while it was read.
+    /// Its stamp; `None` if that is no proof: it is no regular file, or changed while it was read.
     pub stamp: Option<Stamp>,
     /// Whether any change since gives another stamp.
     pub is_settled: bool,

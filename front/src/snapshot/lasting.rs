@@ -46,7 +46,7 @@ fn is_lasting(path: &Path, folders: &mut HashMap<PathBuf, Option<PathBuf>>) -> O
 }
 
 /// Whether a path goes by `/dev` or `/proc`, as `/dev/stdin` does, where each process may find something else. The
-/// symbolic links on the way are followed, also where nothing is at their end.
+/// symbolic links on the way are followed, also if nothing is at their end.
 pub fn is_by_process(path: &Path) -> bool {
     let whole = std::env::current_dir().unwrap_or_default().join(path);
     let mut names = names_of(&whole);

@@ -118,7 +118,7 @@ impl Snapshot {
         Snapshot::default()
     }
 
-    /// The same, where nothing but regular files is ever read: a pipe would be waited for.
+    /// The same, if nothing but regular files is ever read: a pipe would be waited for.
     pub fn of_regular_files() -> Snapshot {
         Snapshot { is_of_regular_files: true, ..Snapshot::default() }
     }
@@ -128,7 +128,7 @@ impl Snapshot {
         Snapshot { shared: Some(Shared::default()), ..Snapshot::default() }
     }
 
-    /// The next one: what this one read is not read again where it is still the same.
+    /// The next one: what this one read is not read again if it is still the same.
     #[must_use]
     pub fn next(self) -> Snapshot {
         let shared = self.shared.map(|_| Shared::default());
@@ -145,7 +145,7 @@ impl Snapshot {
         self.shared.as_mut().map_or(true, |shared| shared.allows(path))
     }
 
-    /// The bytes of a regular file. Where it has the bytes that it had, they are the same in memory.
+    /// The bytes of a regular file. If it has the bytes that it had, they are the same in memory.
     ///
     /// # Errors
     /// It is not there, no regular file, or cannot be read.
@@ -248,7 +248,7 @@ impl ScriptFiles for Snapshot {
     }
 }
 
-/// What was read, with the bytes of before where they are equal.
+/// What was read, with the bytes of before if they are equal.
 fn with_old_bytes(mut found: Seen, old: &Seen) -> Seen {
     if found.data == old.data {
         found.data = old.data.clone();

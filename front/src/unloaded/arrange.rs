@@ -67,7 +67,7 @@ pub(super) struct Arrangement<'a> {
 }
 
 impl<'a> Arrangement<'a> {
-    /// Arranges the output sections of a layout that are not loaded; those of debug information are left out where they
+    /// Arranges the output sections of a layout that are not loaded; those of debug information are left out if they
     /// are stripped.
     pub(super) fn of(
         evaluation: &'a Evaluation,

@@ -9,7 +9,7 @@ const HEADER: usize = 24;
 /// The bytes that such a section has at most.
 const GREATEST: u64 = 1 << 31;
 
-/// The bytes and the alignment of a section; `None` where it is compressed in another way, or is not whole.
+/// The bytes and the alignment of a section; `None` if it is compressed in another way, or is not whole.
 pub(super) fn inflated(data: &[u8]) -> Option<(Vec<u8>, u64)> {
     let word = |at: usize| data.get(at..at + 8).and_then(|bytes| bytes.try_into().ok()).map(u64::from_le_bytes);
     let (kind, size, align) = (word(0)? as u32, word(8)?, word(16)?);

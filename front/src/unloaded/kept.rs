@@ -26,7 +26,7 @@ impl<'a> Kept<'a> {
         Kept { objects, groups }
     }
 
-    /// The section that is kept in place of one of an object; `None` where there is none of its name and size.
+    /// The section that is kept in place of one of an object; `None` if there is none of its name and size.
     pub(crate) fn in_place_of(&self, object: ObjectIndex, number: SectionIndex) -> Option<(ObjectIndex, SectionIndex)> {
         let dropped = self.objects.get(object.0 as usize)?;
         let section = dropped.section(number)?;

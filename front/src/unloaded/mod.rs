@@ -123,7 +123,7 @@ pub struct Link<'a> {
     pub laid_out: LaidOut<'a>,
 }
 
-/// The sections of a link that are not loaded. `map` gives the map of the image, where that is needed.
+/// The sections of a link that are not loaded. `map` gives the map of the image, if that is needed.
 ///
 /// # Errors
 /// Something in them is none of this; or `map` says so.
@@ -299,7 +299,7 @@ fn apply(piece: &Piece<'_>, address: u64, bytes: &mut [u8], targets: Option<&Tar
     Ok(())
 }
 
-/// What the field of a relocation gets; `None` where what it names is not in the output.
+/// What the field of a relocation gets; `None` if what it names is not in the output.
 fn value_of(
     targets: &Targets<'_>,
     object: crate::objects::ObjectIndex,

@@ -10,7 +10,7 @@ use crate::layout::ids::SectionId;
 use crate::objects::{Object, ObjectIndex, SectionFlags, SectionIndex};
 use crate::report::link_map::LinkMap;
 
-/// The places of input sections: as GNU ld lays them out where the image has its output sections there, else as the map
+/// The places of input sections: as GNU ld lays them out if the image has its output sections there, else as the map
 /// has them.
 pub(super) struct Places<'a> {
     evaluation: &'a Evaluation,

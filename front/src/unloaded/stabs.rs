@@ -112,7 +112,7 @@ struct Merging<'a> {
     first: Option<SectionId>,
 }
 
-/// The rows of a section: each with the place of its name, `None` where it is left out.
+/// The rows of a section: each with the place of its name, `None` if it is left out.
 struct Rows<'a> {
     index: ObjectIndex,
     object: &'a Object,
@@ -137,7 +137,7 @@ impl<'a> Merging<'a> {
         }
     }
 
-    /// Adds the rows of an object; where they are none of stabs, they stay as they are.
+    /// Adds the rows of an object; if they are none of stabs, they stay as they are.
     fn add(&mut self, (index, object): (ObjectIndex, &'a Object), names: SectionId, rows: &[SectionId]) {
         let number = |id: SectionId| self.evaluation.section(id).and_then(InputSection::number);
         let names_in = match number(names).filter(|number| !object.has_relocations(*number)) {
@@ -168,7 +168,7 @@ impl<'a> Merging<'a> {
         }
     }
 
-    /// Gives each row the place of its name; `None` where a name is past the end.
+    /// Gives each row the place of its name; `None` if a name is past the end.
     fn link(&mut self, rows: &mut Rows<'a>, next: &mut usize) -> Option<()> {
         let (count, mut begin) = (rows.kept.len(), 0);
         let mut left_out = vec![false; count];
@@ -310,7 +310,7 @@ impl Rows<'_> {
         self.content.get(row * ROW + TYPE).copied().unwrap_or(HEAD)
     }
 
-    /// The name of a row; `None` where it is past the end.
+    /// The name of a row; `None` if it is past the end.
     fn name(&self, begin: usize, row: usize) -> Option<&[u8]> {
         let rest = self.names.get(begin.checked_add(self.word(row, 0) as usize)?..)?;
         rest.get(..rest.find_byte(0)?)

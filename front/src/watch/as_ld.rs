@@ -53,7 +53,7 @@ pub(super) enum Said {
 }
 
 impl AsLd {
-    /// Takes other bytes of objects; `false` where all is to be found anew.
+    /// Takes other bytes of objects; `false` if all is to be found anew.
     pub(super) fn take(&mut self, inputs: &mut Inputs, changed: &[PathBuf]) -> bool {
         let mut plan = match self.plan.take() {
             Some(plan) => plan,
@@ -177,7 +177,7 @@ impl AsLd {
         self.is_compared && !self.agrees || !self.is_compared && self.plan.as_ref().map_or(false, wants)
     }
 
-    /// The sizes of the image, where they are asked for and known.
+    /// The sizes of the image, if they are asked for and known.
     pub(super) fn sizes(&self) -> Option<Sizes> {
         let is_asked = self.command.prints_memory_usage && self.agrees;
         let evaluation = self.plan.as_ref().filter(|_| is_asked)?.evaluation.as_ref().ok()?;

@@ -12,7 +12,7 @@ use super::stops::Stops;
 
 /// How long a command has to end after SIGTERM.
 const GRACE: Duration = Duration::from_secs(2);
-/// How often it is looked whether a command has ended, where no signal says so.
+/// How often it is looked whether a command has ended, if no signal says so.
 const LOOK: Duration = Duration::from_millis(20);
 
 /// A command of the shell in a process group of its own. Its standard output may be sent to standard error.
@@ -45,7 +45,7 @@ impl Command {
         Ok(())
     }
 
-    /// Its status, once, where it has ended by now.
+    /// Its status, once, if it has ended by now.
     pub(super) fn ended(&mut self) -> Option<ExitStatus> {
         let status = self.process.as_mut()?.try_wait().ok().flatten()?;
         self.process = None;

@@ -243,12 +243,12 @@ fn explained(fault: io::Error) -> io::Error {
     }
 }
 
-/// What tells a file or folder from another that had its name before; `None` where there is none.
+/// What tells a file or folder from another that had its name before; `None` if there is none.
 pub(super) fn identity(path: &Path) -> Option<FileId> {
     look(path).ok().map(|found| Stamp::of(&found).id)
 }
 
-/// Whether a process has this file open for writing; `None` where that cannot be asked.
+/// Whether a process has this file open for writing; `None` if that cannot be asked.
 pub(super) fn has_writer(path: &Path) -> Option<bool> {
     if !std::fs::metadata(path).ok()?.is_file() {
         return None; // opening it may do something
@@ -257,7 +257,7 @@ pub(super) fn has_writer(path: &Path) -> Option<bool> {
     place::has_writer(&OpenOptions::new().read(true).custom_flags(flags).open(path).ok()?)
 }
 
-/// What an event's mask says of a file; `asked` is whether it has a writer, where that is known.
+/// What an event's mask says of a file; `asked` is whether it has a writer, if that is known.
 fn kind_of(path: &Path, mask: EventMask, asked: Option<bool>) -> Kind {
     let by = |is_written: bool| if is_written { Kind::Writing } else { Kind::Whole };
     if mask.contains(EventMask::CLOSE_WRITE) {

@@ -14,7 +14,7 @@ const PERIOD: Duration = Duration::from_secs(1);
 /// Events that are gathered.
 #[derive(Debug)]
 pub(super) struct Gathering {
-    /// When the first of them came; `None` where there is nothing to deal with.
+    /// When the first of them came; `None` if there is nothing to deal with.
     pub(super) first: Option<Instant>,
     /// When the last event came.
     pub(super) last: Instant,

@@ -21,7 +21,7 @@ impl Here {
         named.is_some() && named != identity(Path::new("."))
     }
 
-    /// Goes into the folder that has the name now, where that is another one; says whether it did.
+    /// Goes into the folder that has the name now, if that is another one; says whether it did.
     pub(super) fn look(&self) -> bool {
         self.is_left() && std::env::set_current_dir(&self.path).is_ok()
     }

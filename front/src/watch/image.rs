@@ -69,7 +69,7 @@ impl Output {
         Ok(())
     }
 
-    /// Writes the pieces beside the file; where that cannot be done, nothing is left.
+    /// Writes the pieces beside the file; if that cannot be done, nothing is left.
     fn prepare(&mut self, pieces: &[&[u8]]) -> Result<(), NotWritten> {
         self.open()?;
         let written = match &mut self.new {
@@ -334,7 +334,7 @@ impl Image {
         }
     }
 
-    /// Whether what was written beside is what is in place, where that may be: after another session was started.
+    /// Whether what was written beside is what is in place, if that may be: after another session was started.
     pub(super) fn is_there(&mut self) -> bool {
         self.compares && self.outputs().all(|output| output.holds())
     }

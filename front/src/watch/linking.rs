@@ -34,7 +34,7 @@ pub(super) type Refusals = Vec<(String, Diagnostic)>;
 pub(super) enum Found {
     /// All that is needed is there.
     Ready,
-    /// An input is missing: its name, and why, where it is none of the inputs.
+    /// An input is missing: its name, and why, if it is none of the inputs.
     NotThere(Option<(String, String)>),
     /// There is no link with these inputs.
     Refused(Refusals),
@@ -122,7 +122,7 @@ impl Linking {
         self.find_anew(words, inputs, stops)
     }
 
-    /// Takes other bytes of inputs; `false` where all is to be found anew.
+    /// Takes other bytes of inputs; `false` if all is to be found anew.
     fn take(&mut self, words: &Words, inputs: &mut Inputs, paths: &[PathBuf]) -> bool {
         match self.mode {
             Mode::Plain => self.plain.take(words, &inputs.snapshot, paths) && !self.plain.has_archives,

@@ -23,7 +23,7 @@ const LONGEST_PAUSE: Duration = Duration::from_secs(60);
 /// Runs a command, once at a time, when it is wanted.
 ///
 /// inotify does not say who wrote a file. A source whose bytes differ from those that it had when the command began is
-/// made once more, however often: it may be a save. Where it changes in one run after the other, the command may write
+/// made once more, however often: it may be a save. If it changes in one run after the other, the command may write
 /// it: then there are pauses between the runs. What came for the first time in a run is the command's own, and there is
 /// a pause as soon as it changes in another run. What has the same bytes as before is no change.
 #[derive(Debug)]
@@ -199,7 +199,7 @@ impl Making {
     }
 }
 
-/// A digest of the file's bytes; `None` where it cannot be read.
+/// A digest of the file's bytes; `None` if it cannot be read.
 fn digest_of(path: &Path) -> Option<u64> {
     if !fs::metadata(path).ok()?.is_file() {
         return None;

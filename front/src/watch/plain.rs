@@ -39,7 +39,7 @@ pub(super) struct Plain {
 }
 
 impl Plain {
-    /// Takes other bytes of the script or of objects; `false` where all is to be found anew.
+    /// Takes other bytes of the script or of objects; `false` if all is to be found anew.
     pub(super) fn take(&mut self, words: &Words, snapshot: &Snapshot, changed: &[PathBuf]) -> bool {
         for path in changed {
             let data = match snapshot.seen(path) {
@@ -149,7 +149,7 @@ impl Plain {
         said.into_iter().map(|one| (held.name.to_str_lossy().into_owned(), one)).collect()
     }
 
-    /// The messages of the script, where it is refused.
+    /// The messages of the script, if it is refused.
     pub(super) fn refused_script(
         &self,
         words: &Words,
@@ -174,7 +174,7 @@ fn said_of_lists<'a>(lists: impl Iterator<Item = &'a PathBuf>, text: &str, line:
     Found::Refused(lists.map(said).collect())
 }
 
-/// The script with this symbol as its ENTRY, and all lines where they are; `None` where it cannot be written there, and
+/// The script with this symbol as its ENTRY, and all lines where they are; `None` if it cannot be written there, and
 /// the symbol is an option of the session.
 fn with_entry(script: &[u8], symbol: &BStr) -> Option<Vec<u8>> {
     if !is_profile_name(symbol) {

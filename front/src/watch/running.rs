@@ -82,7 +82,7 @@ impl Commands {
         self.making.as_mut().map_or(Ok(false), |making| making.look(watcher))
     }
 
-    /// Says how `--run`'s command ended, where it has failed by now.
+    /// Says how `--run`'s command ended, if it has failed by now.
     ///
     /// # Errors
     /// It cannot be printed.
@@ -95,7 +95,7 @@ impl Commands {
         Ok(())
     }
 
-    /// How `--make`'s command ended, where it has by now; `finish` is called when the events are taken that are there.
+    /// How `--make`'s command ended, if it has by now; `finish` is called when the events are taken that are there.
     pub(super) fn make_ended(&mut self) -> Option<std::process::ExitStatus> {
         self.making.as_mut()?.command.ended()
     }
@@ -135,7 +135,7 @@ impl Commands {
         self.time().map_or(false, |when| when <= now)
     }
 
-    /// Starts `--make`'s command where it is wanted; gives the message of one that has failed, or takes long.
+    /// Starts `--make`'s command if it is wanted; gives the message of one that has failed, or takes long.
     ///
     /// # Errors
     /// It cannot be started, or the message cannot be printed.

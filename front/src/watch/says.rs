@@ -60,7 +60,7 @@ pub(super) struct Teller {
     is_json: bool,
     is_coloured: bool,
     image: PathBuf,
-    /// Since when faults stand, by what stays of their lines where code before the place grows or shrinks.
+    /// Since when faults stand, by what stays of their lines if code before the place grows or shrinks.
     standing: HashMap<Vec<String>, usize>,
     number: usize,
     said: Option<Known>,
@@ -277,7 +277,7 @@ fn messages_of(messages: &[&Diagnostic]) -> Result<(), NoOutput> {
     }
 }
 
-/// What of a fault line stays where code before the place grows or shrinks: all but the places.
+/// What of a fault line stays if code before the place grows or shrinks: all but the places.
 fn kind_of(message: &Diagnostic) -> Vec<String> {
     let is_place = |word: &str| word.len() == 16 && word.bytes().all(|byte| byte.is_ascii_hexdigit());
     let line = message.rule.as_deref().unwrap_or_default();

@@ -132,7 +132,7 @@ fn one(letter: char, pattern: &[char]) -> Option<usize> {
     }
 }
 
-/// Whether a character is in a set, and the set's length behind `[`; `None` where it does not end.
+/// Whether a character is in a set, and the set's length behind `[`; `None` if it does not end.
 fn set(letter: char, rest: &[char]) -> Option<(bool, usize)> {
     let is_not = rest.first() == Some(&'!');
     let start = usize::from(is_not);

@@ -20,7 +20,7 @@ impl Standing {
         Standing { state: None, is_said: false, since: Instant::now() }
     }
 
-    /// Makes this the state; it is said now, or where it stays.
+    /// Makes this the state; it is said now, or if it stays.
     ///
     /// # Errors
     /// It cannot be printed.

@@ -56,7 +56,7 @@ impl Stops {
         Ok(Stops { woken, came, session })
     }
 
-    /// The signal that ends the program, where one came.
+    /// The signal that ends the program, if one came.
     pub(super) fn ending(&self) -> Option<u8> {
         u8::try_from(self.came.load(Ordering::SeqCst)).ok().filter(|signal| *signal > 0)
     }
@@ -85,7 +85,7 @@ impl AsRawFd for Stops {
     }
 }
 
-/// Ends the session at a signal, and the program after a while where it does not end by itself.
+/// Ends the session at a signal, and the program after a while if it does not end by itself.
 fn end_at_signal(mut stopped: UnixStream, session: &AtomicI32, came: &AtomicUsize, is_once: bool) {
     let mut byte = [0];
     while !matches!(stopped.read(&mut byte), Ok(count) if count > 0) {}

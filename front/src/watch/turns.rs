@@ -1,6 +1,6 @@
 //! The loop: waits for events, brings the session in step with the files, and puts the image in place.
 //!
-//! The rule of truth: the image is put in place only where the session's link has no fault, no input is refused,
+//! The rule of truth: the image is put in place only if the session's link has no fault, no input is refused,
 //! missing or being written, and each input's file is still what was last read of it. `place` alone does so.
 
 use std::io;
@@ -220,7 +220,7 @@ impl<'a> Watch<'a> {
         Ok(())
     }
 
-    /// Takes the events that are there; where some may be missing, all is looked at next.
+    /// Takes the events that are there; if some may be missing, all is looked at next.
     fn drain(&mut self) -> Result<(), WatchFault> {
         loop {
             let (places, commands) = (&self.inputs.places, &self.commands);
@@ -361,7 +361,7 @@ impl<'a> Watch<'a> {
 
     // the image
 
-    /// Puts the image in place where it is the truth of all files; begins anew where something changed meanwhile.
+    /// Puts the image in place if it is the truth of all files; begins anew if something changed meanwhile.
     fn place(&mut self) -> Result<Round, StepFault> {
         if self.image.is_current && self.image.are_placed() {
             if !matches!(self.standing.state, Some(State::Good(_))) {

@@ -80,7 +80,7 @@ pub(super) struct Usage {
 }
 
 impl Usage {
-    /// For people: `.text +48, rom 71.3 %`; empty where nothing has changed.
+    /// For people: `.text +48, rom 71.3 %`; empty if nothing has changed.
     pub(super) fn text(&self) -> String {
         let mut parts: Vec<String> =
             self.sections.iter().take(MOST).map(|(name, more)| format!("{} {more:+}", name.to_str_lossy())).collect();

@@ -302,7 +302,7 @@ pub(super) fn as_name(word: &BStr) -> BString {
     }
 }
 
-/// The patterns of sources; where all of these name files that are none, the default ones with them.
+/// The patterns of sources; if all of these name files that are none, the default ones with them.
 fn sources_of(patterns: Vec<String>) -> Vec<String> {
     if patterns.iter().any(|pattern| !pattern.starts_with('!')) {
         return patterns;

@@ -44,7 +44,7 @@ impl<'a> ImageNames<'a> {
         let count = bytes.len() / std::mem::size_of::<Sym64<LE>>();
         let entries = object::slice_from_bytes(bytes, count).map_or(&[][..], |(entries, _)| entries);
         let mut own = ImageNames { entries, names, numbers: Vec::new().into() };
-        // The names stand in the order of the entries, so that these are the same where the names are.
+        // The names stand in the order of the entries, so that these are the same if the names are.
         own.numbers = linked.numbers_in(names, || own.find(linked));
         Ok(own)
     }
@@ -77,7 +77,7 @@ impl<'a> ImageNames<'a> {
 /// No entry.
 const NONE: u32 = u32::MAX;
 
-/// Writes the names: first those that are local in the image, after a file without a name where there is one with.
+/// Writes the names: first those that are local in the image, after a file without a name if there is one with.
 /// Those in use by relocations are written in any case.
 pub(super) fn write(
     writer: &mut Writer,
@@ -141,7 +141,7 @@ impl<'a> Names<'a> {
         Names { objects: symbols.objects, places, linked: symbols.names, evaluation, outputs, own, options, sources }
     }
 
-    /// The entry of a name, and whether it is local in the image; `None` where it has no value, and no relocation in
+    /// The entry of a name, and whether it is local in the image; `None` if it has no value, and no relocation in
     /// the file uses it.
     fn entry_of(&self, number: usize, one: &LinkedName, is_used: bool) -> Option<(Entry, bool)> {
         let found = match self.own.get(number) {
@@ -191,7 +191,7 @@ impl<'a> Names<'a> {
     }
 
     /// The entry of a symbol that counts from an output section that is never made: undefined, with its value. It is
-    /// left out where it is local, where objects refer to it and all do so weakly, and where nothing but that section
+    /// left out if it is local, if objects refer to it and all do so weakly, and if nothing but that section
     /// assigns it (`elf_link_output_extsym`; `mark` is by `bfd_elf_record_link_assignment`).
     fn nowhere(&self, one: &LinkedName, known: &Symbol, is_used: bool) -> Option<(Entry, bool)> {
         let binding = match (known.is_local, one.is_referred && !one.is_needed) {
@@ -251,7 +251,7 @@ impl<'a> Names<'a> {
     }
 
     /// The visibility of a name: starts and ends of sections that GNU ld gives itself have one of their own (elflink.c,
-    /// `bfd_elf_define_start_stop`), which stays where it takes them back (ldlang.c, `undef_start_stop`).
+    /// `bfd_elf_define_start_stop`), which stays if it takes them back (ldlang.c, `undef_start_stop`).
     fn visibility_of(&self, one: &LinkedName, known: Option<&Symbol>) -> u8 {
         let is_bound = known.map_or(false, |known| known.is_bound);
         let of_sources = known.map_or(elf::STV_DEFAULT, |known| self.visibility_of_sources(known, 0));

@@ -19,7 +19,7 @@ pub(super) struct Locals<'a> {
     pub(super) symbols: &'a Symbols<'a>,
     pub(super) places: &'a Places,
     pub(super) options: &'a SymbolOptions,
-    /// The symbols that relocations in the file refer to, where it has any.
+    /// The symbols that relocations in the file refer to, if it has any.
     pub(super) referred: Option<&'a Referred>,
 }
 
@@ -143,7 +143,7 @@ impl OwnLocals<'_> {
     }
 }
 
-/// The entry of a local symbol, and whether it is in a section of merged constants; `None` where its section is not in
+/// The entry of a local symbol, and whether it is in a section of merged constants; `None` if its section is not in
 /// the image.
 fn entry_of(symbol: &Symbol<'_>, object: usize, places: &Places) -> Option<(Entry, bool)> {
     let (section, value, is_merged) = match symbol.home {
@@ -158,7 +158,7 @@ fn entry_of(symbol: &Symbol<'_>, object: usize, places: &Places) -> Option<(Entr
     Some((Entry { info, other, section, value, size: symbol.size }, is_merged))
 }
 
-/// The name that stands for a source file where an object does not say one: that of its own file.
+/// The name that stands for a source file if an object does not say one: that of its own file.
 fn file_name(object: &Object) -> &[u8] {
     let name = object.origin().name.as_bstr();
     name.rfind_byte(b'/').and_then(|at| name.get(at + 1..)).unwrap_or(name)

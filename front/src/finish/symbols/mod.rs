@@ -97,7 +97,7 @@ pub struct Symbols<'a> {
     pub evaluation: &'a Evaluation,
     /// The names of the objects and of the script.
     pub names: &'a LinkedNames,
-    /// The map of the image, where this is not laid out as the evaluation has it.
+    /// The map of the image, if this is not laid out as the evaluation has it.
     pub map: Option<&'a LinkMap>,
 }
 
@@ -166,7 +166,7 @@ impl OtherSections {
     }
 }
 
-/// The symbol table for an image, and relocations where these are asked for.
+/// The symbol table for an image, and relocations if these are asked for.
 pub(super) fn table_of(
     image: &Image<'_>,
     symbols: &Symbols<'_>,
@@ -202,7 +202,7 @@ pub(super) fn table_of(
     Ok(Tables { symbols: table, sections })
 }
 
-/// The sections of the file of an image, where it has no symbol table.
+/// The sections of the file of an image, if it has no symbol table.
 pub(super) fn sections_of(
     image: &Image<'_>,
     symbols: &Symbols<'_>,

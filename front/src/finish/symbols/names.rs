@@ -205,7 +205,7 @@ impl LinkedNames {
     }
 
     /// The numbers of the entries of these names in an image with a table of names, which `find` finds; those of the
-    /// last image where the table is the same.
+    /// last image if the table is the same.
     pub(super) fn numbers_in(&self, table: &[u8], find: impl FnOnce() -> Vec<u32>) -> Arc<[u32]> {
         let mut last = match self.last.lock() {
             Ok(last) => last,
@@ -294,7 +294,7 @@ impl<'a> Found<'a> {
         Found { names, places }
     }
 
-    /// The place of a name, which is entered where it is new.
+    /// The place of a name, which is entered if it is new.
     fn enter(&mut self, name: &'a [u8]) -> u32 {
         let place = self.places.entry(name).or_insert(NOWHERE);
         if *place == NOWHERE {
@@ -375,7 +375,7 @@ mod tests {
         (known.kind, known.size, known.visibility)
     }
 
-    /// elflink.c, `elf_link_add_object_symbols`: type and size are those of the definition, where it says any.
+    /// elflink.c, `elf_link_add_object_symbols`: type and size are those of the definition, if it says any.
     #[test]
     fn types_and_sizes() {
         let home = Home::Section(SectionIndex(1));

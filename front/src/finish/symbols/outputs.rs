@@ -11,7 +11,7 @@ use crate::layout::evaluation::{OutputSection, Placed};
 use crate::layout::ids::OutputId;
 use crate::layout::Evaluation;
 
-/// By output section: its number and its address in the image; `None` where the image has none for it.
+/// By output section: its number and its address in the image; `None` if the image has none for it.
 pub(super) struct Outputs {
     numbers: Vec<Option<Output>>,
     /// The numbers of empty sections that GNU ld takes out, with those of the sections that take their symbols.

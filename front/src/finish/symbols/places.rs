@@ -211,7 +211,7 @@ fn found_in<'a>(
 }
 
 /// The objects in the order in which GNU ld copies their sections into the file, each at its first one. Strings that are
-/// not loaded are merged, by which a section may be left out; that is looked up where it matters.
+/// not loaded are merged, by which a section may be left out; that is looked up if it matters.
 fn order_of(evaluation: &Evaluation, objects: &[Object]) -> Vec<usize> {
     let (order, has_open) = order_with(evaluation, objects, &|_| false);
     if !has_open {
@@ -221,7 +221,7 @@ fn order_of(evaluation: &Evaluation, objects: &[Object]) -> Vec<usize> {
     order_with(evaluation, objects, &|id| spans.is_left_out(id)).0
 }
 
-/// The same where some sections are left out; and whether an object comes by a section of strings first.
+/// The same if some sections are left out; and whether an object comes by a section of strings first.
 fn order_with(
     evaluation: &Evaluation,
     objects: &[Object],

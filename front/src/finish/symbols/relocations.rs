@@ -150,7 +150,7 @@ fn inputs_of(id: OutputId, symbols: &Symbols<'_>, places: &Places) -> Vec<Input>
 }
 
 impl RelocationTable {
-    /// Sorts the entries by their offsets, where they are not.
+    /// Sorts the entries by their offsets, if they are not.
     fn sort(&mut self) {
         let offset = |row: &[u8]| row.get(..8).and_then(|bytes| bytes.try_into().ok()).map_or(0, u64::from_le_bytes);
         let rows = || self.entries.chunks_exact(ENTRY);

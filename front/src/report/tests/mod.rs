@@ -1,4 +1,4 @@
-//! Tests of messages, over objects by `gcc` and `as` where these are there.
+//! Tests of messages, over objects by `gcc` and `as` if these are there.
 
 mod faults;
 mod messages;
@@ -14,7 +14,7 @@ use bstr::BString;
 use super::{fault_diagnostics, Diagnostic, Inputs};
 use crate::objects::{Object, Origin};
 
-/// The object of a source, which is `text` with this suffix in a folder of its own, as if in `/project`; none where the
+/// The object of a source, which is `text` with this suffix in a folder of its own, as if in `/project`; none if the
 /// program is not there.
 fn built(program: &str, words: &[&str], prefix_map: &str, source: &str, suffix: &str) -> Option<Vec<u8>> {
     static COUNT: AtomicUsize = AtomicUsize::new(0);

@@ -101,7 +101,7 @@ impl<'a> Parser<'a> {
         self.lexer.error(found, kind).with_hint(hint)
     }
 
-    /// What may be meant, where a name has a mark in it: GNU ld takes `x=1` as one name.
+    /// What may be meant, if a name has a mark in it: GNU ld takes `x=1` as one name.
     fn hint(&self, found: Token) -> Option<String> {
         let tokens = [self.lexer.previous(), Some(found)];
         let names = tokens.into_iter().flatten().filter(|token| token.kind == Kind::Name);
@@ -125,7 +125,7 @@ impl<'a> Parser<'a> {
         self.lexer.error(opening, ErrorKind::Open { of })
     }
 
-    /// Goes on after the statement that has an error, where a text is only looked at: to a `;`, past the braces that it
+    /// Goes on after the statement that has an error, if a text is only looked at: to a `;`, past the braces that it
     /// opens, or to one that closes what is around it.
     fn recover(&mut self, state: State, error: ScriptError) -> Parsed<()> {
         if self.lexer.dialect == Dialect::Gnu || self.errors.len() >= MAX_ERRORS {

@@ -16,7 +16,7 @@ pub(super) fn script(script: &Script) -> Vec<u8> {
     printer.out
 }
 
-/// The text of an expression, with parentheses where it needs them.
+/// The text of an expression, with parentheses if it needs them.
 pub(super) fn expression(expr: &Expr) -> Vec<u8> {
     let mut printer = Printer::default();
     printer.expr(expr);
@@ -47,7 +47,7 @@ impl Printer {
         self.put("\"");
     }
 
-    /// A name, in quotes where the state needs them.
+    /// A name, in quotes if the state needs them.
     fn name(&mut self, state: State, name: &Name) {
         if is_bare(state, name) {
             self.out.extend_from_slice(name);

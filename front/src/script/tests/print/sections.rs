@@ -232,7 +232,7 @@ impl Printer {
         }
     }
 
-    /// A name that is written in quotes where it was.
+    /// A name that is written in quotes if it was.
     fn pattern_name(&mut self, state: State, name: &Name, is_quoted: bool) {
         if is_quoted {
             self.quoted(name);
