@@ -14,8 +14,8 @@
 #![deny(unsafe_code)]
 #![warn(missing_docs)]
 
-/// Prints a line on standard error. Those of the standard library panic if it cannot be written, as on a full disk
-/// or if its reader has gone away.
+/// Prints a line on standard error. Those of the standard library panic if it cannot be written, for
+/// example on a full disk, or if its reader has gone away.
 macro_rules! eprintln {
     ($($words:tt)*) => { $crate::streams::print_line($crate::streams::Stream::Errors, format_args!($($words)*)) };
 }

@@ -8,7 +8,7 @@ const MOST_THREADS: usize = 8;
 /// So many are taken by a thread at once.
 const AT_ONCE: usize = 16;
 
-/// What something comes to for each item, in their order.
+/// The results of a function for some items, in their order, computed by several threads.
 pub(crate) fn map_all<T: Sync, R: Send>(items: &[T], act: &(dyn Fn(&T) -> R + Sync)) -> Vec<R> {
     let threads = match items.len() {
         0..=FEW => 1,

@@ -51,7 +51,7 @@ pub fn print(stream: Stream, text: &[u8]) {
 /// Prints a text on a stream of this process.
 ///
 /// # Errors
-/// What the system says.
+/// If the stream cannot be written.
 pub fn print_here(stream: Stream, text: &[u8]) -> std::io::Result<()> {
     match stream {
         Stream::Output => {

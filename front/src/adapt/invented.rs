@@ -26,7 +26,7 @@ pub(crate) struct Invented {
 /// The kinds of objects over which GNU ld links the script.
 ///
 /// # Errors
-/// If there is none: why it does not.
+/// If GNU ld links the script over no kind of object: why it does not.
 pub(crate) fn all(script: &Script) -> Result<Vec<Invented>, Stop> {
     let (mut found, mut stopped) = (Vec::new(), None);
     for kind in Kind::ALL {
@@ -163,7 +163,7 @@ struct Outline {
     has_commons: bool,
     /// The symbols that the script uses and does not assign.
     defined: BTreeSet<Name>,
-    /// Those that it only PROVIDEs.
+    /// The symbols that the script only PROVIDEs.
     wanted: BTreeSet<Name>,
 }
 

@@ -3,7 +3,7 @@
 use crate::script::tree::{Name, Span};
 use std::fmt;
 
-/// Something that is another in the image.
+/// A difference between the image and what GNU ld makes.
 #[derive(Clone, PartialEq, Eq, Debug)]
 pub struct Difference {
     /// What it is.
@@ -165,9 +165,9 @@ impl fmt::Display for Difference {
     }
 }
 
-/// Of each difference the construct that explains it, of those that the script of the profile says otherwise: the one
-/// that it stands in, else the last one in front of it, as what follows moves with it; if it is of no statement, the
-/// first. `changed` are the places of these constructs. A difference without any is one that nothing explains.
+/// For each difference the construct of the script that explains it, of those that the script of the profile says
+/// otherwise (`changed`): the one that the difference stands in, else the last one in front of it, as what follows
+/// moves with it; if the difference is of no statement, the first.
 pub fn explained(differences: &[Difference], changed: &[Span]) -> Vec<Option<Span>> {
     let mut changed = changed.to_vec();
     changed.sort_by_key(|span| (span.start, span.end));

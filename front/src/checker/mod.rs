@@ -34,7 +34,7 @@ pub struct Checked {
 /// places of input sections.
 ///
 /// # Errors
-/// The bytes are no image.
+/// If the bytes are no image.
 pub fn check(
     evaluation: &Evaluation,
     objects: &[Object],

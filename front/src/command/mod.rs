@@ -170,7 +170,7 @@ pub struct Defsym {
     pub value: BString,
 }
 
-/// What the words of a command line come to.
+/// The command that the words of a command line give.
 #[derive(Clone, PartialEq, Eq, Debug)]
 pub struct Command {
     /// The image's file: that of the last `-o`; `a.out` if there is none.

@@ -8,7 +8,7 @@ use bstr::{BStr, BString, ByteSlice};
 /// Whether an option has a value.
 #[derive(Clone, Copy, PartialEq, Eq, Hash, Debug)]
 pub enum Argument {
-    /// It has none.
+    /// The option has no value.
     Absent,
     /// After `=`, after the letter of a short option, or the next word.
     Needed,
@@ -19,11 +19,11 @@ pub enum Argument {
 /// What becomes of an option.
 #[derive(Clone, Copy, PartialEq, Eq, Debug)]
 pub enum Effect {
-    /// It is taken.
+    /// The option is taken.
     Taken(Action),
     /// Nothing is said: it changes nothing of a static image, or only what `ldi` never makes.
     Ignored,
-    /// It has no effect here, and one line says what that means.
+    /// The option has no effect here, and one line says what that means.
     Said(&'static str),
     /// Only another linker can do it; the text says what it is.
     Impossible(&'static str),
@@ -98,7 +98,7 @@ pub enum Action {
 /// A row of the table.
 #[derive(Clone, Copy, PartialEq, Eq, Debug)]
 pub struct OptionRow {
-    /// Its names without dashes, separated by spaces; the first one is the one by which it is spoken of.
+    /// The option's names without dashes, separated by spaces; messages use the first one.
     pub names: &'static str,
     /// Whether it has a value.
     pub argument: Argument,
@@ -107,7 +107,7 @@ pub struct OptionRow {
 }
 
 impl OptionRow {
-    /// Its names without dashes.
+    /// The option's names without dashes.
     pub fn names(&self) -> impl Iterator<Item = &'static str> {
         self.names.split(' ')
     }
@@ -395,13 +395,13 @@ static NO_WARNING: OptionRow = row("no-warn-", Absent, Ignored);
 /// What becomes of a word of `-z`.
 #[derive(Clone, Copy, PartialEq, Eq, Debug)]
 pub enum KeywordEffect {
-    /// It is taken: by the layout, or as a page's size.
+    /// The word is taken: by the layout, or as a page's size.
     Taken,
     /// GNU ld is to let something pass.
     Lenient(Leniency),
-    /// It changes nothing of a static image, or only what `ldi` never makes.
+    /// The word changes nothing of a static image, or only what `ldi` never makes.
     Ignored,
-    /// It has no effect here, and one line says what that means.
+    /// The word has no effect here, and one line says what that means.
     Said(&'static str),
 }
 
@@ -505,7 +505,7 @@ pub struct FoundOption {
 /// Finds the options that a word with a dash names.
 ///
 /// # Errors
-/// The word names none, or several by a name that is cut short.
+/// If the word names no option, or is short for several.
 pub fn find_option(word: &BStr) -> Result<FoundOption, WordsRefused> {
     let dashes = if word.starts_with(b"--") { 2 } else { 1 };
     let text = word.get(dashes..).unwrap_or_default();

@@ -14,7 +14,7 @@ const GREATEST_PAGE: u64 = 1 << 30;
 /// The command of some words, in which the words of each `@FILE` stand in its place already.
 ///
 /// # Errors
-/// The words are no command line of GNU ld.
+/// If the words are no command line of GNU ld.
 pub fn read_command(words: &[BString]) -> Result<Command, WordsRefused> {
     let mut reader = Reader::default();
     let mut words = words.iter();

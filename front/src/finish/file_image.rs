@@ -148,7 +148,7 @@ impl FileImage {
         self.pieces().nth(after.checked_sub(1)?)
     }
 
-    /// All of it in one.
+    /// The file's bytes, in one vector.
     pub fn to_vec(&self) -> Vec<u8> {
         let mut all = Vec::with_capacity(usize::try_from(self.length).unwrap_or(0));
         for (at, bytes) in self.pieces() {
@@ -158,7 +158,7 @@ impl FileImage {
         all
     }
 
-    /// All of it in one, without a copy if it is the image as it was.
+    /// The file's bytes, in one vector: without a copy if the file is the image unchanged.
     pub fn into_vec(self) -> Vec<u8> {
         match self.pieces.as_slice() {
             [Piece { at: 0, source: Source::Image(range) }] if *range == (0..self.image.len()) => self.image.into_vec(),

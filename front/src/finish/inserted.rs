@@ -69,7 +69,7 @@ pub(super) fn insert(data: &[u8], sections: OtherSections, plan: &mut Option<Fil
 struct Numbers {
     /// By the numbers before.
     numbers: Vec<usize>,
-    /// Those that are put in, in their order.
+    /// The numbers of the sections that are put in, in their order.
     inserted: Vec<usize>,
     /// By the number by which symbols refer to one that is put in.
     referred: Vec<(u16, usize)>,

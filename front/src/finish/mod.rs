@@ -83,7 +83,7 @@ impl Default for Form {
     }
 }
 
-/// Something to say of a file that was made.
+/// A message about a file that was made.
 #[derive(Clone, PartialEq, Eq, Debug, thiserror::Error)]
 pub enum FinishNote {
     /// PHDRS have a section in no segment.
@@ -130,7 +130,7 @@ pub struct Finished {
 /// symbols is that of the image.
 ///
 /// # Errors
-/// If the form has no file for this image, and if the file would not load what the image loads.
+/// If the form has no file for this image, or the file would not load what the image loads.
 pub fn finish(
     image: impl Into<Answered>,
     form: &Form,
@@ -143,7 +143,7 @@ pub fn finish(
 /// The same with tables that are kept.
 ///
 /// # Errors
-/// Those of `finish`.
+/// As [`finish`].
 pub fn finish_again(
     image: impl Into<Answered>,
     form: &Form,

@@ -39,13 +39,13 @@ pub struct WantedSegment {
 /// Why the program headers of PHDRS are not written for an image.
 #[derive(Clone, PartialEq, Eq, Debug, thiserror::Error)]
 pub enum NotWritten {
-    /// They are not known.
+    /// The program headers are not known.
     #[error("{0}")]
     Unknown(String),
     /// What is there is no image.
     #[error(transparent)]
     NotAnImage(#[from] NotAnImage),
-    /// There are too many.
+    /// There are too many program headers.
     #[error("there are {0} program headers")]
     TooMany(usize),
     /// The file would be too large.
@@ -84,7 +84,7 @@ pub enum NotWritten {
         /// The second one.
         second: BString,
     },
-    /// No room for the headers.
+    /// There is no room for the headers of the file.
     #[error("there is no room for the headers of the file before {0}")]
     NoRoom(BString),
     /// Headers in a segment of another type.
@@ -390,7 +390,7 @@ impl Writer<'_> {
         })
     }
 
-    /// No two PT_LOADs share addresses or load addresses.
+    /// Tests that no two PT_LOADs share addresses or load addresses.
     fn check_apart(&self) -> Result<(), NotWritten> {
         let loads = || self.entries.iter().filter(|entry| entry.is_load() && entry.written.memory_size != 0);
         for what in ["addresses", "load addresses"] {

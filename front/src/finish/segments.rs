@@ -32,9 +32,9 @@ pub struct MadeHeaders {
     pub has_own_page: bool,
     /// How many program headers there is room for.
     pub room: u64,
-    /// Those in front of what is loaded.
+    /// The segments in front of those that are loaded.
     pub before: Vec<MadeSegment>,
-    /// Those behind what is loaded.
+    /// The segments behind those that are loaded.
     pub after: Vec<MadeSegment>,
     /// What is read-only after relocation: the start and the end of PT_GNU_RELRO.
     pub relro: Option<(u64, u64)>,
@@ -131,7 +131,8 @@ fn loaded<'a>(image: &'a Image<'_>) -> impl Iterator<Item = (usize, &'a Section)
     image.sections.iter().enumerate().filter(|(_, section)| section.is_allocated() && section.size != 0)
 }
 
-/// The same headers of an image that is laid out otherwise.
+/// The headers that GNU ld would make of the sections of an image that is laid out otherwise; and for each section the
+/// number of its header in the image.
 fn of_image(
     image: &Image<'_>,
     made: &MadeHeaders,

@@ -12,7 +12,7 @@ use crate::report::link_map::{LinkMap, Piece};
 pub(super) struct Places<'a>(Vec<&'a Piece>);
 
 impl<'a> Places<'a> {
-    /// Those of a map.
+    /// The input sections of a map that have bytes, by their addresses.
     pub(super) fn of(map: &'a LinkMap) -> Places<'a> {
         let mut pieces: Vec<&Piece> = map.pieces().filter(|piece| piece.size > 0).collect();
         pieces.sort_by_key(|piece| piece.address);

@@ -117,7 +117,7 @@ impl Call {
         Call::of(values, others, has_lines)
     }
 
-    /// What values and other words come to.
+    /// The call for the values of options and the other words.
     fn of(values: Values, mut others: Vec<OsString>, has_lines: bool) -> Result<Call, WordsRefused> {
         if others.is_empty() {
             return Err(WordsRefused::MapMissing);

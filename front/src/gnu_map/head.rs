@@ -15,7 +15,7 @@ use crate::script::tree::{RegionAttributes, SectionStatement, SectionsStatement,
 const MEMBER_COLUMN: usize = 30;
 const COMMON_COLUMN: usize = 20;
 
-/// All of it.
+/// The head of the map: members of archives, common blocks, sections that are left out, memory.
 pub(super) fn text(request: &Request<'_>, known: &LinkNames) -> String {
     [members(request), commons(request, known), left_out(request), memory(request)].concat()
 }

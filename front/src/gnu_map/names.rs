@@ -25,7 +25,7 @@ impl Defined {
         Defined(found)
     }
 
-    /// Those of a section.
+    /// The names that are defined in a section, each with its place there.
     pub(super) fn in_section(&self, section: SectionId) -> &[(u64, BString)] {
         self.0.get(&section).map_or(&[], Vec::as_slice)
     }

@@ -76,7 +76,7 @@ impl Archive {
     /// The archive of a file.
     ///
     /// # Errors
-    /// It is cut off, or has bad headers.
+    /// If the archive is cut off, or a header in it is bad.
     pub fn parse(path: &Path, data: Bytes) -> Result<Archive, BadArchive> {
         let mut archive = Archive {
             path: path.to_owned(),

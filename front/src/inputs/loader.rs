@@ -73,7 +73,7 @@ impl KnownObjects {
         self.0.insert(KnownObjects::key(&data), (data, object));
     }
 
-    /// The same for an object in the place of another of its name, which is let go.
+    /// Enters an object in the place of another of its name, which is let go.
     pub(super) fn replace(&mut self, data: Bytes, object: Object) {
         self.0.retain(|_, (_, old)| old.name() != object.name());
         self.put(data, object);

@@ -82,7 +82,7 @@ pub fn has_inputs(command: &Command, scripts: &[ScriptInputs]) -> bool {
 /// Takes all inputs of a link. What is the same in memory as it was in `before` is not read into tables again.
 ///
 /// # Errors
-/// An input is none of a static link, or is not there.
+/// If an input can be no part of a static link, or is not there.
 pub fn load(request: &Request<'_>, snapshot: &mut Snapshot, before: Option<&Loaded>) -> Result<Loaded, InputFault> {
     Loader::new(request, snapshot, before)?.load()
 }

@@ -8,15 +8,15 @@ use bstr::{BStr, BString};
 /// What is known of a name, or what an object has of it.
 #[derive(Clone, Copy, PartialEq, Eq, PartialOrd, Ord, Hash, Debug)]
 pub enum NameState {
-    /// It is undefined.
+    /// The name is undefined.
     Undefined,
-    /// It is undefined, by weak references alone.
+    /// The name is undefined, by weak references alone.
     UndefinedWeak,
-    /// It is a common block.
+    /// The name is a common block.
     Common,
-    /// It has a weak definition.
+    /// The name has a weak definition.
     Weak,
-    /// It is defined.
+    /// The name is defined.
     Defined,
 }
 
@@ -87,7 +87,7 @@ impl Names {
         self.taken.push(object.clone());
     }
 
-    /// Another object is in the place of one that was taken, and has the same of the names that count.
+    /// Puts another object in the place of one that was taken, which has the same of the names that count.
     pub(super) fn replace(&mut self, place: usize, object: &Object) {
         self.taken.get_mut(place).into_iter().for_each(|old| *old = object.clone());
     }

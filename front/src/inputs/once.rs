@@ -49,8 +49,8 @@ impl OnceLinked {
         self.dropped.contains(name)
     }
 
-    /// The same for another object at the place of one of the same keys; `None` if it has others, so that other
-    /// objects may change with it.
+    /// The object with other bytes at its place, without what an earlier object has: `None` if it has other keys than
+    /// before, so that other objects may change with it.
     fn take_again(&self, place: usize, object: Object) -> Option<Object> {
         let own = self.keys.get(&place).map_or(&[][..], Vec::as_slice);
         let found = once_of(&object);

@@ -17,7 +17,7 @@ struct Replaced {
     data: Bytes,
     /// With all of its sections.
     whole: Object,
-    /// As it is in this link.
+    /// The object as it is in this link.
     new: Object,
 }
 

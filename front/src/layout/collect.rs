@@ -58,7 +58,7 @@ struct Marked<'a> {
     rows: &'a Rows,
     settings: &'a GcSettings,
     is_marked: Vec<bool>,
-    /// Those whose references were not followed yet.
+    /// The sections whose references were not followed yet.
     waiting: Vec<SectionId>,
     /// The sections that are reached and are left out with their groups, and those of them that were not followed yet.
     left_out: QuickSet<(ObjectIndex, SectionIndex)>,
@@ -242,7 +242,7 @@ impl<'a> Marked<'a> {
         }
     }
 
-    /// The same by the groups of a type: that of a group that is left out is none.
+    /// Marks the other sections of a section's groups of one type; a group that is left out counts as none.
     fn mark_group_of(&mut self, index: ObjectIndex, object: &Object, number: SectionIndex, kind: SectionKind) {
         let is_group =
             |section: &Section<'_>| section.kind == kind && (kind == SectionKind::GROUP || section.name == ".group");

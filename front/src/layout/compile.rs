@@ -15,7 +15,7 @@ use bstr::ByteSlice;
 /// The program of a script.
 ///
 /// # Errors
-/// What GNU ld refuses while it reads the script, and what is not evaluated.
+/// If GNU ld refuses the script while it reads it, or the script has something that is not evaluated.
 pub(crate) fn compile(script: &Script) -> Result<Program, Stop> {
     let mut program = Program::default();
     for statement in &script.statements {

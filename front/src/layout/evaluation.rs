@@ -157,7 +157,7 @@ pub enum StatementKind {
     },
     /// FILL.
     Fill,
-    /// Something that has no effect on the layout.
+    /// A statement that has no effect on the layout.
     Other,
 }
 
@@ -198,7 +198,7 @@ pub struct OutputSection {
 }
 
 impl OutputSection {
-    /// Its place if it is in the image.
+    /// The section's place, if it is in the image.
     pub fn in_image(&self) -> Option<&Placed> {
         self.place.as_ref().filter(|place| !place.is_gone)
     }
@@ -286,7 +286,7 @@ pub enum Origin {
 pub enum Fate {
     /// Nowhere yet.
     Open,
-    /// It is left out.
+    /// The section is left out.
     Discarded,
     /// Into an output section.
     Output(OutputId),

@@ -198,7 +198,7 @@ pub(crate) fn align_power(value: u64, align: u64) -> u64 {
     value.wrapping_add(align.wrapping_sub(1)) & align.wrapping_neg()
 }
 
-/// The power of two that an alignment comes to; 0 for none (ldexp.c, `exp_get_power`).
+/// The power of two that an alignment is rounded up to; 0 for none (ldexp.c, `exp_get_power`).
 pub(crate) fn power_of(value: u64) -> u64 {
     match value {
         u64::MAX => 0,

@@ -8,7 +8,7 @@ use std::ops::{BitAnd, BitOr, BitOrAssign, BitXor, Not};
 pub struct Flags(u32);
 
 impl Flags {
-    /// No flag.
+    /// No flags.
     pub const NONE: Flags = Flags(0);
     /// SEC_ALLOC: takes memory.
     pub const ALLOC: Flags = Flags(1);

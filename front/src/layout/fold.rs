@@ -21,7 +21,7 @@ const DEEPEST_LOAD: u32 = 64;
 pub(crate) enum Phase {
     /// Files are read.
     First,
-    /// It is found out what is used.
+    /// Used sections are being found.
     Mark,
     /// Sizes and addresses are found.
     Size,
@@ -68,7 +68,7 @@ pub(crate) enum SegmentPhase {
     RelroAdjust,
 }
 
-/// Which of them the statement has that is evaluated.
+/// Which of DATA_SEGMENT_ALIGN and DATA_SEGMENT_RELRO_END the statement has that is being evaluated.
 #[derive(Clone, Copy, PartialEq, Eq, Debug, Default)]
 pub(crate) enum RelroSeen {
     #[default]
@@ -198,7 +198,7 @@ impl Link<'_> {
         Folded { value: self.address(found), base: Base::Absolute, ..found }
     }
 
-    /// The same, after which the expression has no address that counts from the section around.
+    /// The value as an absolute one; then the expression has no address that counts from the section around.
     fn made_absolute(&mut self, found: Folded) -> Folded {
         self.is_from_address = false;
         self.absolute(found)

@@ -15,7 +15,8 @@ pub(crate) fn is_left_out(section: &Section<'_>) -> bool {
 }
 
 impl Link<'_> {
-    /// Those that statements under KEEP match (ldlang.c, `gc_section_callback`).
+    /// The sections that statements under KEEP match, of those that are left out of objects (ldlang.c,
+    /// `gc_section_callback`).
     pub fn kept_of_left_out(&mut self, objects: &[Object]) -> Vec<(ObjectIndex, SectionIndex)> {
         let kept: Vec<Taking> = self.program.takings.iter().filter(|taking| taking.node.is_kept).cloned().collect();
         let mut sections: Vec<InputSection> = Vec::new();

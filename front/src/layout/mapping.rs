@@ -216,7 +216,8 @@ impl Link<'_> {
         REVERSED.iter().any(|(reversed, _)| name == Some(reversed.as_bstr()))
     }
 
-    /// The same of a section that is like the one before, which was added: nothing but the alignment may change.
+    /// Adds a section that is like the one before, which was added: nothing but the alignment may change. Gives whether
+    /// it was.
     fn add_alike(&mut self, id: OutputId, section: SectionId) -> bool {
         let (output, input) = match (self.program.outputs.get_mut(id.index()), self.sections.get_mut(section.index())) {
             (Some(output), Some(input)) => (output, input),

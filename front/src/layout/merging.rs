@@ -51,7 +51,7 @@ impl Merges {
         self.part(object, section).map(|part| part.contents.len() as u64)
     }
 
-    /// What a section of an object comes to; `None` if it is not merged.
+    /// A section of an object as it is after merging; `None` if it is not merged.
     pub fn part(&self, object: ObjectIndex, section: SectionIndex) -> Option<&MergedPart> {
         let (group, part) = *self.numbers.get(&MergeSource { object, section })?;
         self.groups.get(group as usize)?.merged.parts().get(part as usize)
@@ -170,7 +170,7 @@ struct Candidate {
     contents: Bytes,
 }
 
-/// What sections come to: as before if they are the same.
+/// The merged sections of one kind: those of before if the sections are the same.
 fn group_of(kind: MergeKind, candidates: &[Candidate], before: Option<&Merges>) -> Arc<Group> {
     let first = candidates.first().and_then(|first| before?.numbers.get(&first.source));
     let old = first.and_then(|(group, _)| before?.groups.get(*group as usize));

@@ -77,7 +77,7 @@ pub fn evaluate(script: &Script, objects: &[Object], settings: &Settings) -> Res
 /// them where the script stands, before what the command line has after it (ldlang.c, `lookup_name`).
 ///
 /// # Errors
-/// What GNU ld refuses while it reads the script, and what is not evaluated.
+/// If GNU ld refuses the script while it reads it, or the script has something that is not evaluated.
 pub fn named_files(script: &Script) -> Result<Vec<(Name, Span)>, Stop> {
     Ok(compile::files_of(&compile::compile(script)?))
 }
@@ -96,7 +96,7 @@ impl Layout {
     /// Compiles a script, and finds which statements match which input sections.
     ///
     /// # Errors
-    /// What GNU ld refuses while it reads the script, and what is not evaluated.
+    /// If GNU ld refuses the script while it reads it, or the script has something that is not evaluated.
     pub fn new(script: &Script, objects: &[Object], settings: &Settings) -> Result<Layout, Stop> {
         let mut program = compile::compile(script)?;
         let rows = Rows::new(&program.takings, &mut program.names, objects, settings);

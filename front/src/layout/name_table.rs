@@ -34,7 +34,7 @@ pub struct NameTable {
     heads: Vec<u32>,
 }
 
-/// No entry.
+/// Stands for no entry.
 const NONE: u32 = u32::MAX;
 
 /// hash.c, `DEFAULT_SIZE`
@@ -55,7 +55,7 @@ impl NameTable {
         self.insert_hashed(table_hash(name));
     }
 
-    /// The same by the hash of the name.
+    /// Enters a name by its hash.
     pub fn insert_hashed(&mut self, hash: u64) {
         let id = self.hashes.len() as u32;
         self.hashes.push(hash);

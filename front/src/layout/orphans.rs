@@ -100,7 +100,7 @@ pub(crate) struct Orphans {
 }
 
 impl Orphans {
-    /// All input sections that have no place yet.
+    /// Places all input sections that have no place yet.
     pub fn run(link: &mut Link<'_>) -> Result<(), Stop> {
         let mut orphans = Orphans { holds: holds(), is_ready: false, has_notes: false, left: Vec::new() };
         orphans.left.resize_with(link.program.names.len(), Vec::new);

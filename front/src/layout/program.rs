@@ -136,7 +136,7 @@ pub(crate) enum Constraint {
     ReadWrite,
     /// Made beside another of its name.
     Special,
-    /// It does not count: its constraint is not met.
+    /// The statement does not count: its constraint is not met.
     Unmet,
 }
 

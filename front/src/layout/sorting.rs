@@ -157,7 +157,7 @@ fn keys(sorts: &[Sort], span: Option<Span>) -> Result<Keys, Stop> {
     Ok(found)
 }
 
-/// The number at the end of a name, as of `.init_array.00200` (ldlang.c, `get_init_priority`).
+/// The number at the end of a name, such as that of `.init_array.00200` (ldlang.c, `get_init_priority`).
 fn priority(name: &[u8]) -> Option<u32> {
     let dot = name.iter().rposition(|byte| *byte == b'.')?;
     let digits = name.get(dot + 1..).filter(|digits| !digits.is_empty())?;

@@ -9,9 +9,9 @@ use crate::quick::{QuickMap, QuickSet};
 /// The symbols that an expression names (ldexp.c, `assign_src`).
 #[derive(Clone, Copy, PartialEq, Eq, Debug)]
 pub(crate) enum Source {
-    /// None so far.
+    /// No output section so far.
     None,
-    /// One, once.
+    /// One symbol, once.
     One(SymbolId),
     /// Several.
     Several,

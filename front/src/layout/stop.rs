@@ -9,7 +9,7 @@ pub enum Stop {
     /// GNU ld makes no image.
     #[error("{0}")]
     Refused(Refused),
-    /// It is not known what GNU ld does.
+    /// It is not known what GNU ld does with the script.
     #[error("{0}")]
     NotEvaluated(NotEvaluated),
 }
@@ -28,7 +28,7 @@ impl Stop {
 #[derive(Clone, PartialEq, Eq, Debug, Error)]
 #[error("{reason}")]
 pub struct Refused {
-    /// Why.
+    /// Why the script is refused.
     pub reason: RefusedReason,
     /// Where in the script; `None` if it is of no statement.
     pub span: Option<Span>,
@@ -122,7 +122,7 @@ pub enum RefusedReason {
     /// A type of an output section that is none.
     #[error("invalid type for output section {0}")]
     SectionType(Name),
-    /// Something that GNU ld 2.40 does not have.
+    /// A construct that GNU ld 2.40 does not have.
     #[error("{0} is not of GNU ld 2.40")]
     Newer(Name),
 }
@@ -151,7 +151,7 @@ impl RefusedReason {
 #[derive(Clone, PartialEq, Eq, Debug, Error)]
 #[error("{reason}")]
 pub struct NotEvaluated {
-    /// Why.
+    /// Why the script is not evaluated.
     pub reason: NotEvaluatedReason,
     /// Where in the script; `None` if it is of no statement.
     pub span: Option<Span>,
@@ -207,7 +207,7 @@ pub enum NotEvaluatedReason {
     Object {
         /// The object.
         object: Name,
-        /// Why.
+        /// Why it is not followed.
         what: &'static str,
     },
 }
@@ -217,7 +217,7 @@ pub(crate) fn refused<T>(reason: RefusedReason, span: Option<Span>) -> Result<T,
     Err(Stop::Refused(Refused { reason, span }))
 }
 
-/// Something that is not evaluated, at a place in the script.
+/// The error for a construct that is not evaluated, at a place in the script.
 pub(crate) fn not_evaluated<T>(reason: NotEvaluatedReason, span: Option<Span>) -> Result<T, Stop> {
     Err(Stop::NotEvaluated(NotEvaluated { reason, span }))
 }

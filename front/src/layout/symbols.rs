@@ -39,7 +39,7 @@ pub(crate) struct SymbolState {
     pub is_in_objects: bool,
     pub is_hidden: bool,
     pub by_linker: bool,
-    /// It is in a section that is not linked.
+    /// Whether the symbol is in a section that is not linked.
     pub is_unlinked: bool,
     /// The output section that an address of the script becomes one of at the end.
     pub final_section: Option<OutputId>,
@@ -64,7 +64,8 @@ impl SymbolState {
 pub(crate) struct Symbols {
     all: Vec<SymbolState>,
     ids: QuickMap<Name, SymbolId>,
-    /// Those that something has named, in the order in which it did, each with the objects that were read before.
+    /// The symbols that something has named, in the order in which it did, each with the number of objects that were
+    /// read before.
     named: Vec<(usize, SymbolId)>,
     /// How many objects are read.
     read: usize,
@@ -125,7 +126,7 @@ impl Symbols {
         Some(symbol)
     }
 
-    /// As many objects are read now.
+    /// Notes how many objects are read now.
     pub fn objects_are_read(&mut self, count: usize) {
         self.read = self.read.max(count);
     }

@@ -7,7 +7,7 @@ use crate::objects::{ObjectIndex, SectionIndex};
 /// What becomes of a section.
 #[derive(Clone, Copy, PartialEq, Eq, Debug)]
 pub enum Taker {
-    /// No statement takes it.
+    /// No statement takes the section.
     Nobody,
     /// `/DISCARD/` does first.
     Discard,

@@ -35,7 +35,7 @@ impl Answered {
         self.changed.as_deref()
     }
 
-    /// The same for an answer of a number: that before this one, else it is not known.
+    /// The changed ranges since an answer of this number; `None` if that is not the answer before this one.
     pub fn changed_since(&self, answer: u64) -> Option<&[Range<usize>]> {
         self.changed().filter(|_| answer != 0 && self.number == answer + 1)
     }

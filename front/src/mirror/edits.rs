@@ -15,7 +15,7 @@ pub(super) enum Change<'a> {
     Replace(&'a Held),
     /// An object that is there already, before a position of the others.
     Move(&'a Held, usize),
-    /// That of this name taken out.
+    /// The object of this name is removed.
     Remove(BString),
 }
 

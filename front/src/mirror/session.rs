@@ -23,9 +23,9 @@ const PIECES_AT_ONCE: usize = 64;
 /// What a session does with sections that no statement takes (`--orphan-handling`).
 #[derive(Clone, Copy, PartialEq, Eq, Debug)]
 pub enum Orphans {
-    /// They are faults.
+    /// Orphans are faults.
     Error,
-    /// They are discarded.
+    /// Orphans are discarded.
     Discard,
 }
 
@@ -128,9 +128,9 @@ impl Refusal {
 /// The answer to an edit.
 #[derive(Clone, Copy, PartialEq, Eq, Debug)]
 pub enum Answer {
-    /// It was accepted; the next link has it.
+    /// The edit was accepted; the next link has it.
     Accepted,
-    /// It was refused.
+    /// The edit was refused.
     Refused(Refusal),
 }
 
@@ -175,16 +175,16 @@ pub enum SessionError {
         /// Why.
         error: io::Error,
     },
-    /// It ended.
+    /// The session ended.
     #[error("the session ended")]
     Ended,
-    /// It ended in the middle of an answer.
+    /// The session ended in the middle of an answer.
     #[error("the session ended in an answer")]
     EndedInAnswer,
-    /// It gave no answer in time.
+    /// The session gave no answer in time.
     #[error("the session gave no answer for {} s", .0.as_secs())]
     TooLate(Duration),
-    /// It wrote something else.
+    /// The session wrote something that is no answer.
     #[error("not an answer: {0}")]
     NoAnswer(String),
     /// A pipe cannot be read or written.
@@ -316,7 +316,7 @@ impl Session {
         Session::start_with_errors(program, options, patience, Stdio::inherit())
     }
 
-    /// The same with another standard error than that of this process.
+    /// Starts a session with another standard error than that of this process.
     pub fn start_with_errors(
         program: &OsStr,
         options: &Options,
@@ -370,12 +370,12 @@ impl Session {
         linked(&self.exchange(b"link\n")?)
     }
 
-    /// Asks for something, and gives all of it.
+    /// Sends a query, and gives all bytes of the answer.
     pub fn query(&mut self, query: Query) -> Result<Vec<u8>, SessionError> {
         self.query_into(query, Vec::new())
     }
 
-    /// The same with memory that is used again.
+    /// Sends a query, and reads the answer into memory that is used again.
     pub fn query_into(&mut self, query: Query, mut data: Vec<u8>) -> Result<Vec<u8>, SessionError> {
         let length = self.ask(query)?;
         data.clear();
@@ -395,8 +395,8 @@ impl Session {
         Ok(data)
     }
 
-    /// Asks what has changed in the image since it was answered last, and makes it of the bytes of that answer; gives
-    /// it and the ranges that may be others.
+    /// Asks what has changed in the image since it was answered last, and writes it over the bytes of that answer;
+    /// gives the image, and the ranges that may differ.
     pub fn changes(&mut self, mut image: Vec<u8>) -> Result<(Vec<u8>, Vec<Range<usize>>), SessionError> {
         let (length, count) = changes(&self.exchange(b"changes\n")?)?;
         let mut ranges = Vec::new();

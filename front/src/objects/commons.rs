@@ -26,7 +26,7 @@ const SIZE_AT: usize = 32;
 pub enum BlockPlace {
     /// The object has the block, so many bytes from the start of the section.
     Here(u64),
-    /// Another object has it: the name is undefined here.
+    /// Another object has the block: the name is undefined here.
     Elsewhere,
 }
 

@@ -71,12 +71,13 @@ impl Elf {
     /// Reads the tables of an object.
     ///
     /// # Errors
-    /// What the file is instead, if it is no relocatable object of ELF-64 for x86-64.
+    /// If the file is no relocatable object of ELF-64 for x86-64: what it is instead.
     pub fn parse(data: Bytes) -> Result<Elf, ObjectFault> {
         Elf::parse_cleared(data, Vec::new())
     }
 
-    /// The same for bytes out of which some flags of sections were taken, ascending: they count as if they were there.
+    /// Reads the tables of an object of whose sections some flags were taken out: `cleared`, ascending, says which;
+    /// they count as if they were there.
     pub(super) fn parse_cleared(data: Bytes, cleared: Vec<(SectionIndex, SectionFlags)>) -> Result<Elf, ObjectFault> {
         let header = header_of(&data)?;
         let headers = header
@@ -102,7 +103,7 @@ impl Elf {
         Ok(tables)
     }
 
-    /// Bytes without any table, as of a file that is no object.
+    /// Bytes without any table, such as those of a file that is no object.
     pub fn empty(data: Bytes) -> Elf {
         Elf {
             data,

@@ -140,11 +140,12 @@ pub struct MergeFindings {
 /// Where a symbol of a section that is merged is.
 #[derive(Clone, Copy, Debug)]
 enum Moved {
-    /// It is in none of these.
+    /// The symbol is in no section that is merged.
     No,
     /// In another section, with this value.
     Away(SectionIndex, MergeSource, u64),
-    /// It is that of the section, by its place among those that are merged, and has this value.
+    /// The symbol is that of the section itself: the section's place among those that are merged, and the symbol's
+    /// value.
     Section(usize, u64),
 }
 

@@ -50,7 +50,7 @@ pub struct MergeSource {
     pub section: SectionIndex,
 }
 
-/// What sections of one kind come to.
+/// The sections of one kind, merged.
 #[derive(Clone, PartialEq, Eq, Debug, Default)]
 pub struct Merged {
     kind: Option<MergeKind>,
@@ -61,10 +61,10 @@ pub struct Merged {
     first: (Spot, u64),
 }
 
-/// What a section comes to.
+/// A section after merging.
 #[derive(Clone, PartialEq, Eq, Debug, Default)]
 pub struct MergedPart {
-    /// Its bytes; none if it is left out.
+    /// Its bytes now; none if it is left out.
     pub contents: Vec<u8>,
     /// Whether it is left out, as all that it has is elsewhere.
     pub is_left_out: bool,

@@ -58,7 +58,7 @@ pub struct ObjectIndex(pub u32);
 /// Why a file is no object that `ldi` links.
 #[derive(Clone, PartialEq, Eq, Debug, Error)]
 pub enum ObjectFault {
-    /// It is no ELF file.
+    /// The file is no ELF file.
     #[error("no ELF file")]
     NotElf,
     /// LLVM's bitcode.
@@ -165,13 +165,13 @@ impl Object {
         }))
     }
 
-    /// The same without some sections: names that they define are undefined.
+    /// The object without some sections: names that they define are undefined.
     #[must_use]
     pub fn without(self, dropped: &[SectionIndex]) -> Object {
         groups::without(self.data(), dropped).and_then(|data| self.with_bytes(data)).unwrap_or(self)
     }
 
-    /// The same with other bytes, which are in the profile; `None` if these are no object.
+    /// The object with other bytes, which are in the profile; `None` if these are no object.
     fn with_bytes(&self, data: Bytes) -> Option<Object> {
         let elf = Elf::parse_cleared(data, self.elf().cleared().to_vec()).ok()?;
         let mut changed = self.clone();
@@ -184,7 +184,7 @@ impl Object {
         &self.0.tabled
     }
 
-    /// The same with sections that `--gc-sections` keeps whatever names them.
+    /// The object with further sections that `--gc-sections` keeps whatever names them.
     #[must_use]
     pub fn with_retained(mut self, sections: &[SectionIndex]) -> Object {
         if !sections.is_empty() {
@@ -193,7 +193,7 @@ impl Object {
         self
     }
 
-    /// The same bytes under another name and from another place.
+    /// The object under another name and from another place.
     #[must_use]
     pub fn renamed(mut self, name: BString, origin: Origin) -> Object {
         if self.name() != name || *self.origin() != origin {

@@ -160,7 +160,7 @@ impl Object {
         self.sections().filter(is_one).map(|section| section.index)
     }
 
-    /// The same whose section has other bytes, which are of the whole link; `None` if its tables are not whole.
+    /// The object with another note, which has the properties of the whole link; `None` if its tables are not whole.
     pub fn with_note(&self, section: SectionIndex, note: &[u8]) -> Option<Object> {
         let mut object = self.with_bytes(with_contents(self.data(), section, note)?)?;
         object.set_note_of_link();

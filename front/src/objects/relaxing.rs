@@ -69,7 +69,7 @@ pub(super) fn may_relax(kind: u32) -> bool {
     matches!(kind, elf::R_X86_64_GOTPCREL | elf::R_X86_64_GOTPCRELX | elf::R_X86_64_REX_GOTPCRELX)
 }
 
-/// The same reference without a table; `None` if GNU ld has an entry for it.
+/// A reference as it is without a global offset table; `None` if GNU ld makes an entry for it.
 pub(super) fn relaxed(code: &[u8], reference: Reference) -> Option<Relaxed> {
     let Reference { offset, kind, addend, symbol } = reference;
     let has_rex = kind == elf::R_X86_64_REX_GOTPCRELX;

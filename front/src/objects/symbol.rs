@@ -106,7 +106,7 @@ pub enum Home {
     Common,
     /// A section
     Section(SectionIndex),
-    /// Another reserved number
+    /// Another reserved number.
     Reserved(u16),
 }
 

@@ -39,11 +39,11 @@ pub struct Tabled {
 pub enum Wanted {
     /// The distance of an entry, in a field of 4 bytes.
     Entry,
-    /// The same in a field of 8 bytes.
+    /// The distance of an entry, in a field of 8 bytes.
     LongEntry,
     /// The distance of `_GLOBAL_OFFSET_TABLE_`, in a field of 4 bytes.
     Start,
-    /// The same in a field of 8 bytes.
+    /// The distance of `_GLOBAL_OFFSET_TABLE_`, in a field of 8 bytes.
     LongStart,
 }
 

@@ -32,7 +32,7 @@ pub(crate) struct Reasons<'a> {
 }
 
 impl<'a> Reasons<'a> {
-    /// These lines.
+    /// Reasons of these lines.
     pub(super) fn of(lines: Vec<String>) -> Reasons<'a> {
         Reasons { lines, kind: None, say_more: None, first: None, status: None }
     }
@@ -47,7 +47,7 @@ impl<'a> Reasons<'a> {
         Reasons { say_more: Some(say), status: Some(status), ..Reasons::of(vec![line]) }
     }
 
-    /// The same with what is said if the other linker links.
+    /// Adds what is said if the other linker links.
     pub(super) fn with_first(self, first: &'a dyn Fn() -> String) -> Reasons<'a> {
         Reasons { first: Some(first), ..self }
     }
@@ -86,7 +86,7 @@ pub(crate) struct HandedOver {
 }
 
 impl HandedOver {
-    /// All of the reasons.
+    /// The reasons, with the text that `say_more` prints.
     pub(crate) fn of(reasons: &Reasons<'_>, environment: &Environment, is_verbose: bool) -> HandedOver {
         let ((), more) = streams::keep(streams::error_style(), || reasons.say_more());
         HandedOver {

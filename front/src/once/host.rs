@@ -15,7 +15,7 @@ pub(crate) trait Host {
     /// Writes a file; `mode` is less the umask.
     ///
     /// # Errors
-    /// It cannot be written, and then the old one stands as it was.
+    /// If the file cannot be written. The old one then stays as it was.
     fn write(&self, path: &Path, pieces: &[&[u8]], mode: Mode) -> Result<(), NotWritten>;
 
     /// Has another linker link; gives a status if none does.

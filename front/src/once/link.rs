@@ -59,7 +59,7 @@ impl Status {
 /// Why a link ends without a status of its own.
 #[derive(Debug, thiserror::Error)]
 pub enum LinkFault {
-    /// There is no plan.
+    /// The link cannot be planned.
     #[error(transparent)]
     Plan(PlanFault),
     /// The session gave no answer.
@@ -67,7 +67,7 @@ pub enum LinkFault {
     Session {
         /// The program.
         program: String,
-        /// Why.
+        /// Why the session gave none.
         fault: SessionError,
     },
     /// The image has no such form.
@@ -251,7 +251,7 @@ impl Link<'_> {
             .for_each(|note| eprintln!("{note}"));
     }
 
-    /// A link that comes to no image: another linker makes it if there is a reason, else this is said.
+    /// The status of a link that makes no image: another linker makes it if there is a reason, else `say` says why.
     fn no_image(&self, why: Option<String>, say: &dyn Fn(), status: Status) -> Status {
         match why {
             Some(why) => {
@@ -565,7 +565,7 @@ pub(crate) fn map_path(command: &Command) -> Option<PathBuf> {
     }
 }
 
-/// No file that was read is written.
+/// Tests that no file that was read would be written.
 fn check_outputs(command: &Command, snapshot: &Snapshot) -> Result<(), LinkFault> {
     let map = map_path(command);
     let written = [Some(command.output.as_path()), map.as_deref(), command.dependency_file.as_deref()];

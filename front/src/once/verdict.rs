@@ -124,7 +124,7 @@ fn unknown(plan: &LinkPlan, stop: &Stop) -> Vec<String> {
     lines
 }
 
-/// The type in the head of an output section, as `(INFO)`, if it has one by which it is not loaded.
+/// The type in the head of an output section, such as `(INFO)`, if it has one by which it is not loaded.
 fn kind_of(plan: &LinkPlan, span: Option<Span>) -> Option<String> {
     let statement = plan.evaluation.as_ref().ok()?.statement_at(span?)?;
     if !matches!(statement.kind, StatementKind::Output(_)) {

@@ -28,7 +28,7 @@ impl Apart {
     /// if the place is one of no regular file.
     ///
     /// # Errors
-    /// It cannot be written, and then nothing is left of it.
+    /// If the file cannot be written. Nothing of it is then left.
     pub fn write(path: &Path, pieces: &[&[u8]], mode: Mode) -> io::Result<Option<Apart>> {
         let target = super::new_file::resolved(path)?;
         match fs::metadata(&target) {
@@ -58,7 +58,7 @@ impl Apart {
     /// Puts it in place, in one step: the names are exchanged if there is a regular file, which is quicker on ext4.
     ///
     /// # Errors
-    /// It is not there any more, is not this user's, or cannot be put there.
+    /// If the new file is gone, is not this user's, or cannot be put in place.
     pub fn put(&self) -> io::Result<()> {
         let folder = opened(&self.folder)?;
         if folder.metadata()?.uid() != rustix::process::getuid().as_raw() {

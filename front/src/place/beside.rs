@@ -54,8 +54,8 @@ pub fn remove_left(path: &Path) {
     remove_beside(path, false);
 }
 
-/// The same, and also what a server left beside a path that runs, but does not answer: else a call that is held up
-/// would put it there later.
+/// Removes the files beside a path that killed processes left, and also those of a server that runs, but does not
+/// answer: else a call that is held up would put them in place later.
 pub fn remove_apart(path: &Path) {
     remove_beside(path, true);
 }

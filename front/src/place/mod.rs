@@ -49,9 +49,9 @@ fn plain(fault: &io::Error) -> String {
 /// What becomes of a pipe without a reader that is written in place.
 #[derive(Clone, Copy, PartialEq, Eq, Hash, Debug)]
 pub enum Reader {
-    /// Its reader is waited for.
+    /// The reader of a pipe is waited for.
     IsWaitedFor,
-    /// It is an error that there is none.
+    /// A pipe without a reader is an error.
     IsNeeded,
 }
 
@@ -59,7 +59,7 @@ pub enum Reader {
 /// `/dev/null` or a pipe, is written in place. `mode` is less the umask.
 ///
 /// # Errors
-/// The file cannot be written, and then the old one stands as it was.
+/// If the file cannot be written. The old one then stays as it was.
 pub fn write_file(path: &Path, pieces: &[&[u8]], mode: Mode, reader: Reader) -> Result<(), NotWritten> {
     let not_written = |fault| NotWritten { path: path.to_owned(), fault };
     match NewFile::open(path, mode, false).map_err(not_written)? {

@@ -42,7 +42,7 @@ impl NewFile {
     /// the umask, or with `keeps_mode` that of the file that is there.
     ///
     /// # Errors
-    /// It cannot be made, and then nothing is left of it.
+    /// If the file cannot be created. Nothing of it is then left.
     pub fn open(path: &Path, mode: Mode, keeps_mode: bool) -> io::Result<Opened> {
         if path.as_os_str().as_bytes().ends_with(b"/") {
             return Err(io::Error::from_raw_os_error(libc::EISDIR));
@@ -139,7 +139,7 @@ impl NewFile {
     /// Writes the pieces of it.
     ///
     /// # Errors
-    /// The device has no room, or another fault of it.
+    /// If the pieces cannot be written, for example because the device is full.
     pub fn write(&mut self, pieces: &[&[u8]]) -> io::Result<()> {
         match &mut self.file {
             Some(file) => write_all(file, pieces),
@@ -160,7 +160,7 @@ impl NewFile {
     /// Puts it in place; gives the name that the old file has now, for the caller to remove.
     ///
     /// # Errors
-    /// It cannot be put there, and then nothing is left of it.
+    /// If the file cannot be put in place. Nothing of it is then left.
     pub fn commit(mut self) -> io::Result<Option<PathBuf>> {
         self.close();
         self.name()?;
@@ -172,7 +172,7 @@ impl NewFile {
     /// Leaves the whole file beside its place, for another process to put it there; gives its name.
     ///
     /// # Errors
-    /// It cannot be named, and then nothing is left of it.
+    /// If the file cannot be given a name. Nothing of it is then left.
     pub fn leave(mut self) -> io::Result<PathBuf> {
         self.close();
         self.name()?;
@@ -209,7 +209,7 @@ fn reader_of(beside: &Path, file: &File) -> io::Result<File> {
 /// old one has the first name now, which is given.
 ///
 /// # Errors
-/// The system says why it cannot be done.
+/// If the system can neither exchange nor rename the files.
 pub fn put_in_place(beside: &Path, target: &Path) -> io::Result<Option<PathBuf>> {
     let is_regular = fs::symlink_metadata(target).map_or(false, |found| found.is_file());
     if is_regular && rustix::fs::renameat_with(cwd(), beside, cwd(), target, RenameFlags::EXCHANGE).is_ok() {

@@ -26,7 +26,7 @@ pub(super) fn take_length_as_error() {
 /// Writes all bytes of the pieces, one after the other.
 ///
 /// # Errors
-/// What the system says.
+/// If a write fails.
 pub fn write_all(to: &mut impl Write, pieces: &[&[u8]]) -> io::Result<()> {
     let mut rest: &[&[u8]] = pieces;
     let mut begun = 0;
@@ -57,10 +57,10 @@ pub fn write_all(to: &mut impl Write, pieces: &[&[u8]]) -> io::Result<()> {
     }
 }
 
-/// Writes to something that is no regular file, as `/dev/null` or a pipe.
+/// Writes to something that is no regular file, such as `/dev/null` or a pipe.
 ///
 /// # Errors
-/// What the system says; also if it is a pipe that nobody reads and a reader is needed.
+/// If the path cannot be opened or written; also if it is a pipe that nobody reads and a reader is needed.
 pub fn write_in_place(path: &Path, pieces: &[&[u8]], reader: Reader) -> io::Result<()> {
     let waits = reader == Reader::IsWaitedFor;
     let flags = if waits { OFlags::NOCTTY } else { OFlags::NOCTTY | OFlags::NONBLOCK };

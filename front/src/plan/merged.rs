@@ -206,7 +206,7 @@ fn with_requests(
     places.into_iter().map(wanted).collect()
 }
 
-/// Of the names whose definitions are elsewhere, those whose definitions count.
+/// The names that move to other objects by merging and whose definitions count, each with the place of its object.
 fn leaving_that_count(objects: &[Object], found: &BTreeMap<usize, Arc<MergeFindings>>) -> Vec<(usize, Leaving)> {
     let leaving = || found.iter().flat_map(|(place, one)| one.leaving.iter().map(move |one| (*place, one)));
     let known = LinkNames::look_up(objects, leaving().map(|(_, one)| one.name.name.clone()));

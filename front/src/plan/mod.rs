@@ -75,7 +75,7 @@ pub struct Inputs {
     pub loaded: Loaded,
     /// The objects as the session holds them.
     pub held: Vec<Held>,
-    /// One note of properties, and the objects with it.
+    /// The note of properties of the link, and the objects with it.
     notes: Option<Notes>,
     /// The global offset table, and the objects with it.
     table: Option<Table>,
@@ -89,7 +89,7 @@ impl Inputs {
     /// Reads scripts and objects.
     ///
     /// # Errors
-    /// If one cannot be read or is none, and if a required name is not defined.
+    /// If a script or an object cannot be read, or is none, or a required name is not defined.
     pub fn load(command: &Command, mut scripts: Scripts, snapshot: &mut Snapshot) -> Result<Inputs, PlanFault> {
         let entry = command.entry.clone().or_else(|| scripts.entry().cloned());
         let wanted: Vec<BString> =
@@ -235,8 +235,8 @@ impl LinkPlan {
         LinkPlan { inputs, evaluation, residual, options, form, tables, layout, names, made_loaded, remade, changed }
     }
 
-    /// The same plan if some files have other bytes now; `None` if all must be planned anew, as these files are
-    /// no objects, or decide about members of archives.
+    /// The plan for files that have other bytes now; `None` if all must be planned anew, as these files are no objects,
+    /// or decide about members of archives.
     pub fn replan(mut self, command: &Command, snapshot: &mut Snapshot, changed: &[PathBuf]) -> Option<LinkPlan> {
         if !self.inputs.loaded.take_changed(command, snapshot, changed) {
             return None;

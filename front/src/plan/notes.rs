@@ -21,8 +21,8 @@ pub(super) struct Notes {
 }
 
 impl Notes {
-    /// One note for objects; `None` if there is none, the script leaves all out, or it is not known what GNU ld
-    /// makes of them.
+    /// The note of the link's properties; `None` if there is none, the script leaves all notes out, or it is not known
+    /// what GNU ld makes of them.
     pub(super) fn of(command: &Command, script: &Script, objects: &[Object]) -> Option<Notes> {
         let first = objects.iter().position(|object| object.property_notes().next().is_some())?;
         let is_other = |word: &bstr::BString| WORDS.iter().any(|begin| word.starts_with(begin)) && word != "ibtplt";

@@ -11,11 +11,11 @@ const CALL_NOP: &[u8] = b"call-nop=";
 /// The form that it has without.
 const PREFIX_ADDR: &[u8] = b"call-nop=prefix-addr";
 
-/// Whether the command wants references by a table that became others to be as they are: they stay so with
-/// `--no-relax`, and have another form with `-z call-nop`.
+/// Checks that the command lets references by a global offset table become others: with `--no-relax` they stay, and with
+/// `-z call-nop` calls get another form.
 ///
 /// # Errors
-/// It does, and there are some.
+/// If it does not, and the objects have such references.
 pub(super) fn check(command: &Command, objects: &[Object]) -> Result<(), InputFault> {
     let is_other = |word: &&bstr::BString| word.starts_with(CALL_NOP) && word.as_bytes() != PREFIX_ADDR;
     let form = command.keywords.iter().rev().find(|word| word.starts_with(CALL_NOP)).filter(is_other);

@@ -56,7 +56,7 @@ impl Scripts {
     /// Reads the scripts of a command.
     ///
     /// # Errors
-    /// One cannot be read, or is none.
+    /// If a script cannot be read, or is no script of GNU ld's.
     pub fn read(
         command: &Command,
         environment: &Environment,

@@ -46,7 +46,7 @@ fn of_bounds(command: &Command) -> Visibility {
 /// The names in the file of `--retain-symbols-file`, separated by white space (ldmain.c, `add_keepsyms_file`).
 ///
 /// # Errors
-/// It cannot be read.
+/// If the file cannot be read.
 pub(super) fn retained(command: &Command, snapshot: &mut Snapshot) -> Result<HashSet<BString>, InputFault> {
     let path = match &command.retained {
         Some(path) => path,

@@ -8,7 +8,7 @@ use crate::command::Command;
 use crate::inputs::InputFault;
 use crate::objects::wrapped_name;
 
-/// Another linker makes such a link.
+/// Tests that no script speaks of a wrapped name: another linker makes such a link.
 pub(super) fn check(command: &Command, scripts: &Scripts) -> Result<(), InputFault> {
     if command.wraps.is_empty() {
         return Ok(());

@@ -46,7 +46,7 @@ impl Cause {
     }
 }
 
-/// Something in a text that the profile does not have.
+/// A construct of a text that the profile does not have.
 #[derive(Clone, PartialEq, Eq, Hash, Debug)]
 pub struct Objection {
     /// What it is refused for.
@@ -57,7 +57,7 @@ pub struct Objection {
     pub sentence: String,
 }
 
-/// All that is found in a text, in its order. `files` are those that INCLUDE names.
+/// All constructs of a text that the profile does not have, in its order. `files` are those that INCLUDE names.
 pub fn objections(path: &Path, text: &[u8], files: &mut dyn ScriptFiles, folders: Vec<PathBuf>) -> Vec<Objection> {
     if text.len() > text::GREATEST_SCRIPT {
         let sentence = format!("the text is longer than {} bytes", text::GREATEST_SCRIPT);
@@ -93,8 +93,8 @@ pub fn objections(path: &Path, text: &[u8], files: &mut dyn ScriptFiles, folders
     check.finish()
 }
 
-/// Those objections for which a text can be refused with a number: the reader looks for their causes in an order, and
-/// has found none that comes before.
+/// The objections for which a text can be refused with a number: the reader looks for their causes in an order, and has
+/// found none that comes before.
 #[must_use]
 pub fn refused_for(mut objections: Vec<Objection>, number: u32) -> Vec<Objection> {
     if let Some(cause) = Cause::of_number(number) {

@@ -26,7 +26,7 @@ impl Home {
 }
 
 impl Check<'_> {
-    /// All statements of a script, and the files that it includes.
+    /// Reads all statements of a script, and the files that it includes.
     pub(super) fn statements(&mut self, statements: &[Spanned<Statement>]) {
         for (at, path) in self.source.includes() {
             let what = format!("INCLUDE {}", path.display());

@@ -21,7 +21,7 @@ pub(crate) enum Piece {
     Text,
     /// Letters, digits, `_`, `.` and `$`.
     Word,
-    /// Another byte.
+    /// A byte that is none of these.
     Other(u8),
 }
 
@@ -150,9 +150,9 @@ enum Stretch {
     None,
     /// What follows if it is a `(`.
     Awaited,
-    /// All up to `;`.
+    /// What follows, up to `;`.
     ToSemicolon,
-    /// All up to the `)` of so many.
+    /// What follows, up to the `)` of this number of parentheses.
     ToParenthesis(usize),
 }
 

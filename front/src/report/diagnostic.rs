@@ -8,16 +8,16 @@ use crate::script::{Place, ScriptError, Warning};
 /// How bad it is.
 #[derive(Clone, Copy, PartialEq, Eq, Hash, Debug)]
 pub enum Severity {
-    /// There is no image.
+    /// No image is made.
     Error,
-    /// There is an image, which may not be what was meant.
+    /// An image is made, which may not be what was meant.
     Warning,
-    /// It is only said.
+    /// A remark.
     Note,
 }
 
 impl Severity {
-    /// Its word.
+    /// The word for it in a message.
     #[must_use]
     pub fn word(self) -> &'static str {
         match self {
@@ -69,7 +69,7 @@ pub struct Diagnostic {
     pub line: Option<u32>,
     /// The column in characters, from 1.
     pub column: Option<u32>,
-    /// A place in an object, as `(a.o .text+0x1)` or ``in `main': (.text+0x4)``.
+    /// A place in an object, such as `(a.o .text+0x1)` or ``in `main': (.text+0x4)``.
     pub site: Option<String>,
     /// What is wrong.
     pub sentence: String,
@@ -79,7 +79,7 @@ pub struct Diagnostic {
     pub advice: Option<String>,
     /// The line of the file that is meant.
     pub excerpt: Option<Excerpt>,
-    /// The line of `ldi` that says it, as `F5 2`.
+    /// The line of `ldi` that says it, such as `F5 2`.
     pub rule: Option<String>,
 }
 
@@ -107,28 +107,28 @@ impl Diagnostic {
         Diagnostic::new(Severity::Error, sentence)
     }
 
-    /// The same of a file.
+    /// The message, about a file.
     #[must_use]
     pub fn of_file(mut self, file: impl AsRef<Path>) -> Diagnostic {
         self.file = Some(plain(&file_bytes(file.as_ref())));
         self
     }
 
-    /// The same at a place.
+    /// The message, about a place in a file.
     #[must_use]
     pub fn at(mut self, place: &Place) -> Diagnostic {
         self.line = Some(place.line);
         self.of_file(&place.path)
     }
 
-    /// The same with what to do.
+    /// The message, with advice what to do.
     #[must_use]
     pub fn with_advice(mut self, advice: impl Into<String>) -> Diagnostic {
         self.advice = Some(advice.into());
         self
     }
 
-    /// The same with something else that is known.
+    /// The message, with one more fact.
     #[must_use]
     pub fn with_note(mut self, note: impl Into<String>) -> Diagnostic {
         self.notes.push(note.into());

@@ -398,7 +398,7 @@ fn count(number: u64, what: &str) -> String {
     }
 }
 
-/// Which values fit a field, and what to do.
+/// Adds which values fit a field, and what to do.
 fn with_range(diagnostic: Diagnostic, kind: u32, value: u64) -> Diagnostic {
     let row = RELOCATIONS.iter().find(|row| row.number == kind);
     let (row, (least, greatest)) = match row.and_then(|row| Some((row, row.range?))) {

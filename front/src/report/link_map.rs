@@ -73,7 +73,7 @@ impl LinkMap {
     /// Reads a map.
     ///
     /// # Errors
-    /// A line is none of a map.
+    /// If a line is not one of a map.
     pub fn read(data: &[u8]) -> Result<LinkMap, BadMap> {
         let mut map = LinkMap::default();
         for (index, line) in data.lines().enumerate() {

@@ -34,7 +34,7 @@ impl Site {
         Site { file: source.path, line: Some(source.line), place: Some(place), relocation: None }
     }
 
-    /// The site as text, as `a.o: (.text+0x4)` and `/a.c:3: (a.o .text+0x4)`.
+    /// The site as text, such as `a.o: (.text+0x4)` and `/a.c:3: (a.o .text+0x4)`.
     pub fn prefix(&self) -> String {
         let line = self.line.map(|line| format!(":{line}")).unwrap_or_default();
         let place = self.place.as_ref().map(|place| format!(": {place}")).unwrap_or_default();
@@ -229,7 +229,7 @@ impl<'a> Names<'a> {
         })
     }
 
-    /// That a name is defined in an object of slim LTO.
+    /// A note that an object of slim LTO defines the name; `None` if none does.
     pub fn slim_hint(&mut self, name: &[u8]) -> Option<String> {
         let objects = self.objects;
         let read = || {

@@ -55,11 +55,11 @@ pub(super) enum Need {
     Tls,
     /// A global offset table.
     Got,
-    /// Something else that there is none of.
+    /// Something else that `ldi` does not have.
     Other,
 }
 
-/// The name of a type, as `R_X86_64_PC32`; of one without a name its number.
+/// The name of a type, such as `R_X86_64_PC32`; of one without a name its number.
 pub(super) fn relocation_name(kind: u32) -> String {
     match NAMES.get(kind as usize) {
         Some(name) if !name.is_empty() => format!("R_X86_64_{name}"),

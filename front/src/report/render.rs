@@ -9,12 +9,12 @@ use super::{Diagnostic, Severity};
 /// How messages are written.
 #[derive(Clone, Copy, PartialEq, Eq, Debug, Default)]
 pub enum Style {
-    /// One line each, as GNU ld and compilers write them for editors.
+    /// One line a message, as GNU ld and compilers write them for editors.
     #[default]
     Line,
     /// With the line of the file below, and what is meant in it.
     Excerpt,
-    /// The same in colour.
+    /// With the line of the file below, in colour.
     Coloured,
 }
 

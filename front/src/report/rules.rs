@@ -32,9 +32,9 @@ pub enum Word {
     Number,
     /// A number of 16 hexadecimal digits.
     Hex,
-    /// All that follows.
+    /// All that follows in the line.
     Text,
-    /// Itself.
+    /// This word itself.
     Literal(&'static str),
 }
 

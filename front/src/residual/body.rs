@@ -72,7 +72,7 @@ impl<'a> Body<'a> {
 }
 
 impl<'a> Walk<'a> {
-    /// All statements of a section.
+    /// Writes all statements of a section.
     pub(super) fn body(&mut self, section: &'a OutputSection, span: Span, body: &mut Body<'a>) {
         if let Some(fill) = self.tail_fill(section) {
             body.is_filled_by_statement = section.fill.is_none();

@@ -37,7 +37,7 @@ pub(super) struct Rendered {
 }
 
 impl Edits {
-    /// Another text in place of a span; comments and line ends of the span stay after it.
+    /// Puts another text in place of a span; comments and line ends of the span stay after it.
     pub(super) fn replace(&mut self, text: &[u8], span: Span, new: impl Into<Vec<u8>>) {
         let mut new = new.into();
         let rest = kept(text.get(span.start as usize..span.end as usize).unwrap_or_default());
@@ -62,7 +62,7 @@ impl Edits {
         self.insert_from(at, order, text, at);
     }
 
-    /// The same of a text that came from another offset.
+    /// Inserts a text at a place, as one that came from another offset.
     pub(super) fn insert_from(&mut self, at: u32, order: i32, text: impl Into<Vec<u8>>, origin: u32) {
         self.inserted.entry(at).or_default().push(Insert { order, text: text.into(), moved: None, origin });
     }
@@ -140,7 +140,7 @@ pub(super) fn comment_or_text(text: &[u8]) -> (usize, bool) {
     }
 }
 
-/// Another text in place of a span.
+/// A text that is written in place of a span.
 struct Change<'a> {
     span: Span,
     new: Cow<'a, [u8]>,

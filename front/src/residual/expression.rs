@@ -108,7 +108,7 @@ pub(super) fn with_dot(e: &Expr, place: &Expr) -> Expr {
     made(kind)
 }
 
-/// Of no name anything is known.
+/// A `Known` that knows no name.
 pub(super) struct NoNames;
 
 impl Known for NoNames {

@@ -7,7 +7,7 @@ use crate::script::source::Place;
 /// What became of a construct.
 #[derive(Clone, Copy, PartialEq, Eq, PartialOrd, Ord, Hash, Debug)]
 pub enum NoteKind {
-    /// It has no effect on the image.
+    /// The construct has no effect on the image.
     Dropped,
     /// The text is another, the meaning the same.
     Rewritten,

@@ -36,12 +36,12 @@ pub(super) struct Orphans {
     after: HashMap<u32, Vec<OutputId>>,
     /// How many input sections of a name are linked.
     counts: HashMap<NameId, usize>,
-    /// Those that are written: the place in the text, the name, the segments of PHDRS.
+    /// The orphans that are written: the place in the text, the name, the segments of PHDRS.
     written: Vec<(u32, Name, Vec<Name>)>,
 }
 
 impl Orphans {
-    /// Those of a layout; statements outside of SECTIONS have none after them.
+    /// The orphans of a layout, by the statement that they follow; statements outside of SECTIONS have none after them.
     pub(super) fn of(request: &Request<'_>, evaluation: &Evaluation, extent: Option<Extent>) -> Orphans {
         let mut orphans = Orphans::default();
         let mut last = None;
@@ -75,7 +75,7 @@ impl Orphans {
         self.first.is_empty() && self.after.is_empty()
     }
 
-    /// Those that are written: the place in the text, the name, the segments of PHDRS.
+    /// The orphans that are written: the place in the text, the name, the segments of PHDRS.
     pub(super) fn written(&self) -> impl Iterator<Item = (u32, &Name, &[Name])> {
         self.written.iter().map(|(at, name, segments)| (*at, name, segments.as_slice()))
     }

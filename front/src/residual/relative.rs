@@ -34,7 +34,7 @@ pub(super) struct Inside {
     pub(super) id: OutputId,
     /// What its start is.
     pub(super) start: Expr,
-    /// Whether numbers do not count from the start, as in data commands.
+    /// Whether numbers do not count from the start, for example in data commands.
     pub(super) is_absolute: bool,
 }
 
@@ -135,7 +135,7 @@ impl Counting<'_, '_> {
         }
     }
 
-    /// A value that does not depend on the objects, as a number.
+    /// A value that does not depend on the objects, such as a number.
     fn known(&self, e: &Expr) -> Option<Term> {
         let value = View { walk: self.walk, at: self.at }.value(e)?;
         Some(Term { kind: Kind::Number, e: number(value) })

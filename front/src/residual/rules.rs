@@ -282,7 +282,7 @@ fn text_of(query: Query, name: &Name) -> String {
     format!("{}({name})", word(query))
 }
 
-/// The operator of an update, as `+=`, with the old value: the whole right side.
+/// The operator of an update, such as `+=`, with the old value: the whole right side.
 pub(super) fn updated(target: Expr, operator: BinaryOperator, value: &Expr) -> Expr {
     made(ExprKind::Binary(operator, Box::new(target), Box::new(value.clone())))
 }

@@ -180,7 +180,8 @@ impl<'a> Walk<'a> {
 
     // --- MEMORY ---
 
-    /// One MEMORY before SECTIONS, without attributes; gives where statements go that must stand before SECTIONS.
+    /// Writes one MEMORY before SECTIONS, without attributes; gives where statements go that must stand before
+    /// SECTIONS.
     pub(super) fn memory(&mut self) -> u32 {
         let insertion = self.extent();
         let script = self.script;
@@ -660,7 +661,7 @@ impl<'a> Walk<'a> {
 
     // --- ENTRY ---
 
-    /// One ENTRY before SECTIONS: that of `-e`, else the last one, else GNU ld's own.
+    /// Writes one ENTRY before SECTIONS: that of `-e`, else the last one, else GNU ld's own.
     pub(super) fn entry(&mut self, insertion: u32) {
         let script = self.script;
         let mut entries: Vec<(Span, &Name, bool)> = Vec::new();

@@ -9,7 +9,7 @@ use super::items::{for_each_assignment, for_each_expression};
 use crate::profile::words::{begins_name, is_in_name};
 use crate::script::tree::{AssignOperator, Assignment, Expr, ExprKind, Name, Script, Span};
 
-/// One assignment of a symbol.
+/// An assignment of a symbol.
 #[derive(Clone, Debug)]
 pub(super) struct Version {
     /// Where its statement begins.
@@ -22,7 +22,7 @@ pub(super) struct Version {
     pub(super) is_used: bool,
 }
 
-/// All assignments of symbols.
+/// The assignments of symbols.
 #[derive(Debug, Default)]
 pub(super) struct Versions {
     by_name: HashMap<Name, Vec<Version>>,
@@ -31,7 +31,8 @@ pub(super) struct Versions {
 }
 
 impl Versions {
-    /// Those of a script; `counts` says which give their symbol a value, as the first of its name or after others.
+    /// The assignments of a script; `counts` says which give their symbol a value, as the first of its name or after
+    /// others.
     pub(super) fn of(script: &Script, text: &[u8], counts: &dyn Fn(&Assignment, Span, bool) -> bool) -> Versions {
         let mut versions = Versions { by_name: HashMap::new(), words: words(text) };
         for_each_assignment(script, &mut |assignment, span| {

@@ -156,7 +156,7 @@ impl<'a> Walk<'a> {
         }
     }
 
-    /// All of it.
+    /// Rewrites the whole script.
     pub(super) fn run(mut self) -> Residual {
         self.is_inserted = super::inserted::has_insert(self.script) && self.can_insert();
         self.hash_comments();

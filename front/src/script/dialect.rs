@@ -8,10 +8,10 @@ use super::words::word;
 /// Whose tokens a text has.
 #[derive(Clone, Copy, PartialEq, Eq, Debug, Default)]
 pub(super) enum Dialect {
-    /// Those of GNU ld.
+    /// The tokens of GNU ld's scripts.
     #[default]
     Gnu,
-    /// Those of `ldi`.
+    /// The tokens of `ldi`'s scripts.
     Profile,
 }
 

@@ -8,7 +8,7 @@ use super::tree::Span;
 /// Why a text is no script.
 #[derive(Clone, PartialEq, Eq, Debug, thiserror::Error)]
 pub enum ErrorKind {
-    /// Another token than the language has there.
+    /// A token that the language does not have there.
     #[error("{expected} is expected, not {found}")]
     Unexpected {
         /// What the language has there, as "`;`" or "an expression".
@@ -90,7 +90,7 @@ impl ScriptError {
         self
     }
 
-    /// Why.
+    /// Why the text is refused.
     #[must_use]
     pub fn kind(&self) -> &ErrorKind {
         &self.0.kind
@@ -132,7 +132,7 @@ pub enum WarningKind {
     Separator,
 }
 
-/// Something that was passed over, and where.
+/// A text that was passed over, and where.
 #[derive(Clone, PartialEq, Eq, Debug, thiserror::Error)]
 #[error("{place}: {kind}")]
 pub struct Warning {

@@ -61,7 +61,7 @@ impl<'a> Reader<'a> {
     /// statements.
     ///
     /// # Errors
-    /// No file of that name can be read, it was read before, or it is no script of GNU ld's.
+    /// If no file of that name can be read, it was read before, or it is no script of GNU ld's.
     pub fn open(&mut self, name: &OsStr) -> Result<Range<usize>, ScriptError> {
         let own = Name::from(name.as_bytes());
         if self.parser.scripts.contains(&own) {
@@ -82,7 +82,7 @@ impl<'a> Reader<'a> {
     /// Reads the text of a script.
     ///
     /// # Errors
-    /// It is no script of GNU ld's, or a file that it includes cannot be read.
+    /// If the text is no script of GNU ld's, or a file that it includes cannot be read.
     pub fn text(&mut self, path: &Path, text: Vec<u8>) -> Result<Range<usize>, ScriptError> {
         self.read(path, text, |parser, script| parser.statements(&mut script.statements))
     }
@@ -91,7 +91,7 @@ impl<'a> Reader<'a> {
     /// is an error.
     ///
     /// # Errors
-    /// It is no script of GNU ld's, or a file that it includes cannot be read.
+    /// If the text is no script of GNU ld's, or a file that it includes cannot be read.
     pub fn implicit(&mut self, path: &Path, text: Vec<u8>) -> Result<Range<usize>, ScriptError> {
         self.parser.lexer.is_strict = true;
         let result = self.text(path, text);
@@ -102,7 +102,7 @@ impl<'a> Reader<'a> {
     /// Reads the value of --defsym, `NAME=EXPRESSION`.
     ///
     /// # Errors
-    /// It is no assignment.
+    /// If the text is no assignment.
     pub fn defsym(&mut self, text: &[u8]) -> Result<Range<usize>, ScriptError> {
         let name = text.split(|byte| *byte == b'=').next().unwrap_or_default();
         let path = PathBuf::from(format!("--defsym {}", String::from_utf8_lossy(name).trim()));
@@ -124,7 +124,7 @@ impl<'a> Reader<'a> {
         statements.iter().any(|statement| matches!(statement.node, tree::Statement::Insert(..)))
     }
 
-    /// All that was read.
+    /// The script of all that was read.
     #[must_use]
     pub fn finish(mut self) -> Reading {
         self.parser.lexer.abandon();
@@ -169,7 +169,7 @@ impl ScriptFiles for Disk {
     }
 }
 
-/// No files at all, for texts that include none.
+/// A source of no files, for texts that include none.
 #[derive(Clone, Copy, Debug, Default)]
 pub struct NoFiles;
 
@@ -182,7 +182,7 @@ impl ScriptFiles for NoFiles {
 /// Reads one script that includes nothing.
 ///
 /// # Errors
-/// It is no script of GNU ld's, or has an INCLUDE.
+/// If the text is no script of GNU ld's, or has an INCLUDE.
 pub fn parse(path: &Path, text: &[u8]) -> Result<Reading, ScriptError> {
     let mut files = NoFiles;
     let mut reader = Reader::new(&mut files, Vec::new());
@@ -193,7 +193,7 @@ pub fn parse(path: &Path, text: &[u8]) -> Result<Reading, ScriptError> {
 /// Reads an expression that stands alone; `path` is named in errors.
 ///
 /// # Errors
-/// It is no expression of GNU ld's.
+/// If the text is no expression of GNU ld's.
 pub fn expression(path: &Path, text: &[u8]) -> Result<Expr, ScriptError> {
     let mut files = NoFiles;
     let mut parser = Parser::new(&mut files, Vec::new());
@@ -207,7 +207,7 @@ pub fn expression(path: &Path, text: &[u8]) -> Result<Expr, ScriptError> {
 /// Reads a version script, as of `--version-script`.
 ///
 /// # Errors
-/// It is none.
+/// If the text is no version script.
 pub fn version_script(path: &Path, text: &[u8]) -> Result<Vec<VersionNode>, ScriptError> {
     let mut files = NoFiles;
     let mut parser = Parser::new(&mut files, Vec::new());

@@ -14,7 +14,7 @@ pub trait ScriptFiles {
     /// The bytes of a file.
     ///
     /// # Errors
-    /// The file is not there, or cannot be read.
+    /// If the file is not there, or cannot be read.
     fn read(&mut self, path: &Path) -> io::Result<Vec<u8>>;
 }
 

@@ -117,9 +117,9 @@ pub enum ExprKind {
     Binary(BinaryOperator, Box<Expr>, Box<Expr>),
     /// `condition ? then : otherwise`.
     Conditional(Box<Expr>, Box<Expr>, Box<Expr>),
-    /// A function of expressions, as `ALIGN(., 8)`. The number of arguments is one of those that the function has.
+    /// A function of expressions, such as `ALIGN(., 8)`. The number of arguments is one of those that the function has.
     Call(Function, Vec<Expr>),
-    /// A function of a name, as `SIZEOF(.text)`.
+    /// A function of a name, such as `SIZEOF(.text)`.
     Query(Query, Name),
     /// `SEGMENT_START("name", default)`.
     SegmentStart(Name, Box<Expr>),
@@ -211,7 +211,7 @@ impl BinaryOperator {
         row.map_or(("", 0), |(_, mark, level)| (mark, *level))
     }
 
-    /// Its spelling.
+    /// The mark of the operator.
     #[must_use]
     pub fn mark(self) -> &'static str {
         self.row().0
@@ -288,7 +288,7 @@ pub enum AssignOperator {
 /// The wrapper of an assignment.
 #[derive(Clone, Copy, PartialEq, Eq, Hash, Debug)]
 pub enum Provision {
-    /// None: `name = e;`
+    /// An assignment under no keyword: `name = e;`.
     Plain,
     /// `HIDDEN(name = e)`
     Hidden,
@@ -359,7 +359,7 @@ pub struct ProgramHeader {
     pub flags: Option<Expr>,
 }
 
-/// The number of a type of program headers, as `PT_LOAD` (System V gABI, 'Program Header'; GNU's types).
+/// The number of a type of program headers, such as `PT_LOAD` (System V gABI, 'Program Header'; GNU's types).
 #[must_use]
 pub fn program_header_type(word: &[u8]) -> Option<u32> {
     const FIRST: [&str; 8] =
@@ -409,7 +409,7 @@ pub struct Pattern {
 pub struct InputStatement {
     /// Whether it stands in KEEP.
     pub is_kept: bool,
-    /// The words of INPUT_SECTION_FLAGS, as `SHF_ALLOC` or `!SHF_WRITE`.
+    /// The words of INPUT_SECTION_FLAGS, such as `SHF_ALLOC` or `!SHF_WRITE`.
     pub section_flags: Vec<Name>,
     /// The files; `None` for `[..]` without a file.
     pub file: Option<Spanned<Pattern>>,

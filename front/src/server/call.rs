@@ -86,7 +86,7 @@ pub(super) fn answer_limit(environment: &Environment) -> Duration {
 /// Connects to a server of this user.
 ///
 /// # Errors
-/// Nobody listens there, or another user.
+/// If nobody listens at the socket, or it is another user's.
 pub(super) fn connect(path: &Path) -> Result<UnixStream, Declined> {
     let stream = UnixStream::connect(path)?;
     if !is_own(&stream) {
@@ -105,7 +105,7 @@ impl Call<'_> {
     /// Has the server at a path link; its first answer has to come in time. Gives the exit status.
     ///
     /// # Errors
-    /// It does not link.
+    /// If the server does not make the link.
     pub(super) fn ask(&self, path: &Path, first_answer: Duration) -> Result<u8, Declined> {
         let limit = answer_limit(self.environment);
         let stream = connect(path)?;
@@ -194,7 +194,7 @@ impl Answer {
         Some(Answer { status, places, texts: printed_of(&reader.rest()) })
     }
 
-    /// It as a message.
+    /// The message that has this answer.
     pub(super) fn message(&self) -> Message {
         let mut message = Message::of(Kind::Done).with(self.status.to_string()).with(self.places.len().to_string());
         for place in &self.places {

@@ -33,7 +33,7 @@ impl Key {
     /// The key of a call with these words.
     ///
     /// # Errors
-    /// It is not known where names lead, for example if the working folder was removed.
+    /// If it is not known where names lead, for example because the working folder was removed.
     pub(super) fn of(words: &[OsString], environment: &Environment) -> io::Result<Key> {
         let mut parts: Vec<Vec<u8>> = vec![real_path(&output_of(words)).as_os_str().as_bytes().to_owned()];
         parts.extend(standing()?);
@@ -45,7 +45,7 @@ impl Key {
         Ok(Key { text: parts.join(&0) })
     }
 
-    /// Its text.
+    /// The key's bytes.
     pub(super) fn text(&self) -> &[u8] {
         &self.text
     }
@@ -119,7 +119,7 @@ pub(super) fn real_path(path: &Path) -> PathBuf {
 /// it is reached.
 ///
 /// # Errors
-/// It is not known.
+/// If the system does not say one of these.
 pub(super) fn standing() -> io::Result<Vec<Vec<u8>>> {
     let mut found = vec![
         std::env::current_dir()?.into_os_string().as_bytes().to_owned(),

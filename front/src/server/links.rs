@@ -163,7 +163,7 @@ impl Links {
         }
     }
 
-    /// One link.
+    /// Makes a link, with the plan of the last one if that still holds.
     fn once(&mut self, wish: &Wish, host: &ServerHost) -> Result<Done, LinkFault> {
         let planned = match self.kept.take() {
             Some(kept) if self.is_same(&kept, wish) => self.again(kept.planned),

@@ -36,7 +36,7 @@ pub(super) fn hindrance(environment: &Environment) -> Option<&'static str> {
     is_container.then_some("in a container")
 }
 
-/// Whether the first process is a command's shell or builder, as in the step of a container's build.
+/// Whether the first process is a command's shell or builder, for example in the step of a container's build.
 fn is_first_a_shell() -> bool {
     let names = ["sh", "bash", "dash", "ash", "busybox", "make", "ninja", "buildkitd"];
     fs::read_to_string("/proc/1/comm").map_or(false, |name| names.contains(&name.trim()))
@@ -67,7 +67,7 @@ fn has_files(words: &[OsString]) -> bool {
 /// Starts a server, which is asked at its socket then. Does nothing if one answers there, unless it `replaces` that.
 ///
 /// # Errors
-/// There is no place for a socket, or no process.
+/// If there is no folder for the socket, or no process can be started.
 pub(super) fn start(path: &Path, replaces: bool) -> io::Result<()> {
     let folder = File::open(path.parent().unwrap_or_else(|| Path::new(".")))?;
     flock(&folder, FlockOperation::LockExclusive)?;

@@ -40,7 +40,7 @@ pub(super) struct State {
 }
 
 impl State {
-    /// It as a message.
+    /// The message that has this state.
     pub(super) fn message(&self) -> Message {
         let numbers = [u64::from(self.process), self.calls, self.memory, self.idle, u64::from(self.is_busy)];
         let message =
@@ -103,7 +103,7 @@ pub(super) fn run(words: &[OsString], environment: &Environment, stops: bool) ->
 /// asked again, as its socket may take a call until it is gone.
 ///
 /// # Errors
-/// It gives no answer.
+/// If a server is there that gives no answer.
 pub(super) fn ask(path: &Path, kind: Kind) -> Result<Option<State>, Declined> {
     let asked = Instant::now();
     match ask_once(path, kind) {

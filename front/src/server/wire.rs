@@ -8,7 +8,7 @@ use std::os::unix::net::UnixStream;
 pub(super) enum Kind {
     /// A call wants a link.
     Link,
-    /// It wants to know how the server is.
+    /// The call wants to know how the server is.
     Status,
     /// The server is to end.
     Stop,
@@ -16,9 +16,9 @@ pub(super) enum Kind {
     Placed,
     /// The server works.
     Working,
-    /// It does not link, and says why.
+    /// The server does not link, and says why.
     Refused,
-    /// It has linked, or says how it is.
+    /// The server has linked, or says how it is.
     Done,
     /// Another linker is to link.
     HandOver,
@@ -65,7 +65,7 @@ impl Message {
         Message { kind, texts: Vec::new() }
     }
 
-    /// The same with one text more.
+    /// The message with one text more.
     pub(super) fn with(mut self, text: impl AsRef<[u8]>) -> Message {
         self.texts.push(text.as_ref().to_owned());
         self
@@ -74,7 +74,7 @@ impl Message {
     /// Sends it.
     ///
     /// # Errors
-    /// The other end is gone, or does not read.
+    /// If the other end is gone, or does not read.
     pub(super) fn send(&self, stream: &UnixStream) -> io::Result<()> {
         let count = |bytes: usize| u32::try_from(bytes).unwrap_or(u32::MAX).to_le_bytes();
         let mut bytes = vec![self.kind.byte()];
@@ -90,7 +90,7 @@ impl Message {
     /// The next message.
     ///
     /// # Errors
-    /// The other end is gone, says nothing, or something else.
+    /// If the other end is gone, is silent, or sends something that is no message.
     pub(super) fn receive(stream: &UnixStream) -> io::Result<Message> {
         let mut stream = stream;
         let mut head = [0; HEAD];
@@ -125,7 +125,7 @@ pub(super) struct Reader {
 }
 
 impl Reader {
-    /// Those of a message.
+    /// The texts of a message.
     pub(super) fn of(message: Message) -> Reader {
         Reader { texts: message.texts.into_iter() }
     }

@@ -12,7 +12,7 @@ use thiserror::Error;
 const SECOND: i128 = 1_000_000_000;
 /// Nanoseconds: a file's times go by ticks of the system, so that two changes within one may leave the same stamp.
 const TICK: i128 = 20_000_000;
-/// The same if a time is one of whole seconds, as some file systems have them, and even seconds.
+/// The tick of file systems whose times are whole seconds, or even ones.
 const COARSE_TICK: i128 = 2 * SECOND + TICK;
 /// The most bytes that are read of what is no regular file.
 const GREATEST_STREAM: u64 = 1 << 26;
@@ -70,16 +70,16 @@ pub(super) fn now() -> i128 {
 /// Why a file was not read.
 #[derive(Debug, Error)]
 pub enum ReadFault {
-    /// It is not there.
+    /// The file is not there.
     #[error("No such file or directory")]
     Missing,
-    /// It is a folder.
+    /// The file is a folder.
     #[error("Is a directory")]
     Folder,
-    /// It is a pipe, a device or a socket.
+    /// The file is a pipe, a device or a socket.
     #[error("it is no regular file")]
     NotRegular,
-    /// It is a pipe that nobody writes.
+    /// The file is a pipe that nobody writes.
     #[error("it is a pipe that nobody writes")]
     NoWriter,
     /// The system says why.
@@ -149,7 +149,7 @@ fn regular(found: Stat) -> Result<Stat, ReadFault> {
 /// Opens a regular file to read it. It is looked at before it is opened, and opened so that a pipe does not wait.
 ///
 /// # Errors
-/// It is not there, no regular file, or cannot be opened.
+/// If the file is not there, is no regular one, or cannot be opened.
 pub fn open_regular(path: &Path) -> Result<(File, Stamp), ReadFault> {
     regular(look(path)?)?;
     let file = open(path)?;
@@ -171,7 +171,7 @@ fn open(path: &Path) -> Result<File, ReadFault> {
 /// Reads a regular file.
 ///
 /// # Errors
-/// It is not there, no regular file, or cannot be read.
+/// If the file is not there, is no regular one, or cannot be read.
 pub fn read_regular(path: &Path) -> Result<Seen, ReadFault> {
     let begun = now();
     let (file, stamp) = open_regular(path)?;
@@ -181,7 +181,7 @@ pub fn read_regular(path: &Path) -> Result<Seen, ReadFault> {
 /// Reads a file that was opened with this stamp at a moment.
 ///
 /// # Errors
-/// It cannot be read.
+/// If the file cannot be read.
 pub fn read_open(file: &File, stamp: Stamp, begun: i128) -> Result<Seen, ReadFault> {
     let mut data = Vec::new();
     let is_there = usize::try_from(stamp.size).map_or(false, |size| data.try_reserve_exact(size).is_ok());
@@ -199,7 +199,7 @@ pub fn read_open(file: &File, stamp: Stamp, begun: i128) -> Result<Seen, ReadFau
 /// Reads a file of any kind, as a script may be one: also a pipe that somebody writes, which is waited for.
 ///
 /// # Errors
-/// It is not there, a folder, a pipe that nobody writes, or cannot be read.
+/// If the file is not there or cannot be read, or is a folder, or a pipe that nobody writes.
 pub fn read_any(path: &Path) -> Result<Seen, ReadFault> {
     let found = look(path)?;
     match kind_of(&found) {

@@ -20,7 +20,7 @@ pub(super) fn is_link(path: &Path) -> bool {
     fs::symlink_metadata(path).map_or(false, |found| found.file_type().is_symlink())
 }
 
-/// The same of one path; `folders` has for folders what they are without links.
+/// Whether a path leads to such a file; `folders` has for folders what they are without links.
 fn is_lasting(path: &Path, folders: &mut HashMap<PathBuf, Option<PathBuf>>) -> Option<bool> {
     let mut path = path.to_owned();
     for _ in 0..MOST_LINKS {

@@ -118,12 +118,12 @@ impl Snapshot {
         Snapshot::default()
     }
 
-    /// The same, if nothing but regular files is ever read: a pipe would be waited for.
+    /// A snapshot that reads regular files alone: a pipe would be waited for.
     pub fn of_regular_files() -> Snapshot {
         Snapshot { is_of_regular_files: true, ..Snapshot::default() }
     }
 
-    /// The same for a server: what is another file to each process, or can be read only once, is not read.
+    /// A snapshot of a server: what is another file to each process, or can be read only once, is not read.
     pub fn shared() -> Snapshot {
         Snapshot { shared: Some(Shared::default()), ..Snapshot::default() }
     }
@@ -148,7 +148,7 @@ impl Snapshot {
     /// The bytes of a regular file. If it has the bytes that it had, they are the same in memory.
     ///
     /// # Errors
-    /// It is not there, no regular file, or cannot be read.
+    /// If the file is not there, is no regular one, or cannot be read.
     pub fn read(&mut self, path: &Path) -> Result<Bytes, ReadFault> {
         self.read_by(path, read_regular)
     }
@@ -156,7 +156,7 @@ impl Snapshot {
     /// The same of a file of any kind: a pipe that somebody writes is waited for.
     ///
     /// # Errors
-    /// It is not there, a folder, a pipe that nobody writes, or cannot be read.
+    /// If the file is not there or cannot be read, or is a folder, or a pipe that nobody writes.
     pub fn read_any(&mut self, path: &Path) -> Result<Bytes, ReadFault> {
         let is_regular = self.is_of_regular_files || self.shared.is_some();
         self.read_by(path, if is_regular { read_regular } else { read_any })

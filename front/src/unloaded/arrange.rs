@@ -17,7 +17,7 @@ use crate::quick::QuickMap;
 const DEBUGGING: [&[u8]; 7] =
     [b".debug", b".gnu.debuglto_.debug_", b".gnu.linkonce.wi.", b".zdebug", b".line", b".stab", b".gdb_index"];
 
-/// The most zeros that one section without bytes comes to.
+/// The most zeros that a section without bytes may have in the file.
 const MOST_ZEROS: usize = 1 << 30;
 
 /// The bytes of an output section.
@@ -35,7 +35,7 @@ pub(super) struct Piece<'a> {
     pub(super) bytes: Cow<'a, [u8]>,
     /// The input section, whose relocations apply.
     pub(super) section: Option<SectionId>,
-    /// Of stabs: the rows that stay of the bytes.
+    /// The rows that stay of the bytes, if these are stabs.
     pub(super) rows: Option<Vec<Row>>,
 }
 
@@ -51,18 +51,18 @@ impl Piece<'_> {
 pub(super) struct Spot {
     /// The address of the output section, and the place there.
     pub(super) address: u64,
-    /// Its strings: the number of those that were merged together, and of it among them.
+    /// The strings of the section: the number of those that were merged together, and its number among them.
     pub(super) strings: Option<(usize, usize)>,
 }
 
-/// All of them.
+/// The sections that are not loaded, arranged for the file.
 #[derive(Default)]
 pub(super) struct Arrangement<'a> {
     pub(super) outputs: Vec<Arranged<'a>>,
     spots: QuickMap<usize, Spot>,
     /// Strings that were merged together, and the sections that have them.
     strings: Vec<(Strings, Vec<SectionId>)>,
-    /// What stabs come to.
+    /// The merged stabs of each section that has some.
     stabs: QuickMap<SectionId, Stabs>,
 }
 
@@ -181,7 +181,7 @@ impl<'a> Making<'a> {
         kinds.any(|kind| matches!(kind, StatementKind::Data { .. } | StatementKind::Dot { gap: Some(_), .. }))
     }
 
-    /// What a section that the layout has merged comes to.
+    /// A section as the layout has merged it.
     fn part(&self, section: &InputSection) -> Option<&'a MergedPart> {
         self.evaluation.merges_beside.part(section.object, section.number()?)
     }
@@ -278,7 +278,7 @@ impl<'a> Making<'a> {
         Ok(())
     }
 
-    /// All where the layout has it: input sections, data and what fills gaps.
+    /// Arranges input sections, data and what fills gaps where the layout has them.
     fn keep_places(&self, into: &mut Arrangement<'a>, taken: &[SectionId], arranged: &mut Arranged<'a>) {
         arranged.size = self.place.size;
         for id in taken {

@@ -13,7 +13,7 @@ pub(crate) struct Kept<'a> {
 }
 
 impl<'a> Kept<'a> {
-    /// Those of some objects.
+    /// The groups that are kept of those of some objects.
     pub(crate) fn of(objects: &'a [Object]) -> Kept<'a> {
         let mut groups = HashMap::new();
         for (number, object) in objects.iter().enumerate().filter(|(_, object)| object.has_groups()) {

@@ -60,7 +60,7 @@ pub enum NotMade {
         object: BString,
         /// Its section.
         section: BString,
-        /// Why.
+        /// Why the relocation cannot be applied.
         fault: Fault,
     },
 }
@@ -74,7 +74,7 @@ pub struct Spans {
 }
 
 impl Spans {
-    /// Those of a layout.
+    /// The places of what is not loaded, by a layout.
     pub fn of(evaluation: &Evaluation, objects: &[Object], strips_debugging: bool) -> Spans {
         let arrangement = Arrangement::of(evaluation, objects, strips_debugging).unwrap_or_default();
         let mut spans = Spans::default();
@@ -126,7 +126,7 @@ pub struct Link<'a> {
 /// The sections of a link that are not loaded. `map` gives the map of the image, if that is needed.
 ///
 /// # Errors
-/// Something in them is none of this; or `map` says so.
+/// `NotMade` if a section cannot be made as GNU ld makes it; and the error of `map`.
 pub fn unloaded<E: From<NotMade>>(
     link: Link<'_>,
     strips_debugging: bool,

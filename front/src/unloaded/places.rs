@@ -28,7 +28,7 @@ impl<'a> Places<'a> {
         loaded.all(|(_, place)| image.has_section(place.address, place.size))
     }
 
-    /// The same places by a map.
+    /// The places with those that a map says.
     pub(super) fn with_map(self, map: &LinkMap, objects: &[Object]) -> Places<'a> {
         // By object, name and size: the addresses, in the order of the map.
         let mut pieces: HashMap<_, Vec<u64>> = HashMap::new();

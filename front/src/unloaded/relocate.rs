@@ -27,10 +27,10 @@ pub(super) struct Field {
 /// Why a relocation does not apply.
 #[derive(Clone, Copy, PartialEq, Eq, Debug, thiserror::Error)]
 pub enum Fault {
-    /// It is none of a section that is not loaded.
+    /// The relocation has no type of a section that is not loaded.
     #[error("relocations of type {0}")]
     Kind(u32),
-    /// Its field is not in the section.
+    /// The field is not in the section.
     #[error("a relocation past the end")]
     PastEnd,
     /// The value does not fit.

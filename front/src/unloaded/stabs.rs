@@ -25,7 +25,7 @@ const HEADER: u8 = 0x82;
 const HEADER_END: u8 = 0xa2;
 const HEADER_AGAIN: u8 = 0xc2;
 
-/// What a section comes to.
+/// A section of stabs after merging.
 pub(super) enum Stabs {
     /// Rows: those that stay.
     Rows(Vec<Row>),
@@ -41,7 +41,7 @@ pub(super) struct Row {
     /// Where it is in its section.
     from: usize,
     is_head: bool,
-    /// Its bytes that are others, and where in it.
+    /// The bytes that change, each with its place in the row.
     changed: Vec<(usize, Vec<u8>)>,
 }
 
@@ -60,7 +60,7 @@ pub(super) fn size(rows: &[Row]) -> usize {
     rows.len() * ROW
 }
 
-/// What the stabs of a link come to: `taken` are the sections that are in the file and not loaded. The names of other
+/// The merged stabs of a link: `taken` are the sections that are in the file and not loaded. The names of other
 /// objects' stabs are among those of all too, as GNU ld reads them before it collects sections.
 pub(super) fn merged(evaluation: &Evaluation, objects: &[Object], taken: &[SectionId]) -> QuickMap<SectionId, Stabs> {
     let mut by_object: BTreeMap<ObjectIndex, (Option<SectionId>, Vec<SectionId>)> = BTreeMap::new();
@@ -278,7 +278,7 @@ impl<'a> Merging<'a> {
         found.map_or(true, |one| !matches!(one.fate, Fate::Output(_)))
     }
 
-    /// What each section comes to: the first head says how many rows there are, and how long the names are.
+    /// The merged sections: the first head says how many rows there are, and how long the names are.
     fn finish(mut self) -> QuickMap<SectionId, Stabs> {
         let count = |stabs: &Stabs| if let Stabs::Rows(rows) = stabs { rows.len() } else { 0 };
         let all: usize = self.made.values().map(count).sum();

@@ -17,7 +17,7 @@ use crate::objects::{
 pub(super) enum Target {
     /// An address.
     Address(u64),
-    /// Something that is not in the output.
+    /// A section that is not in the output.
     Gone,
 }
 

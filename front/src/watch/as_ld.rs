@@ -38,13 +38,13 @@ pub(super) struct AsLd {
 pub(super) enum Made {
     /// The file, and what there is to say of it.
     File(FileImage, Vec<String>),
-    /// There is none, as these lines say.
+    /// No file is made, as these lines say.
     Refused(Vec<String>),
 }
 
 /// What the kept session says to a plan.
 pub(super) enum Said {
-    /// It has an image.
+    /// The link has an image.
     Image,
     /// The link has faults.
     Faults,
@@ -72,7 +72,7 @@ impl AsLd {
     /// Finds all anew, while the session takes the objects.
     ///
     /// # Errors
-    /// The session gave no answer.
+    /// If the session gives no answer.
     pub(super) fn find(
         &mut self,
         words: &Words,
@@ -132,7 +132,7 @@ impl AsLd {
     /// Brings the session in step.
     ///
     /// # Errors
-    /// The session gave no answer.
+    /// If the session gives no answer.
     pub(super) fn bring(
         &mut self,
         words: &Words,
@@ -192,7 +192,7 @@ impl AsLd {
     /// Makes the file of an image that the session gave.
     ///
     /// # Errors
-    /// The session gave no answer.
+    /// If the session gives no answer.
     pub(super) fn make(
         &mut self,
         words: &Words,

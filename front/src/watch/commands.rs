@@ -45,7 +45,7 @@ impl Command {
         Ok(())
     }
 
-    /// Its status, once, if it has ended by now.
+    /// The command's status, once, if it has ended by now.
     pub(super) fn ended(&mut self) -> Option<ExitStatus> {
         let status = self.process.as_mut()?.try_wait().ok().flatten()?;
         self.process = None;

@@ -96,7 +96,7 @@ impl Watcher {
     /// now.
     ///
     /// # Errors
-    /// The system watches no more folders.
+    /// If the system watches no more folders.
     pub(super) fn watch(&mut self, folder: &Path) -> Result<bool, NotWatched> {
         let known = self.folders.get(folder).copied();
         if known.is_some() && known == Some(identity(folder)) {
@@ -110,7 +110,7 @@ impl Watcher {
     /// Watches folders that came since, or that others stand in place of; says whether there are such.
     ///
     /// # Errors
-    /// The system watches no more folders.
+    /// If the system watches no more folders.
     pub(super) fn look(&mut self) -> Result<bool, NotWatched> {
         let others: Vec<PathBuf> = self
             .folders
@@ -159,7 +159,7 @@ impl Watcher {
     /// others too.
     ///
     /// # Errors
-    /// The system says why they cannot be read.
+    /// If the events cannot be read.
     pub(super) fn read(&mut self, asks: &dyn Fn(&Path) -> bool) -> io::Result<Vec<Event>> {
         let mut events = Vec::new();
         for raw in self.raw()? {

@@ -31,7 +31,7 @@ impl Gathering {
         Gathering { first: Some(now), last: now, next_look: now + PERIOD, is_urgent: true, is_eager: false }
     }
 
-    /// There was an event of a file.
+    /// Notes an event of a file.
     pub(super) fn event(&mut self, now: Instant) {
         if self.first.is_none() && now.saturating_duration_since(self.last) >= REST {
             self.is_urgent = true;
@@ -43,12 +43,12 @@ impl Gathering {
         self.note(now);
     }
 
-    /// There is something to deal with, from now on if there was nothing before.
+    /// Notes that there is something to deal with, from now on if there was nothing before.
     pub(super) fn note(&mut self, now: Instant) {
         self.first = self.first.or(Some(now));
     }
 
-    /// There is something to deal with now.
+    /// Notes that there is something to deal with at once.
     pub(super) fn note_urgent(&mut self, now: Instant) {
         self.is_urgent = true;
         self.note(now);
@@ -60,7 +60,7 @@ impl Gathering {
         Some(if self.is_urgent { first } else { (self.last + QUIET).min(first + LONGEST_GATHERING) })
     }
 
-    /// They are dealt with now.
+    /// Notes that the events are dealt with now.
     pub(super) fn begin(&mut self) {
         self.first = None;
         self.is_urgent = false;
@@ -71,12 +71,12 @@ impl Gathering {
         self.is_eager = false;
     }
 
-    /// All was looked at.
+    /// Notes that all inputs were looked at.
     pub(super) fn looked(&mut self, now: Instant) {
         self.next_look = now + PERIOD;
     }
 
-    /// All is looked at by then.
+    /// Sets the time by which all inputs are looked at.
     pub(super) fn look_by(&mut self, when: Instant) {
         self.next_look = self.next_look.min(when);
     }

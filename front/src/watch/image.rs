@@ -32,14 +32,14 @@ pub(super) enum ImageFault {
     /// A file cannot be written.
     #[error(transparent)]
     NotWritten(#[from] NotWritten),
-    /// There is no such image.
+    /// `ld.ldi` would make no such image.
     #[error("there is no such image")]
     Refused(Refusals),
 }
 
 /// A file that is written. Its stages are `prepare` or `take`, and then `commit` or `drop`.
 ///
-/// A name of something that is no regular file, as /dev/null, is written in place, by `commit`. A symbolic link stays
+/// A name of something that is no regular file, such as /dev/null, is written in place, by `commit`. A symbolic link stays
 /// one, and the file that it names is the one that is written.
 #[derive(Debug)]
 struct Output {
@@ -85,7 +85,7 @@ impl Output {
         })
     }
 
-    /// The same with the image of a session, without a copy here; gives its length.
+    /// Writes the image of a session into the file, without a copy here; gives its length.
     fn take(&mut self, mirror: &mut Mirror) -> Result<u64, ImageFault> {
         self.open()?;
         let file = match &mut self.new {
@@ -287,7 +287,7 @@ impl Image {
         self.outputs().any(|output| output.is_gone())
     }
 
-    /// Those that another program has written, each once.
+    /// The files that another program has written, each once.
     pub(super) fn others(&mut self) -> Vec<PathBuf> {
         self.outputs().filter_map(|output| output.is_other().then(|| output.path.clone())).collect()
     }
@@ -300,7 +300,7 @@ impl Image {
     /// Writes the image of a session beside its place.
     ///
     /// # Errors
-    /// The session gave no answer, or the file cannot be written.
+    /// If the session gives no answer, or the file cannot be written.
     pub(super) fn take(&mut self, mirror: &mut Mirror) -> Result<(), ImageFault> {
         self.length = self.image.take(mirror)?;
         Ok(())
@@ -309,7 +309,7 @@ impl Image {
     /// Writes a file beside the image's place.
     ///
     /// # Errors
-    /// It cannot be written.
+    /// If the file cannot be written.
     pub(super) fn prepare(&mut self, file: &FileImage) -> Result<(), NotWritten> {
         let zeros = zeros_of(file);
         self.length = file.len();
@@ -319,7 +319,7 @@ impl Image {
     /// Writes the map beside its place: one that was asked for already, or the session's.
     ///
     /// # Errors
-    /// The session gave no answer, or the file cannot be written.
+    /// If the session gives no answer, or the file cannot be written.
     pub(super) fn take_map(&mut self, mirror: &mut Mirror, known: Option<Vec<u8>>) -> Result<(), ImageFault> {
         if !self.wants_map() {
             return Ok(());
@@ -342,7 +342,7 @@ impl Image {
     /// Puts map and image in place.
     ///
     /// # Errors
-    /// One cannot be put there.
+    /// If the map or the image cannot be put in place.
     pub(super) fn commit(&mut self, stops: &Stops) -> Result<(), NotWritten> {
         let mut old = Vec::new();
         let done = self.outputs().try_for_each(|output| output.commit(stops).map(|name| old.extend(name)));
@@ -359,7 +359,7 @@ impl Image {
     /// Writes the script of `--gdb` for the image that was put in place.
     ///
     /// # Errors
-    /// It cannot be written.
+    /// If the script cannot be written.
     pub(super) fn write_gdb(&mut self, stops: &Stops) -> Result<(), NotWritten> {
         if let Some(path) = &self.gdb {
             let mut output = Output::new(path, TEXT);

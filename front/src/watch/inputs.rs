@@ -35,9 +35,9 @@ pub(super) struct Inputs {
     /// The files of which it was asked whether somebody writes them.
     asked: HashMap<PathBuf, FileId>,
     dirty: HashSet<PathBuf>,
-    /// Those that were inputs before the last search that found others, and may be again.
+    /// The files that were inputs before the last search that found others, and may be again.
     spare: HashSet<PathBuf>,
-    /// Those that could not be read.
+    /// The files that could not be read.
     failing: HashSet<PathBuf>,
     /// What changed since the last search that came to an end.
     changed: IndexSet<PathBuf>,
@@ -73,7 +73,7 @@ impl Inputs {
     /// Reads the inputs that are to be read again; says what changed. Those that are being written wait.
     ///
     /// # Errors
-    /// A folder cannot be watched.
+    /// If a folder cannot be watched.
     pub(super) fn read(&mut self) -> Result<Changed, NotWatched> {
         let dirty: Vec<PathBuf> = self.dirty.iter().filter(|path| !self.writers.contains_key(*path)).cloned().collect();
         for path in dirty {
@@ -108,7 +108,7 @@ impl Inputs {
     /// All inputs were read: their folders are watched from now on. `is_found` says whether that is all of a link.
     ///
     /// # Errors
-    /// A folder cannot be watched.
+    /// If a folder cannot be watched.
     pub(super) fn end_search(&mut self, is_found: bool) -> Result<(), NotWatched> {
         if self.is_anew {
             self.take_over()?;
@@ -253,7 +253,8 @@ impl Inputs {
         silent
     }
 
-    /// Asks whether those that write are still there: no event says so of who wrote through another name.
+    /// Asks whether the writers of files are still there: no event says so of who wrote through another name. Gives
+    /// whether one is not.
     fn ask_writers(&mut self) -> bool {
         let closed: Vec<PathBuf> =
             self.writers.keys().filter(|path| has_writer(path) == Some(false)).cloned().collect();
@@ -292,7 +293,7 @@ impl Inputs {
     /// Looks at all inputs, for events that the system lost; says whether there is something to do.
     ///
     /// # Errors
-    /// A folder cannot be watched.
+    /// If a folder cannot be watched.
     pub(super) fn look(&mut self) -> Result<bool, NotWatched> {
         self.places.look(&mut self.watcher)?;
         let failed = self.failed();

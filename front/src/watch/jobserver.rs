@@ -1,7 +1,7 @@
 //! The jobserver of a `make` that started this program, for the `make` of a command that this program starts.
 //!
 //! GNU make hands its jobs out through a pipe whose descriptors MAKEFLAGS names. Commands inherit these descriptors
-//! if they are open, as in a rule that begins with `+`; if they are not, what names them is taken out of the
+//! if they are open, for example in a rule that begins with `+`; if they are not, what names them is taken out of the
 //! environment, so that the `make` of a command makes a jobserver of its own for the number of `-j`, and does not go on
 //! with one job.
 

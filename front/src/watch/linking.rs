@@ -32,24 +32,24 @@ pub(super) type Refusals = Vec<(String, Diagnostic)>;
 /// What a search came to.
 #[derive(Debug)]
 pub(super) enum Found {
-    /// All that is needed is there.
+    /// All inputs that are needed are there.
     Ready,
     /// An input is missing: its name, and why, if it is none of the inputs.
     NotThere(Option<(String, String)>),
-    /// There is no link with these inputs.
+    /// The inputs make no link.
     Refused(Refusals),
 }
 
 /// What the session says of the link.
 #[derive(Debug)]
 pub(super) enum Outcome {
-    /// It has an image.
+    /// The link has an image.
     Image,
-    /// It has faults.
+    /// The link has faults.
     Faults(Vec<Diagnostic>),
     /// Inputs are refused.
     Refused(Refusals),
-    /// Another search finds another script.
+    /// Another search would find another script.
     Again,
 }
 
@@ -104,7 +104,7 @@ impl Linking {
     /// Finds what the link is made of now.
     ///
     /// # Errors
-    /// The session gave no answer.
+    /// If the session gives no answer.
     pub(super) fn find(
         &mut self,
         words: &Words,
@@ -170,7 +170,7 @@ impl Linking {
     /// Brings the session in step with what was found.
     ///
     /// # Errors
-    /// The session gave no answer.
+    /// If the session gives no answer.
     pub(super) fn bring(&mut self, words: &Words, stops: &Stops) -> Result<Outcome, SessionError> {
         let outcome = match self.mode {
             Mode::Plain => self.bring_plain(words, stops)?,
@@ -230,7 +230,7 @@ impl Linking {
     /// Writes the image beside its place, and the map likewise; gives the message of the link.
     ///
     /// # Errors
-    /// The session gave no answer, a file cannot be written, or there is no such image.
+    /// If the session gives no answer, a file cannot be written, or `ld.ldi` would make no such image.
     pub(super) fn take_image(&mut self, words: &Words, image: &mut Image) -> Result<Option<Report>, ImageFault> {
         if self.mode == Mode::Plain {
             image.take(&mut self.mirror)?;

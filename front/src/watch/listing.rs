@@ -36,7 +36,7 @@ pub(super) fn names_in(data: &[u8]) -> impl Iterator<Item = BString> + '_ {
 /// The names of all objects; `lists` has the list files' bytes by their paths.
 ///
 /// # Errors
-/// A session refuses them.
+/// If a session would refuse a name.
 pub(super) fn object_names(items: &[Named], lists: &HashMap<PathBuf, Bytes>) -> Result<Vec<BString>, NamesRefused> {
     let mut names = Vec::new();
     for item in items {
@@ -77,7 +77,7 @@ fn check_names(names: &[BString]) -> Result<(), NamesRefused> {
 /// Refuses an output that is an input or another output; `names` are the objects'.
 ///
 /// # Errors
-/// There is such an output.
+/// If an output is an input or another output.
 pub(super) fn check_outputs(words: &Words, names: &[BString]) -> Result<(), NamesRefused> {
     let lists = words.objects.iter().filter_map(|item| match item {
         Named::List(path) => Some(path.as_path()),
@@ -105,7 +105,7 @@ pub(super) fn check_outputs(words: &Words, names: &[BString]) -> Result<(), Name
 /// Refuses names that a session would refuse, and an output that is an input, before anything is started.
 ///
 /// # Errors
-/// There are such names.
+/// If a session would refuse a name, or an output is an input.
 pub(super) fn check_files(words: &Words) -> Result<(), NamesRefused> {
     let mut lists = HashMap::new();
     for item in &words.objects {

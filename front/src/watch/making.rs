@@ -42,11 +42,11 @@ pub(super) struct Making {
     pub(super) failed: Option<ExitStatus>,
     known: HashMap<PathBuf, Option<u64>>,
     in_run: BTreeSet<PathBuf>,
-    /// Those of them whose bytes were others at some time of the run.
+    /// The sources whose bytes were others at some time of the run.
     differed: HashSet<PathBuf>,
     /// In how many runs, one after the other, a file has changed.
     times: HashMap<PathBuf, u32>,
-    /// Those that came for the first time in a run.
+    /// The files that came for the first time in a run.
     own: HashSet<PathBuf>,
 }
 
@@ -54,7 +54,7 @@ impl Making {
     /// Watches the sources from now on.
     ///
     /// # Errors
-    /// The system watches no more folders.
+    /// If the system watches no more folders.
     pub(super) fn new(command: Command, sources: Sources, watcher: &mut Watcher) -> Result<Making, NotWatched> {
         let mut making = Making {
             command,
@@ -88,7 +88,7 @@ impl Making {
     /// Takes note of a change of a file or folder; says whether it is a source's.
     ///
     /// # Errors
-    /// The system watches no more folders.
+    /// If the system watches no more folders.
     pub(super) fn changed(&mut self, path: &Path, watcher: &mut Watcher) -> Result<bool, NotWatched> {
         match path.is_dir() {
             true => Ok(self.sources.is_below(path) && self.watch_below(path, watcher)?),
@@ -128,7 +128,7 @@ impl Making {
     /// Looks at all sources, for events that are missing; says whether there is a change.
     ///
     /// # Errors
-    /// The system watches no more folders.
+    /// If the system watches no more folders.
     pub(super) fn look(&mut self, watcher: &mut Watcher) -> Result<bool, NotWatched> {
         let gone: Vec<PathBuf> = self.known.keys().filter(|path| !path.exists()).cloned().collect();
         let folder = self.sources.folder.clone();
@@ -142,7 +142,7 @@ impl Making {
     /// Starts the command.
     ///
     /// # Errors
-    /// It cannot be started.
+    /// If the command cannot be started.
     pub(super) fn start(&mut self) -> io::Result<()> {
         self.is_wanted = false;
         self.is_running = true;

@@ -32,7 +32,7 @@ impl Places {
     /// Watches for events of this input; says whether a folder is watched only now.
     ///
     /// # Errors
-    /// The system watches no more folders.
+    /// If the system watches no more folders.
     pub(super) fn put(&mut self, input: &Path, watcher: &mut Watcher) -> Result<bool, NotWatched> {
         let (folder, name) = match (input.parent(), input.file_name()) {
             (Some(folder), Some(name)) => (folder, name),
@@ -70,7 +70,7 @@ impl Places {
     /// Looks where the folders are now.
     ///
     /// # Errors
-    /// The system watches no more folders.
+    /// If the system watches no more folders.
     pub(super) fn look(&mut self, watcher: &mut Watcher) -> Result<(), NotWatched> {
         if self.folders.iter().all(|(folder, known)| real_folder(folder) == *known) {
             return Ok(());

@@ -32,7 +32,7 @@ impl Commands {
     /// Begins to watch the sources, if there is a command for them.
     ///
     /// # Errors
-    /// The system watches no more folders.
+    /// If the system watches no more folders.
     pub(super) fn new(
         words: &Words,
         jobserver: &Jobserver,
@@ -50,7 +50,7 @@ impl Commands {
     /// Whether an event wants a run of `--make`'s command; `written` are the paths of what is written here.
     ///
     /// # Errors
-    /// The system watches no more folders.
+    /// If the system watches no more folders.
     pub(super) fn concern(
         &mut self,
         event: &Event,
@@ -77,7 +77,7 @@ impl Commands {
     /// Looks at all sources; says whether one has changed.
     ///
     /// # Errors
-    /// The system watches no more folders.
+    /// If the system watches no more folders.
     pub(super) fn look(&mut self, watcher: &mut Watcher) -> Result<bool, NotWatched> {
         self.making.as_mut().map_or(Ok(false), |making| making.look(watcher))
     }
@@ -85,7 +85,7 @@ impl Commands {
     /// Says how `--run`'s command ended, if it has failed by now.
     ///
     /// # Errors
-    /// It cannot be printed.
+    /// If standard output cannot be written.
     pub(super) fn say_ended(&mut self, teller: &Teller) -> Result<(), NoOutput> {
         if let Some(runner) = &mut self.runner {
             if let Some(status) = runner.ended().filter(|status| !status.success()) {
@@ -138,7 +138,7 @@ impl Commands {
     /// Starts `--make`'s command if it is wanted; gives the message of one that has failed, or takes long.
     ///
     /// # Errors
-    /// It cannot be started, or the message cannot be printed.
+    /// If the command cannot be started, or standard output cannot be written.
     pub(super) fn start(&mut self, teller: &Teller) -> Result<Option<(String, String)>, StartFault> {
         let making = match &mut self.making {
             Some(making) => making,
@@ -170,7 +170,7 @@ impl Commands {
     /// Starts `--run`'s command for a new image; what ran before is ended.
     ///
     /// # Errors
-    /// It cannot be started.
+    /// If the command cannot be started.
     pub(super) fn run(&mut self) -> io::Result<()> {
         match &mut self.runner {
             Some(runner) => {

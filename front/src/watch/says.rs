@@ -43,7 +43,8 @@ pub(super) enum State {
     Faulty(Vec<Diagnostic>, Vec<PathBuf>),
     /// Inputs are refused; the old image stays.
     Refused(Refusals),
-    /// Something is not there yet, or cannot be done: names, and what there is to say of each; the old image stays.
+    /// An input is not there yet, or something cannot be done: names, and what there is to say of each; the old image
+    /// stays.
     Waiting(Vec<(String, String)>),
 }
 

@@ -48,7 +48,7 @@ impl Sources {
     /// Watches a folder and those below it; gives the sources there.
     ///
     /// # Errors
-    /// The system watches no more folders.
+    /// If the system watches no more folders.
     pub(super) fn watch_below(&self, top: &Path, watcher: &mut Watcher) -> Result<Vec<PathBuf>, NotWatched> {
         let mut seen: HashSet<FileId> = top.ancestors().filter_map(identity).collect();
         let mut folders = vec![top.to_owned()];

@@ -23,7 +23,7 @@ impl Standing {
     /// Makes this the state; it is said now, or if it stays.
     ///
     /// # Errors
-    /// It cannot be printed.
+    /// If standard output cannot be written.
     pub(super) fn set(&mut self, state: State, is_at_once: bool, teller: &mut Teller) -> Result<(), NoOutput> {
         if self.state.as_ref() != Some(&state) || matches!(state, State::Good(_)) {
             self.state = Some(state);
@@ -44,7 +44,7 @@ impl Standing {
     /// Says the state if it stood for long enough.
     ///
     /// # Errors
-    /// It cannot be printed.
+    /// If standard output cannot be written.
     pub(super) fn say_in_time(&mut self, now: Instant, teller: &mut Teller) -> Result<(), NoOutput> {
         match self.time().map_or(false, |time| now >= time) {
             true => self.say(teller),

@@ -28,7 +28,7 @@ impl Stops {
     /// Takes the signals; `is_once` says with which status the program ends.
     ///
     /// # Errors
-    /// The system says why it cannot be done.
+    /// If the system does not let this program handle signals.
     pub(super) fn new(is_once: bool) -> io::Result<Stops> {
         let (woken, wake) = UnixStream::pair()?;
         let (stopped, stop) = UnixStream::pair()?;

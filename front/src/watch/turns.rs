@@ -86,7 +86,7 @@ impl<'a> Watch<'a> {
     /// Begins to watch the folders of sources and outputs.
     ///
     /// # Errors
-    /// They cannot be watched.
+    /// If a folder cannot be watched.
     pub(super) fn new(words: &'a Words, stops: &'a Stops, jobserver: &Jobserver) -> Result<Watch<'a>, WatchFault> {
         let here = Here::new();
         let mut inputs = Inputs::new();
@@ -115,7 +115,8 @@ impl<'a> Watch<'a> {
     /// Runs until a signal, or with `--once` until there is something to end with; gives the exit status.
     ///
     /// # Errors
-    /// What ends it otherwise.
+    /// If a folder cannot be watched, the session or a command cannot be started, standard output cannot be written, or
+    /// memory runs out.
     pub(super) fn run(&mut self) -> Result<u8, WatchFault> {
         loop {
             if let Some(status) = self.by_signal() {
@@ -490,7 +491,7 @@ enum Round {
     Done,
     /// A file changed meanwhile.
     Changed,
-    /// All is to be found anew.
+    /// All inputs are to be found anew.
     Again,
 }
 

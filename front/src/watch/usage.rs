@@ -29,7 +29,7 @@ struct Region {
 }
 
 impl Sizes {
-    /// Those of a layout: sections that take memory, regions that the script has.
+    /// The sizes of a layout: of sections that take memory, of regions that the script has.
     pub(super) fn of(evaluation: &Evaluation) -> Sizes {
         let mut sizes = Sizes::default();
         for (output, place) in evaluation.in_image().filter(|(_, place)| place.is_allocated()) {
@@ -95,7 +95,7 @@ impl Usage {
         parts.join(", ")
     }
 
-    /// The same for `--json`.
+    /// The changes for `--json`.
     pub(super) fn json(&self, json: JsonObject) -> JsonObject {
         let sections = self.sections.iter().map(|(name, more)| {
             JsonObject::new().text("name", &name.to_str_lossy()).raw("more", &more.to_string()).finish()

@@ -313,7 +313,7 @@ fn sources_of(patterns: Vec<String>) -> Vec<String> {
 /// Reads the words of the command line, without the program's name.
 ///
 /// # Errors
-/// The words are refused.
+/// If the words are no command line of `ldi-watch`.
 pub(super) fn read_words(words: &[BString]) -> Result<Words, WordsRefused> {
     if let Some(word) = words.iter().find(|word| word.to_str().is_err()) {
         return refused(format!("the word {:?} is not UTF-8", word.as_bstr()));

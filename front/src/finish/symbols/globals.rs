@@ -74,7 +74,7 @@ impl<'a> ImageNames<'a> {
     }
 }
 
-/// No entry.
+/// Stands for no entry.
 const NONE: u32 = u32::MAX;
 
 /// Writes the names: first those that are local in the image, after a file without a name if there is one with.

@@ -47,7 +47,7 @@ impl Locals<'_> {
         has_files
     }
 
-    /// Those of an object.
+    /// The local symbols of an object; `counts` are those of the names that were written already.
     fn of_object(&self, number: usize, counts: Option<QuickMap<BString, u64>>) -> Option<OwnLocals<'_>> {
         let object = self.symbols.objects.get(number)?;
         let count = object.first_global().0 as usize;

@@ -39,9 +39,9 @@ use table::Writer;
 /// Which symbols the file has.
 #[derive(Clone, PartialEq, Eq, Debug)]
 pub struct SymbolOptions {
-    /// Which are left out.
+    /// Which symbols are left out.
     pub strip: Strip,
-    /// Which local ones are left out (bfdlink.h, `bfd_link_discard`).
+    /// Which local symbols are left out (bfdlink.h, `bfd_link_discard`).
     pub discard: Discard,
     /// `-z unique-symbol`: a local name has a number at its end.
     pub is_unique: bool,
@@ -83,7 +83,7 @@ pub enum NoTable {
     /// The relocations of some input sections cannot be written.
     #[error("--emit-relocs: the places of some input sections are not known")]
     Places,
-    /// Those of all.
+    /// The relocations of all input sections cannot be written.
     #[error("--emit-relocs: the layout of the script is not known")]
     Layout,
 }
@@ -104,11 +104,11 @@ pub struct Symbols<'a> {
 /// How an image is laid out.
 #[derive(Clone, Copy, Debug)]
 pub enum LaidOut<'a> {
-    /// As was evaluated.
+    /// The image is laid out as the evaluation has it.
     AsEvaluated,
-    /// As its map has it.
+    /// The image is laid out as its map has it.
     ByMap(&'a LinkMap),
-    /// That is not known.
+    /// It is not known how the image is laid out.
     Unknown,
 }
 
@@ -139,7 +139,7 @@ impl SymbolOptions {
     }
 }
 
-/// What a link's symbols come to.
+/// The symbol table of a link, and the sections that go with it.
 #[derive(Clone, Debug)]
 pub(super) struct Tables {
     /// The symbol table.

@@ -12,7 +12,7 @@ use crate::objects::{Binding, Home, Object, Rank, Symbol, SymbolIndex, SymbolKin
 use crate::quick::QuickMap;
 use crate::script::tree::Name;
 
-/// No place.
+/// Stands for no place.
 const NOWHERE: u32 = u32::MAX;
 /// The name of the object of a build ID.
 const IDENTITY: &str = "ldi.build-id";

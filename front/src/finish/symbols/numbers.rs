@@ -16,7 +16,7 @@ pub(super) struct Numbers<'a> {
 }
 
 impl<'a> Numbers<'a> {
-    /// No symbol has a number yet.
+    /// A numbering in which no symbol has a number yet.
     pub(super) fn new(objects: &[Object], linked: &'a LinkedNames, sections: usize) -> Numbers<'a> {
         let mut first = Vec::with_capacity(objects.len());
         let mut count = 0;

@@ -16,7 +16,7 @@ pub(super) struct Outputs {
     numbers: Vec<Option<Output>>,
     /// The numbers of empty sections that GNU ld takes out, with those of the sections that take their symbols.
     instead: HashMap<u16, u16>,
-    /// Those of GNU ld's file that the image has not.
+    /// The sections of GNU ld's file that the image does not have.
     missing: Vec<EmptySection>,
     /// The numbers of those of the image that GNU ld's file has not.
     dropped: Vec<usize>,
@@ -178,7 +178,7 @@ impl Outputs {
         });
     }
 
-    /// One more than the greatest number.
+    /// One more than the greatest number of a section.
     pub(super) fn count(&self) -> usize {
         self.numbers.iter().flatten().map(|output| usize::from(output.number) + 1).max().unwrap_or(0)
     }

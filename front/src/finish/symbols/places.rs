@@ -221,7 +221,8 @@ fn order_of(evaluation: &Evaluation, objects: &[Object]) -> Vec<usize> {
     order_with(evaluation, objects, &|id| spans.is_left_out(id)).0
 }
 
-/// The same if some sections are left out; and whether an object comes by a section of strings first.
+/// The objects in the order in which GNU ld copies their sections into the file, if some sections are left out; and
+/// whether an object comes by a section of strings first.
 fn order_with(
     evaluation: &Evaluation,
     objects: &[Object],

@@ -145,7 +145,7 @@ impl Writer {
         (self.table.entries.len() / ENTRY) as u32
     }
 
-    /// All local symbols are there.
+    /// Notes that all local symbols are in the table.
     pub(super) fn end_locals(&mut self) {
         self.table.first_global = self.count();
     }
