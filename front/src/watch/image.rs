@@ -39,8 +39,8 @@ pub(super) enum ImageFault {
 
 /// A file that is written. Its stages are `prepare` or `take`, and then `commit` or `drop`.
 ///
-/// A name of something that is no regular file, such as /dev/null, is written in place, by `commit`. A symbolic link stays
-/// one, and the file that it names is the one that is written.
+/// A name of something that is no regular file, such as /dev/null, is written in place, by `commit`. A symbolic link
+/// stays one, and the file that it names is the one that is written.
 #[derive(Debug)]
 struct Output {
     path: PathBuf,
