@@ -31,7 +31,7 @@ impl<'a> Comparison<'a> {
         Ok(Comparison { evaluation, objects, image: Image::read(image)?, found: Vec::new() })
     }
 
-    /// What is another; places of input sections are compared if the map is there.
+    /// The differences. Addresses of input sections are compared only with a map.
     pub fn run(mut self, map: Option<&'a LinkMap>) -> Result<Vec<Difference>, NoImage> {
         let mut rest = self.image.loaded()?;
         let is_wanted = |(_, place): &(&OutputSection, &Placed)| place.is_allocated() && place.size != 0;

@@ -119,7 +119,7 @@ pub enum Strip {
     /// `-s`: all.
     All,
     /// `--retain-symbols-file`: all but those that its file names.
-    But,
+    AllExcept,
 }
 
 /// Which local symbols are left out.

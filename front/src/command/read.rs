@@ -94,7 +94,7 @@ impl Reader {
     /// Does what an option says; `written` is its name in the words.
     fn apply(&mut self, row: &OptionRow, written: &str, value: Option<&BStr>) -> Result<(), WordsRefused> {
         match row.effect {
-            Effect::Taken(action) => return self.take(action, value.unwrap_or_else(|| b"".as_bstr())),
+            Effect::Taken(action) => return self.apply_option(action, value.unwrap_or_else(|| b"".as_bstr())),
             Effect::Ignored => {}
             Effect::Said(meaning) => self.command.note(format!("{written}: {meaning}")),
             Effect::Impossible(reason) => self.impossible(format!("{written}: {reason}")),
@@ -109,7 +109,7 @@ impl Reader {
     }
 
     /// Does what an option says that is taken: here those that set one thing.
-    fn take(&mut self, action: Action, value: &BStr) -> Result<(), WordsRefused> {
+    fn apply_option(&mut self, action: Action, value: &BStr) -> Result<(), WordsRefused> {
         let command = &mut self.command;
         match action {
             Action::Ask(ask) => command.asks.push(ask),
@@ -197,7 +197,7 @@ impl Reader {
         match action {
             Action::Defsym => return self.defsym(value),
             Action::RetainSymbols => {
-                self.command.strip = Strip::But;
+                self.command.strip = Strip::AllExcept;
                 self.command.retained = Some(path_of(value));
             }
             Action::Keyword => return self.keyword(value),

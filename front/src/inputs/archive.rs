@@ -89,15 +89,15 @@ impl Archive {
         let mut long_names = 0..0;
         let mut at = PLAIN.len();
         while at + HEADER <= archive.data.len() {
-            at = archive.take(at, &mut long_names)?;
+            at = archive.read_member(at, &mut long_names)?;
         }
         let members = archive.members.iter().enumerate();
         archive.by_offset = members.map(|(number, member)| (member.offset, MemberIndex(number))).collect();
         Ok(archive)
     }
 
-    /// Takes what stands at a header; gives where the next one is.
-    fn take(&mut self, at: usize, long_names: &mut Range<usize>) -> Result<usize, BadArchive> {
+    /// Reads the member at a header; gives where the next header is.
+    fn read_member(&mut self, at: usize, long_names: &mut Range<usize>) -> Result<usize, BadArchive> {
         let data = self.data.clone();
         let header = data.get(at..at + HEADER).unwrap_or_default();
         let size = match (header.get(48..58).and_then(number), header.get(58..)) {

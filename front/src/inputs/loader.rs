@@ -96,7 +96,7 @@ pub(super) struct Loader<'a> {
     first_names: Names,
     has_commons: bool,
     once: OnceLinked,
-    /// Made if there are common blocks.
+    /// GNU ld's list of undefined names; kept only if an object has common blocks.
     undefined: Option<UndefinedNames>,
     entered: usize,
     used: HashSet<BString>,
@@ -233,7 +233,7 @@ impl<'a> Loader<'a> {
         }
         let first_names = &self.first_names;
         let undefined = self.undefined.get_or_insert_with(|| UndefinedNames::new(first_names));
-        undefined.are_added(&self.objects, begin)
+        undefined.add_objects(&self.objects, begin)
     }
 
     /// Takes the inputs that a script names; `beside` is the folder of one that stands in the place of an object.
@@ -341,7 +341,7 @@ impl<'a> Loader<'a> {
             let object = binary_object(shown(path), &data);
             self.object(Origin::of_file(path), object, &[BINARY_SECTION])?;
         } else if Archive::is_one(&data) {
-            let index = self.opened(path, data)?;
+            let index = self.open_archive(path, data)?;
             return self.archive(index, flags);
         } else if is_text(&data) {
             return self.text(path, &data, flags);
@@ -386,7 +386,7 @@ impl<'a> Loader<'a> {
     }
 
     /// Opens an archive: the one of before if it has the same bytes.
-    fn opened(&mut self, path: &Path, data: Bytes) -> Result<ArchiveIndex, InputFault> {
+    fn open_archive(&mut self, path: &Path, data: Bytes) -> Result<ArchiveIndex, InputFault> {
         let before = self.before.and_then(|before| before.archives.get(path));
         let archive = match before.filter(|before| before.data().is_identical(&data)) {
             Some(before) => Arc::clone(before),
@@ -558,7 +558,7 @@ impl<'a> Loader<'a> {
         }
         self.has_commons |= object.has_commons();
         self.known.put(data, object.clone());
-        let object = self.once.take(self.objects.len(), object);
+        let object = self.once.without_repeated(self.objects.len(), object);
         self.objects.push(self.as_before(object).with_retained(retained));
         Ok(())
     }

@@ -20,7 +20,7 @@ pub(super) struct OnceLinked {
 impl OnceLinked {
     /// Takes an object at a place; gives it without the sections that an earlier object has (bfd/elflink.c,
     /// `_bfd_elf_section_already_linked`).
-    pub(super) fn take(&mut self, place: usize, object: Object) -> Object {
+    pub(super) fn without_repeated(&mut self, place: usize, object: Object) -> Object {
         if !object.has_groups() {
             return object;
         }

@@ -47,7 +47,7 @@ impl ScriptInputs {
     /// What a script says.
     pub fn of(script: &Script) -> ScriptInputs {
         let mut found = ScriptInputs::default();
-        script.statements.iter().for_each(|statement| found.take(&statement.node));
+        script.statements.iter().for_each(|statement| found.read_statement(&statement.node));
         found
     }
 
@@ -71,7 +71,7 @@ impl ScriptInputs {
         self.output_format.as_ref().filter(|_| self.image_format().is_none())
     }
 
-    fn take(&mut self, statement: &Statement) {
+    fn read_statement(&mut self, statement: &Statement) {
         let other = match statement {
             Statement::Input(files) => return self.inputs.push(ScriptInput::Files(nodes(files))),
             Statement::Group(files) => return self.inputs.push(ScriptInput::Group(nodes(files))),

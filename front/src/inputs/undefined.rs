@@ -21,8 +21,8 @@ impl UndefinedNames {
         UndefinedNames { states, counts: Vec::new() }
     }
 
-    /// Whether the objects from a place on add a name; those that are new here are entered.
-    pub(super) fn are_added(&mut self, objects: &[Object], begin: usize) -> bool {
+    /// Enters the objects that are new; gives whether those from a place on add a name.
+    pub(super) fn add_objects(&mut self, objects: &[Object], begin: usize) -> bool {
         for object in objects.iter().skip(self.counts.len()) {
             let count = self.counts.last().copied().unwrap_or(0) + self.enter(object);
             self.counts.push(count);

@@ -21,8 +21,8 @@ pub use session::{
     GREATEST_PAYLOAD,
 };
 
-/// How often edits are made anew if a session refuses some.
-const ROUNDS: usize = 4;
+/// The most rounds of edits before it gives up.
+const MOST_ROUNDS: usize = 4;
 
 /// An object as a session has it.
 #[derive(Clone, PartialEq, Eq, Debug)]
@@ -155,8 +155,8 @@ impl Mirror {
         })
     }
 
-    /// The image of the last link; empty if it has faults. Of one after the image that was given back last the
-    /// session answers what has changed.
+    /// The image of the last link; empty if it has faults. If the image given back by [`Mirror::reuse`] is the last
+    /// answered one, only the changes are asked for.
     pub fn image(&mut self) -> Result<Answered, SessionError> {
         let spare = std::mem::take(&mut self.spare);
         let is_last = spare.number != 0 && spare.number == self.answers;
@@ -280,7 +280,7 @@ fn send_script(session: &mut Session, state: &mut State, script: &[u8]) -> Resul
     }
 }
 
-/// Has all linked that was accepted since the last link; gives why it is not, which is memory: it is tried again next.
+/// Links what was accepted since the last link. `Some` if memory ran out; the next [`Mirror::bring`] tries again.
 fn link(session: &mut Session, state: &mut State) -> Result<Option<Refusal>, SessionError> {
     if state.accepted == 0 {
         return Ok(None);
@@ -300,7 +300,7 @@ fn link(session: &mut Session, state: &mut State) -> Result<Option<Refusal>, Ses
 fn send_objects(session: &mut Session, state: &mut State, objects: &[Held]) -> Result<usize, SessionError> {
     state.refused.retain(|name, (data, _)| objects.iter().any(|held| held.name == *name && held.data == *data));
     let mut count = 0;
-    for _ in 0..ROUNDS {
+    for _ in 0..MOST_ROUNDS {
         let changes = edits::between(state, objects);
         state.stuck.clear();
         if changes.is_empty() {

@@ -248,12 +248,12 @@ impl Buffer {
     fn take_line(&mut self) -> Option<Vec<u8>> {
         let length = memchr::memchr(b'\n', self.rest())?;
         let line = self.rest().get(..length)?.to_vec();
-        self.take(length + 1);
+        self.consume(length + 1);
         Some(line)
     }
 
-    /// So many bytes are used.
-    fn take(&mut self, count: usize) {
+    /// Goes on behind this number of bytes.
+    fn consume(&mut self, count: usize) {
         self.at += count;
         if self.at >= self.bytes.len() {
             self.bytes.clear();
@@ -382,7 +382,7 @@ impl Session {
         data.reserve_exact(length);
         let here = self.read.rest().len().min(length);
         data.extend_from_slice(self.read.rest().get(..here).unwrap_or_default());
-        self.read.take(here);
+        self.read.consume(here);
         while data.len() < length {
             let wanted = length - data.len();
             match (&mut self.from).take(wanted as u64).read_to_end(&mut data) {
@@ -417,7 +417,7 @@ impl Session {
         let length = self.ask(Query::Image)?;
         let here = self.read.rest().len().min(length);
         let written = file.write_all(self.read.rest().get(..here).unwrap_or_default());
-        self.read.take(here);
+        self.read.consume(here);
         let mut left = length - here;
         if let Err(error) = written {
             self.pass_over(left)?;
@@ -495,7 +495,7 @@ impl Session {
         if let (Some(to), Some(from)) = (into.get_mut(..at), self.read.rest().get(..at)) {
             to.copy_from_slice(from);
         }
-        self.read.take(at);
+        self.read.consume(at);
         while let Some(rest) = into.get_mut(at..).filter(|rest| !rest.is_empty()) {
             match self.from.read(rest) {
                 Ok(0) => return Err(SessionError::EndedInAnswer),

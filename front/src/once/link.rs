@@ -10,7 +10,7 @@ use super::fallback::Reasons;
 use super::host::{Asked, Host};
 use super::identified::{file_of, FileFault};
 use super::verdict::Verdict;
-use super::{another, maps, messages, orphans, say, tables, verdict};
+use super::{maps, messages, orphans, reasons_for_gnu_ld, say, tables, verdict};
 use crate::checker::NoImage;
 use crate::command::Command;
 use crate::finish::LaidOut;
@@ -135,7 +135,7 @@ pub(crate) fn plan_link(
         inputs.loaded.objects.iter().for_each(|object| println!("{}", object.name()));
     }
     check_outputs(&command, snapshot)?;
-    let plan = opened(&command, inputs, mirror).map_err(|fault| session_fault(fault, asked))?;
+    let plan = make_plan(&command, inputs, mirror).map_err(|fault| session_fault(fault, asked))?;
     Ok(Planned { command, plan, verdict: None })
 }
 
@@ -150,14 +150,14 @@ pub(crate) fn make(
     let Planned { command, plan, verdict } = planned;
     let link = Link { command, plan, known: verdict, asked, host };
     if link.plan.residual.is_left() {
-        return link.left(mirror).map_err(session);
+        return link.end_with_left(mirror).map_err(session);
     }
     let plan = &*link.plan;
     let wanted = Wanted { options: &plan.options, objects: plan.held(), script: &plan.residual.text };
     let brought = mirror.bring(wanted).map_err(session)?;
     match link.not_good(&brought, mirror).map_err(session)? {
         Some(status) => Ok(status),
-        None => link.good(mirror, &session),
+        None => link.write_files(mirror, &session),
     }
 }
 
@@ -165,8 +165,8 @@ fn session_fault(fault: SessionError, asked: &Asked<'_>) -> LinkFault {
     LinkFault::Session { program: find_program("ldi", asked.environment).to_string_lossy().into_owned(), fault }
 }
 
-/// The plan, made while the session takes the objects; one that has objects gets others when the plan is made.
-fn opened(command: &Command, inputs: Inputs, mirror: &mut Mirror) -> Result<LinkPlan, SessionError> {
+/// Plans a link. A session without objects takes them meanwhile; one that has some gets changes when the plan is made.
+fn make_plan(command: &Command, inputs: Inputs, mirror: &mut Mirror) -> Result<LinkPlan, SessionError> {
     if mirror.has_objects() {
         return Ok(LinkPlan::new(command, inputs));
     }
@@ -181,13 +181,13 @@ pub(crate) fn plan_while_sending(
     mirror: &mut Mirror,
 ) -> Result<LinkPlan, SessionError> {
     let options = options_of(command, None);
-    let settled = inputs.settled();
-    let begun = while_sending(mirror, &options, &settled, || LinkPlan::begin(command, inputs))?;
+    let unaltered = inputs.unaltered();
+    let begun = while_sending(mirror, &options, &unaltered, || LinkPlan::begin(command, inputs))?;
     let held = begun.held().to_vec();
     while_sending(mirror, &options, &held, || LinkPlan::finish(command, begun))
 }
 
-/// Does something while a session takes objects.
+/// Runs `act` on this thread while another sends objects to the session.
 fn while_sending<T>(
     mirror: &mut Mirror,
     options: &Options,
@@ -219,15 +219,15 @@ impl Link<'_> {
         self.plan.inputs.scripts.path.display().to_string()
     }
 
-    /// A script of which something is left: objects that are refused go before.
-    fn left(&self, mirror: &mut Mirror) -> Result<Status, SessionError> {
+    /// The status of a link of whose script something is left; objects that are refused go before.
+    fn end_with_left(&self, mirror: &mut Mirror) -> Result<Status, SessionError> {
         let wanted = Wanted { options: &self.plan.options, objects: self.plan.held(), script: b"" };
         let brought = mirror.bring(wanted)?;
         if !brought.refused.is_empty() {
             return Ok(self.refused(&brought));
         }
         let say_left = || self.say_left();
-        Ok(self.no_image(another::of_what_is_left(self.plan), &say_left, Status::Refused))
+        Ok(self.no_image(reasons_for_gnu_ld::left_constructs(self.plan), &say_left, Status::Refused))
     }
 
     /// Says what is left of the script.
@@ -300,7 +300,7 @@ impl Link<'_> {
                 self.notes();
                 messages::say_faults(self.command, self.plan, &faults);
             };
-            let why = another::of_faults(self.command, self.plan, &faults);
+            let why = reasons_for_gnu_ld::faults(self.command, self.plan, &faults);
             return Ok(Some(self.no_image(why, &say, Status::Faults)));
         }
         Ok(None)
@@ -346,7 +346,11 @@ impl Link<'_> {
     }
 
     /// Writes the files of a good link.
-    fn good(self, mirror: &mut Mirror, session: &dyn Fn(SessionError) -> LinkFault) -> Result<Status, LinkFault> {
+    fn write_files(
+        self,
+        mirror: &mut Mirror,
+        session: &dyn Fn(SessionError) -> LinkFault,
+    ) -> Result<Status, LinkFault> {
         let command = self.command;
         let image = mirror.image().map_err(session)?;
         let tables = command.prints_memory_usage || command.collects_sections && command.prints_collected;
@@ -360,7 +364,7 @@ impl Link<'_> {
         }
         let compare = || verdict::verdict(self.plan, &image, if is_compared { &map } else { b"" }, command.is_verbose);
         let verdict = known.map_or_else(compare, Ok)?;
-        if let Some(why) = another::of_verdict(self.plan, &verdict) {
+        if let Some(why) = reasons_for_gnu_ld::verdict(self.plan, &verdict) {
             let say = || self.say_verdict(&verdict);
             return Ok(self.no_image(Some(why), &say, Status::Faults));
         }
@@ -487,7 +491,7 @@ pub(crate) fn notes_of(command: &Command, plan: &LinkPlan) -> Vec<String> {
     let absent = command.section_starts.keys().filter(|name| !has_section(script, name) && !is_placed(name));
     let absent = absent.map(|section| format!("the address of {section}: the script has no such section"));
     let placed = orphans::warnings(command, plan);
-    command.notes.iter().cloned().chain(absent).chain(plan.inputs.without_identity()).chain(placed).collect()
+    command.notes.iter().cloned().chain(absent).chain(plan.inputs.why_no_build_id()).chain(placed).collect()
 }
 
 /// Why a symbol has no value, if its section is not in the image.

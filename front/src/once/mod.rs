@@ -1,6 +1,5 @@
 //! `ld.ldi`: one link by GNU ld's command line.
 
-mod another;
 mod ask;
 mod builds;
 mod fallback;
@@ -10,6 +9,7 @@ mod link;
 mod maps;
 pub(crate) mod messages;
 mod orphans;
+mod reasons_for_gnu_ld;
 mod tables;
 pub(crate) mod verdict;
 

@@ -60,7 +60,7 @@ impl Apart {
     /// # Errors
     /// If the new file is gone, is not this user's, or cannot be put in place.
     pub fn put(&self) -> io::Result<()> {
-        let folder = opened(&self.folder)?;
+        let folder = open_folder(&self.folder)?;
         if folder.metadata()?.uid() != rustix::process::getuid().as_raw() {
             return Err(io::Error::from(io::ErrorKind::PermissionDenied));
         }
@@ -78,14 +78,14 @@ impl Apart {
 }
 
 /// A descriptor of a folder, which is no symbolic link to one.
-fn opened(path: &Path) -> io::Result<File> {
+fn open_folder(path: &Path) -> io::Result<File> {
     let flags = OFlags::PATH | OFlags::DIRECTORY | OFlags::NOFOLLOW;
     OpenOptions::new().read(true).custom_flags(flags.bits() as i32).open(path)
 }
 
 /// Removes a folder of this kind.
 pub(super) fn remove_folder(path: &Path) {
-    if let Ok(folder) = opened(path) {
+    if let Ok(folder) = open_folder(path) {
         let _ = unlinkat(&folder, NAME, AtFlags::empty());
     }
     let _ = fs::remove_dir(path);

@@ -2,7 +2,7 @@
 //!
 //! The step is an exchange of the two names if the system has it and a file is there, else a rename. ext4 writes a
 //! new file out to the disk when it is renamed over another (a rename of 12 MB takes some 20 ms), but not when it is
-//! exchanged. The old file then has the name beside, and is removed.
+//! exchanged. The old file then has the temporary name, and is removed.
 
 mod apart;
 mod beside;

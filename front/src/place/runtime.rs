@@ -11,8 +11,8 @@ use std::path::{Path, PathBuf};
 pub fn runtime_folder(xdg_runtime_dir: Option<&OsStr>) -> Option<PathBuf> {
     let above = xdg_runtime_dir.map(Path::new).filter(|above| above.is_absolute() && is_own(above));
     match above {
-        Some(above) => made(above.join("ldi")),
-        None => made(PathBuf::from(format!("/tmp/ldi-{}", user()))),
+        Some(above) => make_folder(above.join("ldi")),
+        None => make_folder(PathBuf::from(format!("/tmp/ldi-{}", user()))),
     }
 }
 
@@ -21,7 +21,7 @@ fn user() -> u32 {
 }
 
 /// The folder, made if it is not there.
-fn made(path: PathBuf) -> Option<PathBuf> {
+fn make_folder(path: PathBuf) -> Option<PathBuf> {
     match DirBuilder::new().mode(0o700).create(&path) {
         Err(fault) if fault.kind() != io::ErrorKind::AlreadyExists => None,
         _ => is_own(&path).then_some(path),

@@ -119,7 +119,7 @@ impl Inputs {
 
     /// The objects.
     pub fn objects(&self) -> &[Object] {
-        self.identity.as_ref().map_or_else(|_| self.tabled(), Identity::objects)
+        self.identity.as_ref().map_or_else(|_| self.objects_with_table(), Identity::objects)
     }
 
     /// The note of the build ID.
@@ -128,23 +128,23 @@ impl Inputs {
     }
 
     /// Why the image has no build ID, if one is asked for.
-    pub fn without_identity(&self) -> Option<String> {
+    pub fn why_no_build_id(&self) -> Option<String> {
         self.identity.as_ref().err().filter(|why| **why != NoIdentity::NotWanted).map(ToString::to_string)
     }
 
-    /// The objects without the note of the build ID.
-    fn tabled(&self) -> &[Object] {
-        self.table.as_ref().map_or_else(|| self.noted(), Table::objects)
+    /// The objects with the table of references, and without the note of the build ID.
+    fn objects_with_table(&self) -> &[Object] {
+        self.table.as_ref().map_or_else(|| self.objects_with_note(), Table::objects)
     }
 
     /// The objects that the session gets as they were read, whatever the plan is.
-    pub fn settled(&self) -> Vec<Held> {
+    pub fn unaltered(&self) -> Vec<Held> {
         let objects = self.held.iter().zip(self.objects());
         objects.filter(|(_, object)| !merged::may_change(object)).map(|(held, _)| held.clone()).collect()
     }
 
-    /// The objects without a table.
-    fn noted(&self) -> &[Object] {
+    /// The objects with the note of properties, and without the other two.
+    fn objects_with_note(&self) -> &[Object] {
         self.notes.as_ref().map_or(&self.loaded.objects, Notes::objects)
     }
 
@@ -153,11 +153,11 @@ impl Inputs {
     fn compose(&mut self, command: &Command) -> bool {
         let before = self.table.as_ref().map(Table::at);
         self.notes = Notes::of(command, &self.scripts.reading.script, &self.loaded.objects);
-        self.table = Table::of(command, &self.scripts, self.noted());
+        self.table = Table::of(command, &self.scripts, self.objects_with_note());
         let id = self.identity.as_ref().ok().map(|identity| identity.id().to_owned());
         self.identity = match is_flat(command, &self.scripts) {
             true => Err(NoIdentity::NotWanted),
-            false => Identity::of(command, &self.scripts, self.tabled(), id),
+            false => Identity::of(command, &self.scripts, self.objects_with_table(), id),
         };
         self.held = held_of(self.objects());
         self.table.as_ref().map(Table::at) == before

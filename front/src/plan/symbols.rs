@@ -15,7 +15,7 @@ pub(super) fn options_of(command: &Command, retained: &HashSet<BString>) -> Symb
     let strip = match command.strip {
         command::Strip::None | command::Strip::Debug => Strip::None,
         command::Strip::All => Strip::All,
-        command::Strip::But => Strip::But(retained.clone()),
+        command::Strip::AllExcept => Strip::AllExcept(retained.clone()),
     };
     SymbolOptions {
         strip,

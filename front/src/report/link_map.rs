@@ -77,7 +77,7 @@ impl LinkMap {
     pub fn read(data: &[u8]) -> Result<LinkMap, BadMap> {
         let mut map = LinkMap::default();
         for (index, line) in data.lines().enumerate() {
-            map.take(line).ok_or_else(|| {
+            map.read_line(line).ok_or_else(|| {
                 let text = plain(line).chars().take(80).collect();
                 BadMap { line: index + 1, text }
             })?;
@@ -90,7 +90,7 @@ impl LinkMap {
         self.sections.iter().flat_map(|section| &section.pieces)
     }
 
-    fn take(&mut self, line: &[u8]) -> Option<()> {
+    fn read_line(&mut self, line: &[u8]) -> Option<()> {
         let words: Vec<&[u8]> = line.split(|byte| *byte == b' ').collect();
         match *words.as_slice() {
             [b"piece", address, size, object, section] => {

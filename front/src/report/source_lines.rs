@@ -114,15 +114,15 @@ impl CodeLines {
         while let Some(program) = program_at(&dwarf, offset, &folders) {
             let header = program.header();
             let length = header.unit_length() + usize::from(header.encoding().format.initial_length_size());
-            lines.take(&dwarf, program);
+            lines.add_rows(&dwarf, program);
             offset += length;
         }
         lines.sequences.sort_by_key(|sequence| sequence.rows.first().map_or(0, |row| row.address));
         Some(lines)
     }
 
-    /// Takes the rows of a program, up to what is odd.
-    fn take(&mut self, dwarf: &Dwarf<Slice<'_>>, program: gimli::IncompleteLineProgram<Slice<'_>>) {
+    /// Adds the rows of a program, up to what is odd.
+    fn add_rows(&mut self, dwarf: &Dwarf<Slice<'_>>, program: gimli::IncompleteLineProgram<Slice<'_>>) {
         let mut numbers: HashMap<u64, u32> = HashMap::new();
         let mut rows = program.rows();
         let mut open: Vec<Row> = Vec::new();

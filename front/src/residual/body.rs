@@ -2,7 +2,7 @@
 
 use bstr::ByteSlice;
 
-use super::expression::{binary, difference, has_dot_or_align, made, number, uses_dot, written};
+use super::expression::{binary, difference, has_dot_or_align, number, unplaced, uses_dot, written};
 use super::head::{aligned, has_bytes, is_linked};
 use super::note::{NoteKind, Topic};
 use super::relative::Inside;
@@ -308,7 +308,7 @@ impl<'a> Walk<'a> {
         body.has_bytes |= places.iter().any(|one| one.size > 0 && has_bytes(one));
     }
 
-    /// Says where a statement takes what is not loaded too, which GNU ld then loads.
+    /// Reports a statement that also takes sections without SHF_ALLOC, which GNU ld would load.
     fn say_unloaded(&mut self, span: Span, body: &Body<'a>) {
         let is_loaded = body.place.map_or(false, |place| place.is_allocated() && !place.is_gone);
         let (evaluation, statement) = match (self.request.evaluation, self.evaluated(span)) {
@@ -393,7 +393,7 @@ impl<'a> Walk<'a> {
         text.join(" ")
     }
 
-    /// Says where sections of one name and one file come in another order than in the file: a statement by their names
+    /// Reports sections of one name and one file that come in another order than in the file: a statement by their names
     /// takes them together, as they come there.
     fn say_out_of_order(&mut self, sections: &[SectionId], body: &Body<'a>) {
         let evaluation = match self.request.evaluation {
@@ -440,7 +440,7 @@ impl<'a> Walk<'a> {
             }
         };
         self.symbols.insert(name.clone(), body.start);
-        made(ExprKind::Symbol(name))
+        unplaced(ExprKind::Symbol(name))
     }
 
     /// Writes the symbol of the start, once something that was written names it.
@@ -532,7 +532,7 @@ impl<'a> Walk<'a> {
         let name = self.versions.fresh(&format!("ldi.next.{line}"));
         self.edits.insert(at.at, 30, format!("{name} = {}; ", self.written(&counted)));
         self.symbols.insert(name.clone(), body.start.wrapping_add(to));
-        let e = difference(made(ExprKind::Symbol(name)), start.clone());
+        let e = difference(unplaced(ExprKind::Symbol(name)), start.clone());
         let why = "through a symbol, as `. = e` has neither `.` nor ALIGN in a section";
         Some((format!(". = {};", self.written(&e)), settled(e, Some(why.into()))))
     }

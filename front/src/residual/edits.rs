@@ -29,7 +29,7 @@ pub(super) struct Edits {
     moved: Vec<Span>,
 }
 
-/// The text that was made, and for each of its lines an offset of the old text that it came from.
+/// The text that was unplaced, and for each of its lines an offset of the old text that it came from.
 #[derive(Clone, PartialEq, Eq, Debug)]
 pub(super) struct Rendered {
     pub(super) text: Vec<u8>,

@@ -20,14 +20,14 @@ pub(super) trait Known {
     fn region(&self, query: Query, name: &Name) -> Option<u64>;
 }
 
-/// An expression that stands nowhere in the text.
-pub(super) fn made(kind: ExprKind) -> Expr {
+/// An expression that is at no place of the text.
+pub(super) fn unplaced(kind: ExprKind) -> Expr {
     Expr::new(kind, Span::default())
 }
 
 /// A number that stands nowhere in the text.
 pub(super) fn number(value: u64) -> Expr {
-    made(ExprKind::Number(value))
+    unplaced(ExprKind::Number(value))
 }
 
 /// `left op right`, without a needless 0.
@@ -36,7 +36,7 @@ pub(super) fn binary(operator: BinaryOperator, left: Expr, right: Expr) -> Expr 
     match operator {
         BinaryOperator::Add if is_zero(&left) => right,
         BinaryOperator::Add | BinaryOperator::Subtract if is_zero(&right) => left,
-        _ => made(ExprKind::Binary(operator, Box::new(left), Box::new(right))),
+        _ => unplaced(ExprKind::Binary(operator, Box::new(left), Box::new(right))),
     }
 }
 
@@ -58,7 +58,7 @@ pub(super) fn difference(left: Expr, right: Expr) -> Expr {
 
 /// Whether `.` is in an expression, or an ALIGN of one argument.
 pub(super) fn uses_dot(e: &Expr) -> bool {
-    any(e, &mut |e| match &e.kind {
+    is_any(e, &mut |e| match &e.kind {
         ExprKind::Dot => true,
         ExprKind::Call(Function::Align | Function::Block | Function::Next, arguments) => arguments.len() == 1,
         _ => false,
@@ -67,12 +67,12 @@ pub(super) fn uses_dot(e: &Expr) -> bool {
 
 /// Whether `.` or any ALIGN is in an expression: `. = e` in an output section must have neither.
 pub(super) fn has_dot_or_align(e: &Expr) -> bool {
-    any(e, &mut |e| matches!(e.kind, ExprKind::Dot | ExprKind::Call(Function::Align, _)))
+    is_any(e, &mut |e| matches!(e.kind, ExprKind::Dot | ExprKind::Call(Function::Align, _)))
 }
 
 /// Whether something holds of an expression or of one in it.
-pub(super) fn any(e: &Expr, holds: &mut dyn FnMut(&Expr) -> bool) -> bool {
-    holds(e) || children(e).into_iter().any(|inner| any(inner, holds))
+pub(super) fn is_any(e: &Expr, holds: &mut dyn FnMut(&Expr) -> bool) -> bool {
+    holds(e) || children(e).into_iter().any(|inner| is_any(inner, holds))
 }
 
 /// The expressions that an expression is made of.
@@ -105,7 +105,7 @@ pub(super) fn with_dot(e: &Expr, place: &Expr) -> Expr {
         }
         _ => return e.clone(),
     };
-    made(kind)
+    unplaced(kind)
 }
 
 /// A `Known` that knows no name.
@@ -132,7 +132,7 @@ pub(super) fn folded(e: &Expr) -> Expr {
         return number(value);
     }
     let again = |e: &Expr| Box::new(folded(e));
-    made(match &e.kind {
+    unplaced(match &e.kind {
         ExprKind::Unary(operator, inner) => ExprKind::Unary(*operator, again(inner)),
         ExprKind::Binary(operator, left, right) => ExprKind::Binary(*operator, again(left), again(right)),
         ExprKind::Conditional(test, yes, no) => ExprKind::Conditional(again(test), again(yes), again(no)),
@@ -413,11 +413,11 @@ mod tests {
     }
 
     fn symbol(name: &str) -> Expr {
-        made(ExprKind::Symbol(name.into()))
+        unplaced(ExprKind::Symbol(name.into()))
     }
 
     fn op(operator: BinaryOperator, left: Expr, right: Expr) -> Expr {
-        made(ExprKind::Binary(operator, Box::new(left), Box::new(right)))
+        unplaced(ExprKind::Binary(operator, Box::new(left), Box::new(right)))
     }
 
     #[test]
@@ -441,7 +441,7 @@ mod tests {
 
     #[test]
     fn values_are_those_of_the_profile() {
-        let align = made(ExprKind::Call(Function::Align, vec![number(16)]));
+        let align = unplaced(ExprKind::Call(Function::Align, vec![number(16)]));
         assert_eq!(value(&align, &Nothing), Some(0x1010));
         assert_eq!(value(&op(BinaryOperator::ShiftLeft, number(1), number(64)), &Nothing), Some(0));
         assert_eq!(value(&op(BinaryOperator::Divide, number(1), number(0)), &Nothing), None);
@@ -456,7 +456,7 @@ mod tests {
         assert_eq!(write(&op(BinaryOperator::Multiply, sum.clone(), number(2)), b""), "(a + b) * 2");
         assert_eq!(write(&op(BinaryOperator::Subtract, symbol("c"), sum.clone()), b""), "c - (a + b)");
         assert_eq!(write(&op(BinaryOperator::Add, sum.clone(), symbol("c")), b""), "a + b + c");
-        let test = made(ExprKind::Conditional(Box::new(sum), Box::new(number(1)), Box::new(number(5000))));
+        let test = unplaced(ExprKind::Conditional(Box::new(sum), Box::new(number(1)), Box::new(number(5000))));
         assert_eq!(write(&test, b""), "a + b ? 1 : 0x1388");
         assert_eq!(write(&op(BinaryOperator::Add, test, number(1)), b""), "(a + b ? 1 : 0x1388) + 1");
     }

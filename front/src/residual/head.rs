@@ -4,7 +4,7 @@ use bstr::ByteSlice;
 use object::elf;
 
 use super::body::Body;
-use super::expression::{binary, children, made, number, says, uses_dot};
+use super::expression::{binary, children, number, says, unplaced, uses_dot};
 use super::note::{NoteKind, Topic};
 use super::rules::Reasons;
 use super::top::whole_value;
@@ -380,7 +380,7 @@ impl<'a> Walk<'a> {
         let align = place.map_or(1, |place| place.align);
         let mut settled = self.settle(e, at, needed);
         if settled.reasons.is_numeric || settled.reasons.depends {
-            let aligned = made(ExprKind::Call(Function::Align, vec![e.clone(), number(align)]));
+            let aligned = unplaced(ExprKind::Call(Function::Align, vec![e.clone(), number(align)]));
             let other = self.settle(&aligned, at, needed);
             if !other.reasons.is_numeric && !other.reasons.is_left() {
                 settled = other;
@@ -514,7 +514,7 @@ impl<'a> Walk<'a> {
 
     /// AT by ADDR of the section itself, less a distance: that of an empty section before it, which it keeps.
     fn load_by_distance(&mut self, e: &Expr, head: &Written, name: &Name, needed: u64, at: At) -> Option<u64> {
-        let own = made(ExprKind::Query(Query::Addr, name.clone()));
+        let own = unplaced(ExprKind::Query(Query::Addr, name.clone()));
         let distance = match &e.kind {
             ExprKind::Binary(BinaryOperator::Subtract, left, distance) if **left == own => (**distance).clone(),
             ExprKind::Binary(BinaryOperator::Add, left, step) if **left == own => {
@@ -529,10 +529,10 @@ impl<'a> Walk<'a> {
         }
         let helper = self.load_name(name);
         let (front, start) = match &head.region {
-            None => (String::new(), made(ExprKind::Dot)),
+            None => (String::new(), unplaced(ExprKind::Dot)),
             Some(region) => {
                 let place = self.versions.fresh(&format!("{helper}.at"));
-                (format!("{place} : {{ }} >{region} "), made(ExprKind::Query(Query::Addr, place)))
+                (format!("{place} : {{ }} >{region} "), unplaced(ExprKind::Query(Query::Addr, place)))
             }
         };
         let region = head.region.as_ref().map_or_else(String::new, |region| format!(" >{region}"));
@@ -542,7 +542,7 @@ impl<'a> Walk<'a> {
         settled
             .reasons
             .say(format!("AT of {name}: an empty section {helper} before it has the distance, and it keeps that"));
-        self.take(&settled.reasons);
+        self.note_reasons(&settled.reasons);
         self.note(NoteKind::Rewritten, e.span.start, settled.reasons.said.join("; "));
         Some(needed)
     }
@@ -610,9 +610,9 @@ impl<'a> Walk<'a> {
             return number(head.start);
         }
         if self.dot == head.start {
-            return made(ExprKind::Dot);
+            return unplaced(ExprKind::Dot);
         }
-        made(ExprKind::Call(Function::Align, vec![number(head.alignment)]))
+        unplaced(ExprKind::Call(Function::Align, vec![number(head.alignment)]))
     }
 
     // --- the text ---
@@ -713,7 +713,7 @@ impl<'a> Walk<'a> {
         let settled = self.settle(&whole_value(assignment), at, needed);
         let text = format!("{} = {}; ", version.emitted, self.written(&settled.e));
         self.edits.insert(before, 10, text);
-        self.take(&settled.reasons);
+        self.note_reasons(&settled.reasons);
         if let Some(value) = needed.or_else(|| self.value_of(&settled.e, at)) {
             self.symbols.insert(version.emitted, value);
         }
@@ -799,7 +799,7 @@ fn with_section(e: &Expr, name: &Name, start: &Expr) -> Expr {
         }
         _ => return e.clone(),
     };
-    made(kind)
+    unplaced(kind)
 }
 
 /// Whether a statement of a section may give it bytes of the file, by the names that it takes.

@@ -4,7 +4,7 @@
 //! decides what an operator works on. Here a relative value is kept as its address; if GNU ld works on the distance,
 //! the start is subtracted first.
 
-use super::expression::{binary, difference, made, number};
+use super::expression::{binary, difference, number, unplaced};
 use super::rules::Around;
 use super::view::View;
 use super::walk::{At, Walk};
@@ -59,7 +59,7 @@ impl Walk<'_> {
     }
 }
 
-/// The way over an expression.
+/// Finds whether an expression, at a place of the script, counts from the start of a section.
 struct Counting<'w, 'a> {
     walk: &'w Walk<'a>,
     at: At,
@@ -93,7 +93,7 @@ impl Counting<'_, '_> {
             _ => {
                 let own = View { walk: self.walk, at: self.at }.section(name)?;
                 (self.at.is_assert || self.walk.done.contains_key(name))
-                    .then(|| made(ExprKind::Query(Query::Addr, own)))
+                    .then(|| unplaced(ExprKind::Query(Query::Addr, own)))
             }
         }
     }
@@ -150,7 +150,7 @@ impl Counting<'_, '_> {
         };
         let e = match view.symbol(name) {
             Some(own) if own == *name => e.clone(),
-            Some(own) => made(ExprKind::Symbol(own)),
+            Some(own) => unplaced(ExprKind::Symbol(own)),
             None => number(view.value(e)?),
         };
         Some(Term { kind, e })
@@ -176,7 +176,7 @@ impl Counting<'_, '_> {
         if operator == UnaryOperator::Plus {
             return Some(inner);
         }
-        let e = made(ExprKind::Unary(operator, Box::new(self.raw(&inner)?)));
+        let e = unplaced(ExprKind::Unary(operator, Box::new(self.raw(&inner)?)));
         match inner.kind {
             Kind::Section(id) => self.of_section(id, e),
             kind => Some(Term { kind, e }),
@@ -250,7 +250,7 @@ impl Counting<'_, '_> {
             false => (self.address(), self.assigned(yes)?, self.assigned(no)?),
         };
         let e = ExprKind::Conditional(Box::new(self.raw(&test)?), Box::new(yes), Box::new(no));
-        Some(Term { kind, e: made(e) })
+        Some(Term { kind, e: unplaced(e) })
     }
 
     fn call(&self, function: Function, arguments: &[Expr]) -> Option<Term> {
@@ -259,16 +259,16 @@ impl Counting<'_, '_> {
             (Function::Align | Function::Block | Function::Next, [inner]) => {
                 let inner = self.raw(&self.term(inner)?)?;
                 let kind = if function == Function::Next { Kind::Absolute } else { self.address() };
-                Some(Term { kind, e: made(ExprKind::Call(Function::Align, vec![inner])) })
+                Some(Term { kind, e: unplaced(ExprKind::Call(Function::Align, vec![inner])) })
             }
             (Function::Align, [place, align]) => self.of_two(self.term(place)?, self.term(align)?, &|place, align| {
-                made(ExprKind::Call(Function::Align, vec![place, align]))
+                unplaced(ExprKind::Call(Function::Align, vec![place, align]))
             }),
             (Function::Max | Function::Min, [left, right]) => {
                 let operator = if function == Function::Max { BinaryOperator::Greater } else { BinaryOperator::Less };
                 self.of_two(self.term(left)?, self.term(right)?, &|left, right| {
-                    let test = made(ExprKind::Binary(operator, Box::new(left.clone()), Box::new(right.clone())));
-                    made(ExprKind::Conditional(Box::new(test), Box::new(left), Box::new(right)))
+                    let test = unplaced(ExprKind::Binary(operator, Box::new(left.clone()), Box::new(right.clone())));
+                    unplaced(ExprKind::Conditional(Box::new(test), Box::new(left), Box::new(right)))
                 })
             }
             _ => None,
@@ -287,11 +287,11 @@ impl Counting<'_, '_> {
             Query::Sizeof | Query::Loadaddr => {
                 let own = view.section(name).filter(|_| self.at.is_assert || self.walk.done.contains_key(name))?;
                 let kind = if query == Query::Sizeof { Kind::Number } else { Kind::Absolute };
-                Some(Term { kind, e: made(ExprKind::Query(query, own)) })
+                Some(Term { kind, e: unplaced(ExprKind::Query(query, own)) })
             }
             Query::Origin | Query::Length => {
                 let kind = if query == Query::Length { Kind::Number } else { self.address() };
-                Some(Term { kind, e: made(ExprKind::Query(query, view.region(name))) })
+                Some(Term { kind, e: unplaced(ExprKind::Query(query, view.region(name))) })
             }
             Query::Constant => Some(Term { kind: Kind::Number, e: number(view.constant(e, name)?) }),
             Query::Defined if self.walk.is_without_objects() && view.value(e) != Some(1) => None,

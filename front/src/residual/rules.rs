@@ -4,7 +4,7 @@
 
 use bstr::BString;
 
-use super::expression::{binary, made, number, value, word, written, NoNames};
+use super::expression::{binary, number, unplaced, value, word, written, NoNames};
 use crate::script::tree::{BinaryOperator, Expr, ExprKind, Function, Name, Query, UnaryOperator};
 
 /// The file header and three program headers.
@@ -199,22 +199,22 @@ fn numeric(e: &Expr, what: &str, around: &dyn Around, reasons: &mut Reasons) -> 
 
 fn operation(operator: BinaryOperator, left: Expr, right: Expr, reasons: &mut Reasons) -> Expr {
     if operator != BinaryOperator::Xor {
-        return made(ExprKind::Binary(operator, Box::new(left), Box::new(right)));
+        return unplaced(ExprKind::Binary(operator, Box::new(left), Box::new(right)));
     }
     reasons.say("`a ^ b` is `(a | b) - (a & b)`");
     let either = binary(BinaryOperator::Or, left.clone(), right.clone());
-    let both = made(ExprKind::Binary(BinaryOperator::And, Box::new(left), Box::new(right)));
-    made(ExprKind::Binary(BinaryOperator::Subtract, Box::new(either), Box::new(both)))
+    let both = unplaced(ExprKind::Binary(BinaryOperator::And, Box::new(left), Box::new(right)));
+    unplaced(ExprKind::Binary(BinaryOperator::Subtract, Box::new(either), Box::new(both)))
 }
 
 fn call(e: &Expr, function: Function, arguments: &[Expr], around: &dyn Around, reasons: &mut Reasons) -> Expr {
     let mut own = || arguments.iter().map(|argument| translate(argument, around, reasons)).collect::<Vec<_>>();
     match function {
-        Function::Align => made(ExprKind::Call(Function::Align, own())),
+        Function::Align => unplaced(ExprKind::Call(Function::Align, own())),
         Function::Block | Function::Next => {
             let own = own();
             reasons.say("it is ALIGN");
-            made(ExprKind::Call(Function::Align, own))
+            unplaced(ExprKind::Call(Function::Align, own))
         }
         Function::Absolute | Function::DataSegmentEnd => {
             let inner = own().pop().unwrap_or_else(|| number(0));
@@ -230,9 +230,9 @@ fn call(e: &Expr, function: Function, arguments: &[Expr], around: &dyn Around, r
             reasons.say(format!("{word} as `? :`"));
             match own.as_slice() {
                 [left, right] => {
-                    let test = made(ExprKind::Binary(operator, Box::new(left.clone()), Box::new(right.clone())));
+                    let test = unplaced(ExprKind::Binary(operator, Box::new(left.clone()), Box::new(right.clone())));
                     let (left, right) = (Box::new(left.clone()), Box::new(right.clone()));
-                    made(ExprKind::Conditional(Box::new(test), left, right))
+                    unplaced(ExprKind::Conditional(Box::new(test), left, right))
                 }
                 _ => e.clone(),
             }
@@ -242,7 +242,7 @@ fn call(e: &Expr, function: Function, arguments: &[Expr], around: &dyn Around, r
             reasons
                 .changed
                 .push("DATA_SEGMENT_ALIGN(a, b) is ALIGN(a): no page is saved, and no end is aligned for RELRO".into());
-            made(ExprKind::Call(Function::Align, page.into_iter().collect()))
+            unplaced(ExprKind::Call(Function::Align, page.into_iter().collect()))
         }
         Function::DataSegmentRelroEnd if around.is_without_objects() => {
             reasons.changed.push("DATA_SEGMENT_RELRO_END(n, e) is e".into());
@@ -284,5 +284,5 @@ fn text_of(query: Query, name: &Name) -> String {
 
 /// The operator of an update, such as `+=`, with the old value: the whole right side.
 pub(super) fn updated(target: Expr, operator: BinaryOperator, value: &Expr) -> Expr {
-    made(ExprKind::Binary(operator, Box::new(target), Box::new(value.clone())))
+    unplaced(ExprKind::Binary(operator, Box::new(target), Box::new(value.clone())))
 }

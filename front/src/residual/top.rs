@@ -3,7 +3,7 @@
 use bstr::{BStr, ByteSlice};
 
 use super::edits::comment_or_text;
-use super::expression::{any, folded, is_short, made, says, uses_dot, with_dot, written};
+use super::expression::{folded, is_any, is_short, says, unplaced, uses_dot, with_dot, written};
 use super::note::{NoteKind, Topic};
 use super::orphans::{Extent, Orphans};
 use super::relative::Inside;
@@ -333,7 +333,7 @@ impl<'a> Walk<'a> {
             Some(id) => {
                 let section = &self.request.evaluation?.output(id)?.name;
                 let done = self.done.get(section)?;
-                Some((id, made(ExprKind::Query(Query::Addr, done.name.clone()))))
+                Some((id, unplaced(ExprKind::Query(Query::Addr, done.name.clone()))))
             }
         };
         let at = At { at: waiting.span.start, is_assert: false, dot: None };
@@ -623,7 +623,7 @@ impl<'a> Walk<'a> {
             self.edits.insert(span.start, BEFORE + 1, format!("{name} = .; "));
             let dot = self.evaluated(span).map_or(self.dot, |statement| statement.dot);
             self.symbols.insert(name.clone(), dot);
-            let ours = made(ExprKind::Symbol(name));
+            let ours = unplaced(ExprKind::Symbol(name));
             let mut reasons = super::rules::Reasons::default();
             e = with_dot(&super::rules::translate(&e, &super::view::View { walk: self, at }, &mut reasons), &ours);
             return self.true_form(&e, &e.clone(), at);
@@ -803,7 +803,7 @@ pub(super) fn whole_value(assignment: &Assignment) -> Expr {
                 true => ExprKind::Dot,
                 false => ExprKind::Symbol(assignment.target.node.clone()),
             };
-            updated(made(old), operator, &assignment.value)
+            updated(unplaced(old), operator, &assignment.value)
         }
     }
 }
@@ -813,8 +813,8 @@ pub(super) fn whole_value(assignment: &Assignment) -> Expr {
 fn with_defined(e: &Expr) -> Expr {
     match &e.kind {
         ExprKind::Query(Query::Defined, name) => {
-            let symbol = || Box::new(made(ExprKind::Symbol(name.clone())));
-            made(ExprKind::Binary(BinaryOperator::Equal, symbol(), symbol()))
+            let symbol = || Box::new(unplaced(ExprKind::Symbol(name.clone())));
+            unplaced(ExprKind::Binary(BinaryOperator::Equal, symbol(), symbol()))
         }
         ExprKind::Binary(operator @ (BinaryOperator::LogicalAnd | BinaryOperator::LogicalOr), left, right) => {
             let (left, right) = (Box::new(with_defined(left)), Box::new(with_defined(right)));
@@ -837,8 +837,8 @@ fn statement_uses_dot(statement: &Statement) -> bool {
 fn names_region(statement: &Statement) -> bool {
     let is_of_region = &mut |e: &Expr| matches!(e.kind, ExprKind::Query(Query::Origin | Query::Length, _));
     match statement {
-        Statement::Assign(assignment) => any(&assignment.value, is_of_region),
-        Statement::Assert(assertion) => any(&assertion.condition, is_of_region),
+        Statement::Assign(assignment) => is_any(&assignment.value, is_of_region),
+        Statement::Assert(assertion) => is_any(&assertion.condition, is_of_region),
         _ => false,
     }
 }

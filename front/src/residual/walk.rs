@@ -5,7 +5,7 @@ use std::collections::{BTreeMap, HashMap, HashSet};
 use bstr::{BStr, BString, ByteSlice};
 
 use super::edits::{comment_or_text, Edits};
-use super::expression::{any, is_short, number, says, value, write};
+use super::expression::{is_any, is_short, number, says, value, write};
 use super::limits::parted;
 use super::note::{Note, NoteKind, Topic};
 use super::orphans::{Extent, Orphans};
@@ -421,7 +421,7 @@ impl<'a> Walk<'a> {
             (_, None) => false,
         };
         match name {
-            _ if !any(counted, &mut |e| is_start(e)) => "as GNU ld evaluates it".into(),
+            _ if !is_any(counted, &mut |e| is_start(e)) => "as GNU ld evaluates it".into(),
             Some(name) => format!("a number counts from the start of {name} in it"),
             None => "it works on the distance from the section's start".into(),
         }
@@ -432,8 +432,8 @@ impl<'a> Walk<'a> {
         value(e, &Facts { walk: self, at })
     }
 
-    /// Takes over what was found with an expression that is written.
-    pub(super) fn take(&mut self, reasons: &Reasons) {
+    /// Notes what was found with an expression that is written.
+    pub(super) fn note_reasons(&mut self, reasons: &Reasons) {
         for (name, value) in &reasons.foreign {
             self.foreign.insert(name.clone(), *value);
         }
@@ -459,7 +459,7 @@ impl<'a> Walk<'a> {
 
     /// Says why a statement was changed.
     pub(super) fn report(&mut self, span: Span, settled: &Settled) {
-        self.take(&settled.reasons);
+        self.note_reasons(&settled.reasons);
         let what = self.quoted(span);
         for name in &settled.reasons.missing {
             let why = self.why_missing(name);

@@ -173,7 +173,7 @@ impl Lexer {
     }
 
     /// The next token in a state, taken.
-    pub fn take(&mut self, state: State) -> Result<Token, ScriptError> {
+    pub fn take_token(&mut self, state: State) -> Result<Token, ScriptError> {
         let token = self.peek(state)?;
         self.seen = None;
         if let Some(frame) = self.frames.last_mut() {
@@ -187,7 +187,7 @@ impl Lexer {
     /// The token after the next one.
     pub fn peek_second(&mut self, state: State) -> Result<Token, ScriptError> {
         let (at, last, previous) = (self.frames.last().map(|frame| frame.at), self.last, self.previous);
-        self.take(state)?;
+        self.take_token(state)?;
         let second = self.peek(state)?;
         if let (Some(frame), Some(at)) = (self.frames.last_mut(), at) {
             frame.at = at;

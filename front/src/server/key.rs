@@ -140,7 +140,7 @@ pub(super) fn standing() -> io::Result<Vec<Vec<u8>>> {
 pub(super) fn program_marks(environment: &Environment) -> Vec<(PathBuf, Option<Stamp>)> {
     let own = std::env::current_exe().unwrap_or_default();
     let mark = |path: PathBuf| {
-        let stamp = crate::snapshot::look(&path).ok().map(|found| Stamp::of(&found));
+        let stamp = crate::snapshot::stat(&path).ok().map(|found| Stamp::of(&found));
         let mark = stamp.map(|stamp| Stamp { changed: 0, ..stamp });
         (path, mark)
     };

@@ -18,7 +18,7 @@ use crate::mirror::Mirror;
 use crate::once::{make, read_words, run, said, Asked, Done, LinkFault, Planned, Status};
 use crate::plan::{find_program, others, Environment};
 use crate::report::Style;
-use crate::snapshot::{is_by_process, look, Snapshot, Stamp};
+use crate::snapshot::{is_by_process, stat, Snapshot, Stamp};
 use crate::streams::{self, Printed};
 
 /// How often a call begins anew as inputs change meanwhile.
@@ -231,7 +231,7 @@ impl Links {
             return None;
         }
         let path = others(OsStr::new("ld.bfd"), &self.environment).into_iter().next()?;
-        let stamp = look(&path).ok().map(|found| Stamp::of(&found));
+        let stamp = stat(&path).ok().map(|found| Stamp::of(&found));
         Some((path, stamp))
     }
 }

@@ -28,7 +28,7 @@ use super::wire::{Kind, Message, Reader};
 use crate::place::remove_left;
 use crate::plan::Environment;
 use crate::report::Style;
-use crate::snapshot::{look, FileId, Stamp};
+use crate::snapshot::{stat, FileId, Stamp};
 
 /// Seconds without a call, after which a server ends; LDI_SERVER_IDLE has others.
 const IDLE: f64 = 600.0;
@@ -446,7 +446,7 @@ fn is_readable(connection: &UnixStream) -> bool {
 }
 
 fn identity(path: &Path) -> Option<FileId> {
-    look(path).ok().map(|found| Stamp::of(&found).id)
+    stat(path).ok().map(|found| Stamp::of(&found).id)
 }
 
 /// Leaves so many bytes to the other servers: those that were not called for longest end.

@@ -125,7 +125,7 @@ pub struct Seen {
 }
 
 /// What the system says of a path, through symbolic links.
-pub fn look(path: &Path) -> Result<Stat, ReadFault> {
+pub fn stat(path: &Path) -> Result<Stat, ReadFault> {
     rustix::fs::statat(cwd(), path, AtFlags::empty()).map_err(ReadFault::of)
 }
 
@@ -151,7 +151,7 @@ fn regular(found: Stat) -> Result<Stat, ReadFault> {
 /// # Errors
 /// If the file is not there, is no regular one, or cannot be opened.
 pub fn open_regular(path: &Path) -> Result<(File, Stamp), ReadFault> {
-    regular(look(path)?)?;
+    regular(stat(path)?)?;
     let file = open(path)?;
     let found = regular(rustix::fs::fstat(&file).map_err(ReadFault::of)?)?;
     Ok((file, Stamp::of(&found)))
@@ -201,7 +201,7 @@ pub fn read_open(file: &File, stamp: Stamp, begun: i128) -> Result<Seen, ReadFau
 /// # Errors
 /// If the file is not there or cannot be read, or is a folder, or a pipe that nobody writes.
 pub fn read_any(path: &Path) -> Result<Seen, ReadFault> {
-    let found = look(path)?;
+    let found = stat(path)?;
     match kind_of(&found) {
         FileType::RegularFile => return read_regular(path),
         FileType::Directory => return Err(ReadFault::Folder),

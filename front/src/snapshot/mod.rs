@@ -11,7 +11,7 @@ mod looks;
 mod tests;
 
 pub use bytes::Bytes;
-pub use file::{look, open_regular, read_any, read_open, read_regular, FileId, ReadFault, Seen, Stamp};
+pub use file::{open_regular, read_any, read_open, read_regular, stat, FileId, ReadFault, Seen, Stamp};
 
 use lasting::is_link;
 pub use lasting::{are_lasting, is_by_process};
@@ -36,7 +36,7 @@ pub enum Question {
 impl Question {
     /// The answer of now.
     fn ask(self, path: &Path) -> bool {
-        let found = look(path);
+        let found = stat(path);
         match self {
             Question::Exists => found.is_ok(),
             Question::IsFile => found.map_or(false, |found| is_file(&found)),
@@ -50,7 +50,7 @@ fn is_file(found: &Stat) -> bool {
 
 /// Whether a path leads to what is neither a regular file nor a folder.
 fn is_stream(path: &Path) -> bool {
-    let kind = look(path).ok().map(|found| file::kind_of(&found));
+    let kind = stat(path).ok().map(|found| file::kind_of(&found));
     kind.map_or(false, |kind| !matches!(kind, FileType::RegularFile | FileType::Directory))
 }
 
@@ -235,7 +235,7 @@ impl Snapshot {
 
     /// The name under which the file at a path was read, if it was: no file that is read may be written.
     pub fn read_as(&self, path: &Path) -> Option<&Path> {
-        let id = Stamp::of(&look(path).ok()?).id;
+        let id = Stamp::of(&stat(path).ok()?).id;
         let stamps = self.files.iter().filter_map(|(path, seen)| Some((path, seen.as_ref()?.stamp?)));
         stamps.into_iter().find(|(_, stamp)| stamp.id == id).map(|(path, _)| path.as_path())
     }

@@ -10,7 +10,7 @@ use std::path::{Path, PathBuf};
 use inotify::{EventMask, Inotify, WatchDescriptor, WatchMask};
 
 use crate::place;
-use crate::snapshot::{look, FileId, Stamp};
+use crate::snapshot::{stat, FileId, Stamp};
 
 /// The bytes that are read of events at once.
 const BUFFER: usize = 1 << 16;
@@ -245,7 +245,7 @@ fn explained(fault: io::Error) -> io::Error {
 
 /// What tells a file or folder from another that had its name before; `None` if there is none.
 pub(super) fn identity(path: &Path) -> Option<FileId> {
-    look(path).ok().map(|found| Stamp::of(&found).id)
+    stat(path).ok().map(|found| Stamp::of(&found).id)
 }
 
 /// Whether a process has this file open for writing; `None` if that cannot be asked.

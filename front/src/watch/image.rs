@@ -18,7 +18,7 @@ use crate::finish::FileImage;
 use crate::mirror::{Mirror, SessionError, TakeError};
 use crate::once::{pieces_of, zeros_of};
 use crate::place::{remove_left, NewFile, NotWritten, Opened, PROGRAM, TEXT};
-use crate::snapshot::{look, Stamp};
+use crate::snapshot::{stat, Stamp};
 
 /// The bytes of files that are compared at once.
 const BLOCK: usize = 1 << 20;
@@ -173,7 +173,7 @@ impl Output {
     }
 
     fn stamp(&self) -> Option<Stamp> {
-        look(&self.path).ok().map(|found| Stamp::of(&found))
+        stat(&self.path).ok().map(|found| Stamp::of(&found))
     }
 }
 

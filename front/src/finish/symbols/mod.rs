@@ -71,7 +71,7 @@ pub enum Strip {
     /// `-s`: all, and the file has no symbol table.
     All,
     /// `--retain-symbols-file`: all but these.
-    But(HashSet<BString>),
+    AllExcept(HashSet<BString>),
 }
 
 /// Why there is no table.
@@ -134,7 +134,7 @@ impl SymbolOptions {
         match &self.strip {
             Strip::None => false,
             Strip::All => true,
-            Strip::But(kept) => !kept.contains(name.as_bstr()),
+            Strip::AllExcept(kept) => !kept.contains(name.as_bstr()),
         }
     }
 }

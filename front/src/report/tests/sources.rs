@@ -66,7 +66,7 @@ fn lines_of_an_assembler_s_text() {
 }
 
 /// Looks everything up that an object has.
-fn look(data: &[u8]) {
+fn look_up_all(data: &[u8]) {
     let object = object("a.o", data.to_vec());
     let mut lines = SourceLines::new(&object);
     for section in object.sections() {
@@ -91,7 +91,7 @@ fn odd_debug_information_has_no_lines() {
             None => return,
         };
         for length in (0..data.len()).step_by(97) {
-            look(&data[..length]);
+            look_up_all(&data[..length]);
         }
         for _ in 0..60 {
             let mut changed = data.clone();
@@ -99,7 +99,7 @@ fn odd_debug_information_has_no_lines() {
                 let place = 64 + below(data.len() - 64);
                 changed[place] = [0, 1, 0x7f, 0x80, 0xff][below(5)];
             }
-            look(&changed);
+            look_up_all(&changed);
         }
     }
 }
@@ -113,7 +113,7 @@ fn tables_of_very_many_files_end() {
         let program = [&(body.len() as u32).to_le_bytes()[..], &body].concat();
         let bytes: Vec<String> = program.repeat(50).iter().map(u8::to_string).collect();
         if let Some(data) = assembled(&format!(".section .debug_line\n.byte {}", bytes.join(","))) {
-            look(&data);
+            look_up_all(&data);
         }
     }
 }

@@ -87,7 +87,7 @@ impl Parser<'_> {
                 Some((operator, own)) if own >= level => (operator, own),
                 _ => return Ok(left),
             };
-            self.take(Expression)?;
+            self.take_token(Expression)?;
             let operand = self.unary(Expression)?;
             let right = self.binary(operand, own + 1)?;
             let (span, depth) = (left.expr.span.to(right.expr.span), left.depth.max(right.depth));
@@ -105,7 +105,7 @@ impl Parser<'_> {
             Kind::Mark("!") => UnaryOperator::Not,
             _ => return self.primary(state),
         };
-        self.take(state)?;
+        self.take_token(state)?;
         let operand = self.nested(ErrorKind::ExpressionDepth, |parser| parser.unary(Expression))?;
         let span = token.span.to(operand.expr.span);
         self.node(ExprKind::Unary(operator, Box::new(operand.expr)), span, operand.depth)
@@ -121,13 +121,13 @@ impl Parser<'_> {
             Kind::Name | Kind::Quoted => symbol(self.lexer.name(token)),
             Kind::Word("SIZEOF_HEADERS") => ExprKind::SizeofHeaders,
             Kind::Mark("(") => {
-                self.take(state)?;
+                self.take_token(state)?;
                 return self.group(token);
             }
             Kind::Word(word) => return self.call(token, word, state),
             Kind::Mark(_) | Kind::Library | Kind::End => return Err(self.unexpected(token, "an expression".to_owned())),
         };
-        self.take(state)?;
+        self.take_token(state)?;
         self.node(kind, token.span, 0)
     }
 
@@ -145,7 +145,7 @@ impl Parser<'_> {
         if !is_known {
             return Err(self.unexpected(token, "an expression".to_owned()));
         }
-        self.take(state)?;
+        self.take_token(state)?;
         let (kind, depth) = self.nested(ErrorKind::ExpressionDepth, |parser| parser.arguments(word))?;
         let span = self.since(token.span);
         self.node(kind, span, depth)

@@ -34,7 +34,7 @@ impl Parser<'_> {
             let sections = Some(self.patterns("]")?);
             InputStatement { is_kept: false, section_flags: Vec::new(), file: None, sections }
         } else if token.is_name() {
-            self.take(Wild)?;
+            self.take_token(Wild)?;
             self.input_of_file(token)?
         } else {
             let file = self.pattern(Of::Files)?;
@@ -60,7 +60,7 @@ impl Parser<'_> {
 
     /// What begins with SORT_BY_NAME: `SORT_BY_NAME(CONSTRUCTORS)`, or an input statement.
     pub(super) fn sorted_statement(&mut self) -> Parsed<SectionStatement> {
-        let word = self.take(Wild)?;
+        let word = self.take_token(Wild)?;
         self.demand(Wild, "(")?;
         if self.accept(Wild, "CONSTRUCTORS")?.is_some() {
             self.demand(Wild, ")")?;
@@ -102,7 +102,7 @@ impl Parser<'_> {
     /// A pattern of which the first token is given, and the sorts of which are taken with their parentheses.
     fn pattern_within(&mut self, first: Token, mut sorts: Vec<Sort>, of: Of) -> Parsed<Spanned<Pattern>> {
         while let Some(sort) = sort(self.peek(Wild)?) {
-            self.take(Wild)?;
+            self.take_token(Wild)?;
             self.demand(Wild, "(")?;
             sorts.push(sort);
             if !can_nest(&sorts, of) {
@@ -122,7 +122,7 @@ impl Parser<'_> {
         let pattern = self.plain_pattern(token);
         // The profile sorts several patterns as one; the first stands for all.
         while self.lexer.dialect == Dialect::Profile && !sorts.is_empty() && self.peek(Wild)?.is_name() {
-            self.take(Wild)?;
+            self.take_token(Wild)?;
         }
         for _ in &sorts {
             self.demand(Wild, ")")?;

@@ -12,7 +12,7 @@ use State::{Expression, Script};
 impl Parser<'_> {
     /// `MEMORY { region .. }`
     pub(super) fn memory(&mut self) -> Parsed<Statement> {
-        self.take(Script)?;
+        self.take_token(Script)?;
         let opening = self.demand(Script, "{")?;
         let mut regions = Vec::new();
         self.regions(&mut regions)?;
@@ -77,7 +77,7 @@ impl Parser<'_> {
 
     /// `PHDRS { header; .. }`
     pub(super) fn program_headers(&mut self) -> Parsed<Statement> {
-        self.take(Script)?;
+        self.take_token(Script)?;
         let opening = self.demand(Script, "{")?;
         let mut headers = Vec::new();
         loop {
@@ -91,7 +91,7 @@ impl Parser<'_> {
                 }
             }
         }
-        self.take(Script)?;
+        self.take_token(Script)?;
         Ok(Statement::Phdrs(headers))
     }
 
@@ -115,7 +115,7 @@ impl Parser<'_> {
         while !self.peek(Expression)?.is(";") {
             self.header_word(&mut header)?;
         }
-        self.take(Expression)?;
+        self.take_token(Expression)?;
         Ok(header)
     }
 

@@ -55,14 +55,14 @@ impl<'a> Parser<'a> {
         self.lexer.peek(state)
     }
 
-    fn take(&mut self, state: State) -> Parsed<Token> {
-        self.lexer.take(state)
+    fn take_token(&mut self, state: State) -> Parsed<Token> {
+        self.lexer.take_token(state)
     }
 
     /// Takes the next token if it is this mark or word.
     fn accept(&mut self, state: State, text: &str) -> Parsed<Option<Token>> {
         if self.peek(state)?.is(text) {
-            return self.take(state).map(Some);
+            return self.take_token(state).map(Some);
         }
         Ok(None)
     }
@@ -71,7 +71,7 @@ impl<'a> Parser<'a> {
     fn demand(&mut self, state: State, text: &str) -> Parsed<Token> {
         let token = self.peek(state)?;
         if token.is(text) {
-            return self.take(state);
+            return self.take_token(state);
         }
         Err(self.unexpected(token, format!("`{text}`")))
     }
@@ -82,7 +82,7 @@ impl<'a> Parser<'a> {
         if !token.is_name() {
             return Err(self.unexpected(token, expected.to_owned()));
         }
-        self.take(state)?;
+        self.take_token(state)?;
         Ok(Spanned::new(self.lexer.name(token), token.span))
     }
 
@@ -141,7 +141,7 @@ impl<'a> Parser<'a> {
                 Kind::Mark("}") => depth -= 1,
                 _ => {}
             }
-            self.take(state)?;
+            self.take_token(state)?;
             if depth == 0 && (token.is(";") || token.is("}")) {
                 break;
             }
@@ -163,7 +163,7 @@ impl<'a> Parser<'a> {
 
     /// `INCLUDE file`: what the file has, by the given reader of statements, which stops at what it does not know.
     fn include(&mut self, state: State, read: impl FnOnce(&mut Self) -> Parsed<()>) -> Parsed<()> {
-        let word = self.take(state)?;
+        let word = self.take_token(state)?;
         let name = self.name(state, "the name of a file")?.node;
         if self.scripts.contains(&name) {
             return Err(self.lexer.error(word, ErrorKind::Repeated(name.to_string())));

@@ -26,7 +26,7 @@ type Body = Spanned<Vec<Spanned<SectionStatement>>>;
 impl Parser<'_> {
     /// `SECTIONS { .. }`
     pub(super) fn sections(&mut self) -> Parsed<Statement> {
-        self.take(Script)?;
+        self.take_token(Script)?;
         let mut statements = Vec::new();
         self.braced_sections(b"SECTIONS", &mut statements)?;
         Ok(Statement::Sections(statements))
@@ -52,7 +52,7 @@ impl Parser<'_> {
                     self.nested(ErrorKind::StatementDepth, |parser| parser.group_of_sections(into))?;
                 }
                 Kind::Mark(";") => {
-                    self.take(Script)?;
+                    self.take_token(Script)?;
                     self.lexer.warn(token, WarningKind::Separator);
                 }
                 _ => match self.sections_statement(token) {
@@ -88,7 +88,7 @@ impl Parser<'_> {
 
     /// `GROUP e : { .. }`: an assignment to the location counter, and the statements.
     fn group_of_sections(&mut self, into: &mut SectionsList) -> Parsed<()> {
-        let word = self.take(Script)?;
+        let word = self.take_token(Script)?;
         let (address, _) = self.address_and_type(Expression)?;
         if let Some(value) = address {
             let (target, span) = (Spanned::new(Name::from("."), word.span), self.since(word.span));
@@ -132,11 +132,11 @@ impl Parser<'_> {
     fn address_and_type(&mut self, first: State) -> Parsed<(Option<Expr>, Option<Spanned<SectionType>>)> {
         let token = self.peek(first)?;
         if token.is(":") {
-            self.take(first)?;
+            self.take_token(first)?;
             return Ok((None, None));
         }
         let address = if token.is("(") {
-            self.take(first)?;
+            self.take_token(first)?;
             if is_type_or_end(self.peek(Expression)?) {
                 let kind = self.section_type(token)?;
                 self.demand(Expression, ":")?;
@@ -144,7 +144,7 @@ impl Parser<'_> {
             }
             self.expression_after(token)?
         } else if token.is("BIND") {
-            self.take(first)?;
+            self.take_token(first)?;
             self.bound_address()?
         } else {
             self.expression_from(first)?
@@ -175,7 +175,7 @@ impl Parser<'_> {
         let kind = match token.kind {
             Kind::Word("TYPE") => SectionType::Type(self.typed()?),
             Kind::Word(word) if is_type_or_end(token) => {
-                self.take(Expression)?;
+                self.take_token(Expression)?;
                 self.untyped(word)?
             }
             _ => return Err(self.unexpected(token, "a type of a section".to_owned())),
@@ -222,7 +222,7 @@ impl Parser<'_> {
             Kind::Word("SPECIAL") => Constraint::Special,
             _ => return Ok(None),
         };
-        self.take(Expression)?;
+        self.take_token(Expression)?;
         Ok(Some(constraint))
     }
 
@@ -258,7 +258,7 @@ impl Parser<'_> {
     }
 
     fn overlay(&mut self) -> Parsed<Overlay> {
-        self.take(Script)?;
+        self.take_token(Script)?;
         let address = if self.peek(Expression)?.is(":") { None } else { Some(self.expression()?) };
         self.demand(Expression, ":")?;
         let forbids_cross_references = self.accept(Expression, "NOCROSSREFS")?.is_some();
@@ -272,7 +272,7 @@ impl Parser<'_> {
             }
             sections.push(self.overlay_section()?);
         }
-        let closing = self.take(Script)?;
+        let closing = self.take_token(Script)?;
         let tail = self.tail(true)?;
         Ok(Overlay {
             address,
@@ -308,7 +308,7 @@ impl Parser<'_> {
             let token = self.peek(Wild)?;
             match token.kind {
                 Kind::End | Kind::Mark("}") => return Ok(()),
-                Kind::Mark(";") => drop(self.take(Wild)?),
+                Kind::Mark(";") => drop(self.take_token(Wild)?),
                 Kind::Word("INCLUDE") => self.include(Wild, |parser| parser.section_statements(into))?,
                 _ => match self.section_statement(token) {
                     Ok(statement) => into.push(Spanned::new(statement, self.since(token.span))),
@@ -326,7 +326,7 @@ impl Parser<'_> {
             _ => return Err(self.no_statement(token)),
         };
         if let Some(width) = data_width(word) {
-            self.take(Wild)?;
+            self.take_token(Wild)?;
             self.demand(Wild, "(")?;
             let value = self.expression()?;
             self.demand(Expression, ")")?;
@@ -341,9 +341,9 @@ impl Parser<'_> {
                 Ok(SectionStatement::Assert(assertion))
             }
             "HIDDEN" | "PROVIDE" | "PROVIDE_HIDDEN" => self.provision_statement(Wild).map(SectionStatement::Assign),
-            "CREATE_OBJECT_SYMBOLS" => self.take(Wild).map(|_| SectionStatement::CreateObjectSymbols),
-            "CONSTRUCTORS" => self.take(Wild).map(|_| SectionStatement::Constructors(false)),
-            "LINKER_VERSION" => self.take(Wild).map(|_| SectionStatement::LinkerVersion),
+            "CREATE_OBJECT_SYMBOLS" => self.take_token(Wild).map(|_| SectionStatement::CreateObjectSymbols),
+            "CONSTRUCTORS" => self.take_token(Wild).map(|_| SectionStatement::Constructors(false)),
+            "LINKER_VERSION" => self.take_token(Wild).map(|_| SectionStatement::LinkerVersion),
             "SORT_BY_NAME" => self.sorted_statement(),
             "KEEP" | "INPUT_SECTION_FLAGS" | "EXCLUDE_FILE" | "SORT_NONE" | "REVERSE" => {
                 self.input_statement().map(SectionStatement::Input)
@@ -354,7 +354,7 @@ impl Parser<'_> {
 
     /// An assignment, or an input statement that begins with the name of files.
     fn named_statement(&mut self) -> Parsed<SectionStatement> {
-        let token = self.take(Wild)?;
+        let token = self.take_token(Wild)?;
         match assign_operator(self.peek(Wild)?) {
             Some(operator) => {
                 let target = Spanned::new(self.lexer.name(token), token.span);
@@ -367,7 +367,7 @@ impl Parser<'_> {
     }
 
     fn fill_statement(&mut self) -> Parsed<SectionStatement> {
-        self.take(Wild)?;
+        self.take_token(Wild)?;
         self.demand(Wild, "(")?;
         let fill = self.fill_value()?;
         self.demand(Expression, ")")?;
@@ -375,7 +375,7 @@ impl Parser<'_> {
     }
 
     fn text_statement(&mut self, word: &str) -> Parsed<SectionStatement> {
-        self.take(Wild)?;
+        self.take_token(Wild)?;
         if word == "ASCIZ" {
             let text = self.name(Wild, "a text")?.node;
             return Ok(SectionStatement::Text(DataText::ZeroTerminated(text)));

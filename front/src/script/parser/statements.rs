@@ -22,7 +22,7 @@ impl Parser<'_> {
             let token = self.peek(Script)?;
             match token.kind {
                 Kind::End => return Ok(()),
-                Kind::Mark(";") => drop(self.take(Script)?),
+                Kind::Mark(";") => drop(self.take_token(Script)?),
                 Kind::Word("INCLUDE") => self.include(Script, |parser| parser.statements(into))?,
                 _ => match self.statement(token) {
                     Ok(statement) => into.push(Spanned::new(statement, self.since(token.span))),
@@ -62,7 +62,7 @@ impl Parser<'_> {
             _ => return Err(self.no_statement(token)),
         };
         if let Some(read) = single(word) {
-            self.take(Script)?;
+            self.take_token(Script)?;
             // `i386:x86-64` is a name, which the profile's tokens part at its `:`.
             let is_parted = self.lexer.dialect == Dialect::Profile && word != "ENTRY";
             let name = self.name_in_parentheses(if is_parted { InputList } else { Script }, "a name")?;
@@ -72,7 +72,7 @@ impl Parser<'_> {
             return Ok(read(name));
         }
         if let Some(setting) = setting(word) {
-            self.take(Script)?;
+            self.take_token(Script)?;
             return Ok(Statement::Setting(setting));
         }
         match word {
@@ -119,7 +119,7 @@ impl Parser<'_> {
         op: AssignOperator,
         state: State,
     ) -> Parsed<Assignment> {
-        self.take(state)?;
+        self.take_token(state)?;
         let value = self.expression()?;
         Ok(Assignment { target, operator: op, value, provision: Provision::Plain })
     }
@@ -133,7 +133,7 @@ impl Parser<'_> {
 
     /// `PROVIDE(name = expression)`, HIDDEN or PROVIDE_HIDDEN.
     fn provision(&mut self, state: State) -> Parsed<Assignment> {
-        let provision = match self.take(state)?.kind {
+        let provision = match self.take_token(state)?.kind {
             Kind::Word("HIDDEN") => Provision::Hidden,
             Kind::Word("PROVIDE") => Provision::Provide,
             _ => Provision::ProvideHidden,
@@ -150,7 +150,7 @@ impl Parser<'_> {
     pub(super) fn separator(&mut self, state: State) -> Parsed<()> {
         let token = self.peek(state)?;
         if token.is(";") || token.is(",") {
-            return self.take(state).map(drop);
+            return self.take_token(state).map(drop);
         }
         Err(self.unexpected(token, "`;`".to_owned()))
     }
@@ -166,7 +166,7 @@ impl Parser<'_> {
 
     /// `ASSERT(expression, message)`; a separator after it is not read.
     pub(super) fn assertion(&mut self, state: State) -> Parsed<Assertion> {
-        self.take(state)?;
+        self.take_token(state)?;
         self.demand(Expression, "(")?;
         let condition = self.expression()?;
         let message = self.assert_message()?;
@@ -175,13 +175,13 @@ impl Parser<'_> {
 
     /// `ENTRY(name)`
     pub(super) fn entry(&mut self) -> Parsed<Name> {
-        self.take(Script)?;
+        self.take_token(Script)?;
         self.name_in_parentheses(Script, "a symbol")
     }
 
     /// INPUT or GROUP; AS_NEEDED nests.
     fn input(&mut self, word: &str) -> Parsed<Statement> {
-        self.take(Script)?;
+        self.take_token(Script)?;
         self.demand(Script, "(")?;
         let mut files: Vec<Spanned<InputFile>> = Vec::new();
         let mut depth = 0usize;
@@ -195,7 +195,7 @@ impl Parser<'_> {
                     is_wanted = false;
                 }
                 Kind::Word("AS_NEEDED") => {
-                    self.take(InputList)?;
+                    self.take_token(InputList)?;
                     depth += 1;
                     is_wanted = true;
                 }
@@ -207,16 +207,16 @@ impl Parser<'_> {
             if token.is("AS_NEEDED") {
                 self.demand(InputList, "(")?
             } else {
-                self.take(InputList)?
+                self.take_token(InputList)?
             };
         }
-        self.take(InputList)?;
+        self.take_token(InputList)?;
         Ok(if word == "GROUP" { Statement::Group(files) } else { Statement::Input(files) })
     }
 
     /// A command with a list of names in parentheses.
     fn list(&mut self, word: &str) -> Parsed<Statement> {
-        self.take(Script)?;
+        self.take_token(Script)?;
         self.demand(Script, "(")?;
         let state = if word == "EXTERN" { Expression } else { Script };
         let is_of_sections = word.starts_with("NOCROSSREFS");
@@ -233,9 +233,9 @@ impl Parser<'_> {
                 }
                 _ => return Err(self.unexpected(token, "a name".to_owned())),
             }
-            self.take(state)?;
+            self.take_token(state)?;
         }
-        self.take(state)?;
+        self.take_token(state)?;
         Ok(match word {
             "EXTERN" => Statement::Extern(names),
             "NOCROSSREFS" => Statement::NoCrossReferences(names),
@@ -247,7 +247,7 @@ impl Parser<'_> {
 
     /// `OUTPUT_FORMAT(default)` or `OUTPUT_FORMAT(default, big, little)`
     fn output_format(&mut self) -> Parsed<Statement> {
-        self.take(Script)?;
+        self.take_token(Script)?;
         self.demand(Script, "(")?;
         let mut names = vec![self.name(Script, "the name of a format")?.node];
         if self.peek(Script)?.is(",") {
@@ -262,7 +262,7 @@ impl Parser<'_> {
 
     /// `INSERT AFTER section` or `INSERT BEFORE section`
     fn insert(&mut self) -> Parsed<Statement> {
-        self.take(Script)?;
+        self.take_token(Script)?;
         let place = if self.accept(Script, "AFTER")?.is_some() {
             InsertPlace::After
         } else {
@@ -275,7 +275,7 @@ impl Parser<'_> {
 
     /// `REGION_ALIAS(alias, region)`
     fn region_alias(&mut self) -> Parsed<Statement> {
-        self.take(Script)?;
+        self.take_token(Script)?;
         self.demand(Script, "(")?;
         let alias = self.name(Script, "the name of a region")?;
         self.demand(Script, ",")?;

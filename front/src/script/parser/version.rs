@@ -10,7 +10,7 @@ use State::{Script, VersionNode as Node, VersionScript, VersionStart};
 impl Parser<'_> {
     /// `VERSION { node .. }`
     pub(super) fn version(&mut self) -> Parsed<Statement> {
-        self.take(Script)?;
+        self.take_token(Script)?;
         let opening = self.demand(VersionStart, "{")?;
         let mut nodes = vec![self.version_node()?];
         loop {
@@ -21,7 +21,7 @@ impl Parser<'_> {
                 _ => nodes.push(self.version_node()?),
             }
         }
-        self.take(VersionScript)?;
+        self.take_token(VersionScript)?;
         Ok(Statement::Version(nodes))
     }
 
@@ -74,7 +74,7 @@ impl Parser<'_> {
         if !self.is_before_colon()? {
             return Ok(None);
         }
-        self.take(Node)?;
+        self.take_token(Node)?;
         self.demand(Node, ":")?;
         Ok(Some(word))
     }
@@ -104,7 +104,7 @@ impl Parser<'_> {
         if !is_name {
             return Err(self.unexpected(token, "a pattern of symbols".to_owned()));
         }
-        self.take(Node)?;
+        self.take_token(Node)?;
         if token.is("extern") && self.peek(Node)?.kind == Kind::Quoted {
             return self.nested(ErrorKind::StatementDepth, |parser| parser.extern_block(into));
         }

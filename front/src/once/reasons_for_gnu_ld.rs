@@ -21,13 +21,13 @@ const OF_GNU_LD: [&[u8]; 4] = [b"__ehdr_start", b"_GLOBAL_OFFSET_TABLE_", b".sta
 const SCRIPT: &[u8] = b"script";
 
 /// Why GNU ld may make a link of whose script something is left.
-pub(crate) fn of_what_is_left(plan: &LinkPlan) -> Option<String> {
+pub(crate) fn left_constructs(plan: &LinkPlan) -> Option<String> {
     let left = plan.residual.notes.iter().filter(|note| note.kind == NoteKind::Left);
     first(left.map(Note::to_string).collect())
 }
 
 /// Why GNU ld may make a link that has faults; `None` if they are the program's, which GNU ld has too.
-pub(crate) fn of_faults(command: &Command, plan: &LinkPlan, faults: &[u8]) -> Option<String> {
+pub(crate) fn faults(command: &Command, plan: &LinkPlan, faults: &[u8]) -> Option<String> {
     let stops = matches!(plan.evaluation, Err(Stop::Refused(_)));
     let is_own = |line: FaultLine<'_>| match &line.fault {
         // GNU ld has an entry of a table if a number does not fit.
@@ -87,7 +87,7 @@ fn is_in_relaxed(plan: &LinkPlan, words: &[Value<'_>]) -> bool {
 }
 
 /// Why GNU ld may make a link whose image would be another than GNU ld's; of a flat one nothing shows what is changed.
-pub(crate) fn of_verdict(plan: &LinkPlan, verdict: &Verdict) -> Option<String> {
+pub(crate) fn verdict(plan: &LinkPlan, verdict: &Verdict) -> Option<String> {
     if verdict.differs {
         return first(verdict.lines.clone()).map(|first| format!("the image would be another than GNU ld's: {first}"));
     }
