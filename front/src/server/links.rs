@@ -23,7 +23,7 @@ use crate::streams::{self, Printed};
 
 /// How often a call begins anew as inputs change meanwhile.
 const TRIES: usize = 4;
-/// How deep response files that name others are looked at.
+/// The depth to which response files that name other ones are looked at.
 const GREATEST_DEPTH: usize = 100;
 
 /// What a call asks for.
@@ -40,7 +40,7 @@ pub(super) struct Wish {
 /// What came of a call.
 #[derive(Debug)]
 pub(super) struct Outcome {
-    /// What is sent to it.
+    /// The answer that is sent to the call.
     pub(super) message: Message,
     /// Whether a link was made.
     pub(super) is_made: bool,

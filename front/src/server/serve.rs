@@ -219,7 +219,7 @@ impl Server {
             self.hear();
         }
         if self.job.is_none() && !self.is_ending {
-            self.look();
+            self.look_for_end();
         }
         Ok(())
     }
@@ -240,14 +240,14 @@ impl Server {
         for call in std::mem::take(&mut self.asking) {
             if is_readable(&call.connection) {
                 // What is wrong with a call is its own business.
-                let _ = self.take(call.connection);
+                let _ = self.serve_call(call.connection);
             } else if now <= call.until {
                 self.asking.push(call);
             }
         }
     }
 
-    fn take(&mut self, connection: UnixStream) -> io::Result<()> {
+    fn serve_call(&mut self, connection: UnixStream) -> io::Result<()> {
         connection.set_nonblocking(false)?;
         connection.set_read_timeout(Some(MESSAGE))?;
         connection.set_write_timeout(Some(SIGN))?;
@@ -357,7 +357,7 @@ impl Server {
     // whether it is wanted
 
     /// Ends if the socket or the folder is gone or another's, other programs are there, or no call comes.
-    fn look(&mut self) {
+    fn look_for_end(&mut self) {
         let idle = seconds_of(&value_of(&self.environment, "LDI_SERVER_IDLE"), IDLE);
         let folder = self.key.as_ref().map_or(true, |(_, output, id)| output.parent().and_then(identity) == *id);
         let is_wanted = self.last_call.elapsed() <= idle
@@ -538,10 +538,10 @@ mod tests {
         assert!(Message::receive(&stream).is_ok());
         assert!(asked.server.is_ending);
         let mut asked = Asked::new("gone");
-        asked.server.look();
+        asked.server.look_for_end();
         assert!(!asked.server.is_ending);
         fs::remove_file(&asked.path).unwrap();
-        asked.server.look();
+        asked.server.look_for_end();
         assert!(asked.server.is_ending);
     }
 

@@ -54,7 +54,7 @@ pub(super) enum Said {
 
 impl AsLd {
     /// Takes other bytes of objects; `false` if all is to be found anew.
-    pub(super) fn take(&mut self, inputs: &mut Inputs, changed: &[PathBuf]) -> bool {
+    pub(super) fn take_bytes(&mut self, inputs: &mut Inputs, changed: &[PathBuf]) -> bool {
         let mut plan = match self.plan.take() {
             Some(plan) => plan,
             None => return false,
@@ -151,7 +151,7 @@ impl AsLd {
         self.is_out_of_memory = all.into_iter().any(|refusal| refusal.is_memory());
         let said = match refusals(plan, &brought, environment) {
             refused if !refused.is_empty() => Said::Refused(refused),
-            _ if is_left => Said::Refused(listed(&words.script, left(plan))),
+            _ if is_left => Said::Refused(listed(&words.script, lines_of_left(plan))),
             _ => match brought.script_refused {
                 Some(refusal) => {
                     let path = plan.inputs.scripts.path.display().to_string();
@@ -287,7 +287,7 @@ fn refusals(plan: &LinkPlan, brought: &Brought, environment: &Environment) -> Ve
 }
 
 /// What is left of the script, which `ldi` does not link.
-fn left(plan: &LinkPlan) -> Vec<String> {
+fn lines_of_left(plan: &LinkPlan) -> Vec<String> {
     let left = plan.residual.notes.iter().filter(|note| note.kind == NoteKind::Left);
     let mut lines: Vec<String> = left.map(Note::to_string).collect();
     let places = if lines.len() == 1 { "1 place".to_owned() } else { format!("{} places", lines.len()) };

@@ -92,7 +92,7 @@ impl Watcher {
         self.inotify.as_ref()
     }
 
-    /// Watches a folder too, if it is there; `look` tries those again that are not. Says whether it is watched only
+    /// Watches a folder too, if it is there; `watch_renewed` tries those again that are not. Says whether it is watched only
     /// now.
     ///
     /// # Errors
@@ -111,7 +111,7 @@ impl Watcher {
     ///
     /// # Errors
     /// If the system watches no more folders.
-    pub(super) fn look(&mut self) -> Result<bool, NotWatched> {
+    pub(super) fn watch_renewed(&mut self) -> Result<bool, NotWatched> {
         let others: Vec<PathBuf> = self
             .folders
             .iter()
@@ -344,10 +344,10 @@ mod tests {
         let later = folder.0.join("later");
         let mut watcher = Watcher::default();
         assert!(!watcher.watch(&later).unwrap());
-        assert!(!watcher.look().unwrap());
+        assert!(!watcher.watch_renewed().unwrap());
         std::fs::create_dir(&later).unwrap();
-        assert!(watcher.look().unwrap());
-        assert!(!watcher.look().unwrap());
+        assert!(watcher.watch_renewed().unwrap());
+        assert!(!watcher.watch_renewed().unwrap());
         std::fs::write(later.join("file"), "text").unwrap();
         assert!(watcher.read(&|_| false).unwrap().iter().any(|event| event.path == later.join("file")));
     }

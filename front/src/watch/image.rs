@@ -10,10 +10,10 @@ use nix::errno::Errno;
 use nix::poll::{poll, PollFd, PollFlags};
 use rustix::fs::Mode;
 
-use super::here::{real, real_folder};
 use super::linking::Refusals;
 use super::stops::Stops;
 use super::words::Words;
+use super::working_folder::{real, real_folder};
 use crate::finish::FileImage;
 use crate::mirror::{Mirror, SessionError, TakeError};
 use crate::once::{pieces_of, zeros_of};
@@ -37,7 +37,7 @@ pub(super) enum ImageFault {
     Refused(Refusals),
 }
 
-/// A file that is written. Its stages are `prepare` or `take`, and then `commit` or `drop`.
+/// A file that is written. Its stages are `prepare` or `write_image`, and then `commit` or `drop`.
 ///
 /// A name of something that is no regular file, such as /dev/null, is written in place, by `commit`. A symbolic link
 /// stays one, and the file that it names is the one that is written.
@@ -86,7 +86,7 @@ impl Output {
     }
 
     /// Writes the image of a session into the file, without a copy here; gives its length.
-    fn take(&mut self, mirror: &mut Mirror) -> Result<u64, ImageFault> {
+    fn write_image(&mut self, mirror: &mut Mirror) -> Result<u64, ImageFault> {
         self.open()?;
         let file = match &mut self.new {
             Some(Opened::Beside(new)) => new.file(),
@@ -138,12 +138,12 @@ impl Output {
     }
 
     /// Whether the file was removed that `commit` left.
-    fn is_gone(&self) -> bool {
+    fn was_removed(&self) -> bool {
         self.placed.is_some() && self.stamp().is_none()
     }
 
-    /// Whether the file's bytes may be others than those that `commit` left; says it once of the same file.
-    fn is_other(&mut self) -> bool {
+    /// Notes whether another program has overwritten the file that `commit` left, and gives that: once of the same file.
+    fn note_overwritten(&mut self) -> bool {
         let (now, placed) = match (self.stamp(), self.placed) {
             (Some(now), Some(placed)) if now != placed && self.other != Some(now) => (now, placed),
             _ => return false,
@@ -156,8 +156,8 @@ impl Output {
         false
     }
 
-    /// Whether the file has the bytes that were prepared; takes it then for what was put in place.
-    fn holds(&mut self) -> bool {
+    /// If the file has the bytes that were prepared, takes it for what was put in place; gives whether it does.
+    fn adopt_if_same(&mut self) -> bool {
         let new = match &self.new {
             Some(Opened::Beside(new)) => new,
             _ => return false,
@@ -271,7 +271,7 @@ impl Image {
         paths
     }
 
-    /// The next image is that of a new session, and may be the one that is there.
+    /// Notes that the next image is that of a new session, and may be the one that is there.
     pub(super) fn compare_next(&mut self) {
         self.is_current = false;
         self.compares = true;
@@ -283,13 +283,13 @@ impl Image {
     }
 
     /// Whether one of them was removed.
-    pub(super) fn are_gone(&mut self) -> bool {
-        self.outputs().any(|output| output.is_gone())
+    pub(super) fn any_removed(&mut self) -> bool {
+        self.outputs().any(|output| output.was_removed())
     }
 
     /// The files that another program has written, each once.
-    pub(super) fn others(&mut self) -> Vec<PathBuf> {
-        self.outputs().filter_map(|output| output.is_other().then(|| output.path.clone())).collect()
+    pub(super) fn overwritten_by_others(&mut self) -> Vec<PathBuf> {
+        self.outputs().filter_map(|output| output.note_overwritten().then(|| output.path.clone())).collect()
     }
 
     /// Whether the map of a link is wanted.
@@ -301,8 +301,8 @@ impl Image {
     ///
     /// # Errors
     /// If the session gives no answer, or the file cannot be written.
-    pub(super) fn take(&mut self, mirror: &mut Mirror) -> Result<(), ImageFault> {
-        self.length = self.image.take(mirror)?;
+    pub(super) fn write_image(&mut self, mirror: &mut Mirror) -> Result<(), ImageFault> {
+        self.length = self.image.write_image(mirror)?;
         Ok(())
     }
 
@@ -320,7 +320,7 @@ impl Image {
     ///
     /// # Errors
     /// If the session gives no answer, or the file cannot be written.
-    pub(super) fn take_map(&mut self, mirror: &mut Mirror, known: Option<Vec<u8>>) -> Result<(), ImageFault> {
+    pub(super) fn write_map(&mut self, mirror: &mut Mirror, known: Option<Vec<u8>>) -> Result<(), ImageFault> {
         if !self.wants_map() {
             return Ok(());
         }
@@ -334,9 +334,10 @@ impl Image {
         }
     }
 
-    /// Whether what was written beside is what is in place, if that may be: after another session was started.
-    pub(super) fn is_there(&mut self) -> bool {
-        self.compares && self.outputs().all(|output| output.holds())
+    /// If another session was started, and image and map have the bytes that were prepared, takes them for what was put
+    /// in place; gives whether they do.
+    pub(super) fn adopt_if_same(&mut self) -> bool {
+        self.compares && self.outputs().all(|output| output.adopt_if_same())
     }
 
     /// Puts map and image in place.
@@ -350,8 +351,8 @@ impl Image {
         done
     }
 
-    /// Image and map are in place.
-    pub(super) fn placed(&mut self) {
+    /// Notes that image and map are in place.
+    pub(super) fn note_published(&mut self) {
         self.is_current = true;
         self.compares = false;
     }

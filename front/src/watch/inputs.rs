@@ -85,7 +85,7 @@ impl Inputs {
                     let is_same = old.as_ref().map_or(false, |old| old.is_identical(&new));
                     self.is_other |= old.is_none();
                     self.after.insert(path.clone());
-                    self.ask(&path);
+                    self.ask_for_writer(&path);
                     if !is_same {
                         self.changed.insert(path);
                     }
@@ -132,7 +132,7 @@ impl Inputs {
                 if self.failing.remove(path) || is_new {
                     self.after.insert(path.clone());
                 }
-                self.ask(path);
+                self.ask_for_writer(path);
             } else {
                 self.failing.insert(path.clone());
             }
@@ -156,13 +156,13 @@ impl Inputs {
     }
 
     /// Asks whether somebody writes a file that was read for the first time, perhaps since long.
-    fn ask(&mut self, path: &Path) {
+    fn ask_for_writer(&mut self, path: &Path) {
         let id = match identity(path) {
             Some(id) if self.asked.get(path) != Some(&id) => id,
             _ => return,
         };
         if has_writer(path) == Some(true) {
-            self.is_written(path.to_owned(), Instant::now());
+            self.note_writer(path.to_owned(), Instant::now());
         } else {
             self.asked.insert(path.to_owned(), id);
         }
@@ -214,12 +214,12 @@ impl Inputs {
     // what the system says
 
     /// Notes what an event says of inputs; says whether it is about one.
-    pub(super) fn take(&mut self, event: &Event, now: Instant) -> bool {
+    pub(super) fn note_event(&mut self, event: &Event, now: Instant) -> bool {
         let concerned = self.places.at(&event.path).to_vec();
         for path in &concerned {
             self.dirty.insert(path.clone());
             match event.kind {
-                Kind::Writing => self.is_written(path.clone(), now),
+                Kind::Writing => self.note_writer(path.clone(), now),
                 Kind::Touched => {}
                 Kind::Whole | Kind::Gone => {
                     self.writers.remove(path);
@@ -229,7 +229,8 @@ impl Inputs {
         !concerned.is_empty()
     }
 
-    fn is_written(&mut self, path: PathBuf, now: Instant) {
+    /// Notes that somebody writes a file.
+    fn note_writer(&mut self, path: PathBuf, now: Instant) {
         self.dirty.insert(path.clone());
         self.writers.insert(path, now);
     }
@@ -294,8 +295,8 @@ impl Inputs {
     ///
     /// # Errors
     /// If a folder cannot be watched.
-    pub(super) fn look(&mut self) -> Result<bool, NotWatched> {
-        self.places.look(&mut self.watcher)?;
+    pub(super) fn look_at_all(&mut self) -> Result<bool, NotWatched> {
+        self.places.find_folders(&mut self.watcher)?;
         let failed = self.failed();
         self.is_other |= !failed.is_empty();
         let before = self.dirty.len();
@@ -334,11 +335,11 @@ mod tests {
     fn other_bytes_are_read_when_their_writer_has_closed_the_file() {
         let (path, mut inputs) = read("bytes");
         assert_eq!(inputs.after.iter().collect::<Vec<_>>(), [&path]);
-        assert!(inputs.take(&event(&path, Kind::Writing), Instant::now()));
+        assert!(inputs.note_event(&event(&path, Kind::Writing), Instant::now()));
         assert_eq!(inputs.waiting(), [(path.display().to_string(), "it is being written".to_owned())]);
         fs::write(&path, "two").unwrap();
         assert_eq!(inputs.read().unwrap(), Changed::Bytes(Vec::new()));
-        inputs.take(&event(&path, Kind::Whole), Instant::now());
+        inputs.note_event(&event(&path, Kind::Whole), Instant::now());
         assert_eq!(inputs.read().unwrap(), Changed::Bytes(vec![path.clone()]));
         assert!(inputs.waiting().is_empty());
         fs::remove_file(path).unwrap();
@@ -348,9 +349,9 @@ mod tests {
     fn a_file_that_goes_is_waited_for_and_all_is_found_anew() {
         let (path, mut inputs) = read("gone");
         fs::remove_file(&path).unwrap();
-        inputs.take(&event(&path, Kind::Gone), Instant::now());
+        inputs.note_event(&event(&path, Kind::Gone), Instant::now());
         assert_eq!(inputs.read().unwrap(), Changed::All);
         assert_eq!(inputs.waiting(), [(path.display().to_string(), "it is not there".to_owned())]);
-        assert!(!inputs.take(&event(&path.with_extension("other"), Kind::Whole), Instant::now()));
+        assert!(!inputs.note_event(&event(&path.with_extension("other"), Kind::Whole), Instant::now()));
     }
 }

@@ -113,7 +113,7 @@ impl Linking {
         stops: &Stops,
     ) -> Result<Found, SessionError> {
         if let Changed::Bytes(paths) = changed {
-            if self.take(words, inputs, paths) {
+            if self.take_bytes(words, inputs, paths) {
                 inputs.is_anew = false;
                 return Ok(Found::Ready);
             }
@@ -123,12 +123,12 @@ impl Linking {
     }
 
     /// Takes other bytes of inputs; `false` if all is to be found anew.
-    fn take(&mut self, words: &Words, inputs: &mut Inputs, paths: &[PathBuf]) -> bool {
+    fn take_bytes(&mut self, words: &Words, inputs: &mut Inputs, paths: &[PathBuf]) -> bool {
         match self.mode {
-            Mode::Plain => self.plain.take(words, &inputs.snapshot, paths) && !self.plain.has_archives,
+            Mode::Plain => self.plain.take_bytes(words, &inputs.snapshot, paths) && !self.plain.has_archives,
             Mode::AsLd => {
                 let is_script = !words.is_ld && paths.contains(&words.script);
-                !is_script && self.as_ld.take(inputs, paths)
+                !is_script && self.as_ld.take_bytes(inputs, paths)
             }
         }
     }
@@ -231,10 +231,10 @@ impl Linking {
     ///
     /// # Errors
     /// If the session gives no answer, a file cannot be written, or `ld.ldi` would make no such image.
-    pub(super) fn take_image(&mut self, words: &Words, image: &mut Image) -> Result<Option<Report>, ImageFault> {
+    pub(super) fn write_image(&mut self, words: &Words, image: &mut Image) -> Result<Option<Report>, ImageFault> {
         if self.mode == Mode::Plain {
-            image.take(&mut self.mirror)?;
-            image.take_map(&mut self.mirror, None)?;
+            image.write_image(&mut self.mirror)?;
+            image.write_map(&mut self.mirror, None)?;
             return Ok(None);
         }
         let data = self.mirror.image()?;
@@ -243,15 +243,15 @@ impl Linking {
             Made::Refused(lines) => Err(ImageFault::Refused(listed(&words.script, lines))),
             Made::File(file, lines) => {
                 image.prepare(&file)?;
-                image.take_map(&mut self.mirror, map)?;
+                image.write_map(&mut self.mirror, map)?;
                 self.mirror.reuse(file.into_image());
                 Ok(Some(Report { script: self.as_ld.script(), lines }))
             }
         }
     }
 
-    /// The link came to an image.
-    pub(super) fn is_placed(&mut self) {
+    /// The image was put in place: forgets how often the session ended.
+    pub(super) fn note_published(&mut self) {
         self.ends = 0;
         self.sizes = self.own_sizes();
     }

@@ -7,8 +7,8 @@ use std::path::{Path, PathBuf};
 
 use bstr::{BString, ByteSlice};
 
-use super::here::real;
 use super::words::{Named, Words};
+use super::working_folder::real;
 use crate::mirror::{is_name, GREATEST_NAME};
 use crate::snapshot::{read_regular, Bytes};
 

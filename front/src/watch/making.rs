@@ -85,11 +85,11 @@ impl Making {
         self.is_wanted && self.due.map_or(false, |due| due > Instant::now())
     }
 
-    /// Takes note of a change of a file or folder; says whether it is a source's.
+    /// Notes a change of a file or folder; gives whether it is a source's.
     ///
     /// # Errors
     /// If the system watches no more folders.
-    pub(super) fn changed(&mut self, path: &Path, watcher: &mut Watcher) -> Result<bool, NotWatched> {
+    pub(super) fn note_change(&mut self, path: &Path, watcher: &mut Watcher) -> Result<bool, NotWatched> {
         match path.is_dir() {
             true => Ok(self.sources.is_below(path) && self.watch_below(path, watcher)?),
             false => Ok(self.changed_file(path)),
@@ -129,7 +129,7 @@ impl Making {
     ///
     /// # Errors
     /// If the system watches no more folders.
-    pub(super) fn look(&mut self, watcher: &mut Watcher) -> Result<bool, NotWatched> {
+    pub(super) fn look_at_sources(&mut self, watcher: &mut Watcher) -> Result<bool, NotWatched> {
         let gone: Vec<PathBuf> = self.known.keys().filter(|path| !path.exists()).cloned().collect();
         let folder = self.sources.folder.clone();
         let mut is_changed = self.watch_below(&folder, watcher)?;
@@ -257,9 +257,9 @@ mod tests {
         let mut making = making(&folder.0, &mut watcher);
         making.is_wanted = false;
         folder.write("a.c", "one");
-        assert!(!making.changed(&path, &mut watcher).unwrap() && making.is_done());
+        assert!(!making.note_change(&path, &mut watcher).unwrap() && making.is_done());
         folder.write("a.c", "two");
-        assert!(making.changed(&path, &mut watcher).unwrap() && !making.is_done());
+        assert!(making.note_change(&path, &mut watcher).unwrap() && !making.is_done());
     }
 
     #[test]
@@ -270,7 +270,7 @@ mod tests {
         for run in 1..=4 {
             (making.is_wanted, making.is_running) = (false, true);
             folder.write("a.c", &run.to_string());
-            assert!(!making.changed(&path, &mut watcher).unwrap());
+            assert!(!making.note_change(&path, &mut watcher).unwrap());
             ends(&mut making);
             assert!(making.is_wanted);
             assert_eq!(making.pauses(), run == 4);
@@ -284,12 +284,12 @@ mod tests {
         let mut making = making(&folder.0, &mut watcher);
         (making.is_wanted, making.is_running) = (false, true);
         let path = folder.write("gen.c", "1");
-        making.changed(&path, &mut watcher).unwrap();
+        making.note_change(&path, &mut watcher).unwrap();
         ends(&mut making);
         assert!(making.is_done());
         making.is_running = true;
         folder.write("gen.c", "2");
-        making.changed(&path, &mut watcher).unwrap();
+        making.note_change(&path, &mut watcher).unwrap();
         ends(&mut making);
         assert!(making.pauses());
     }

@@ -2,10 +2,9 @@
 
 mod as_ld;
 mod commands;
+mod event_timer;
 mod events;
-mod gathering;
 mod group;
-mod here;
 mod image;
 mod inputs;
 mod jobserver;
@@ -14,14 +13,15 @@ mod listing;
 mod making;
 mod places;
 mod plain;
+mod reported;
+mod reporter;
 mod running;
-mod says;
 mod sources;
-mod standing;
 mod stops;
 mod turns;
 mod usage;
 mod words;
+mod working_folder;
 
 use std::ffi::OsString;
 use std::io::Write;

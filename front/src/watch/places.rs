@@ -4,7 +4,7 @@ use std::collections::HashMap;
 use std::path::{Path, PathBuf};
 
 use super::events::{NotWatched, Watcher};
-use super::here::{real, real_folder};
+use super::working_folder::{real, real_folder};
 
 /// The inputs by the paths that events have; their folders are watched.
 #[derive(Debug, Default)]
@@ -67,11 +67,11 @@ impl Places {
         }
     }
 
-    /// Looks where the folders are now.
+    /// Finds where the folders are now.
     ///
     /// # Errors
     /// If the system watches no more folders.
-    pub(super) fn look(&mut self, watcher: &mut Watcher) -> Result<(), NotWatched> {
+    pub(super) fn find_folders(&mut self, watcher: &mut Watcher) -> Result<(), NotWatched> {
         if self.folders.iter().all(|(folder, known)| real_folder(folder) == *known) {
             return Ok(());
         }

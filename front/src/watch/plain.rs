@@ -40,7 +40,7 @@ pub(super) struct Plain {
 
 impl Plain {
     /// Takes other bytes of the script or of objects; `false` if all is to be found anew.
-    pub(super) fn take(&mut self, words: &Words, snapshot: &Snapshot, changed: &[PathBuf]) -> bool {
+    pub(super) fn take_bytes(&mut self, words: &Words, snapshot: &Snapshot, changed: &[PathBuf]) -> bool {
         for path in changed {
             let data = match snapshot.seen(path) {
                 Some(seen) => seen.data.clone(),

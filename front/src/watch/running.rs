@@ -7,13 +7,13 @@ use std::time::{Duration, Instant};
 
 use super::commands::{how_ended, Command};
 use super::events::{Event, Kind, NotWatched, Watcher};
-use super::here::Here;
 use super::jobserver::Jobserver;
 use super::making::Making;
-use super::says::{NoOutput, Teller};
+use super::reporter::{NoOutput, Reporter};
 use super::sources::Sources;
 use super::stops::Stops;
 use super::words::Words;
+use super::working_folder::WorkingFolder;
 use crate::place::is_beside;
 
 /// How long `--make`'s command runs before that is said.
@@ -37,21 +37,21 @@ impl Commands {
         words: &Words,
         jobserver: &Jobserver,
         watcher: &mut Watcher,
-        here: &Here,
+        folder: &WorkingFolder,
     ) -> Result<Commands, NotWatched> {
         let command = |text: &String| Command::new(text, words.is_json, jobserver);
         let making = match &words.make {
-            Some(text) => Some(Making::new(command(text), Sources::new(&words.sources, &here.path), watcher)?),
+            Some(text) => Some(Making::new(command(text), Sources::new(&words.sources, &folder.path), watcher)?),
             None => None,
         };
         Ok(Commands { making, runner: words.run.as_ref().map(command), long: None })
     }
 
-    /// Whether an event wants a run of `--make`'s command; `written` are the paths of what is written here.
+    /// Notes an event; gives whether `--make`'s command is to run for it. `written` are the paths of what is written here.
     ///
     /// # Errors
     /// If the system watches no more folders.
-    pub(super) fn concern(
+    pub(super) fn note_event(
         &mut self,
         event: &Event,
         written: &[PathBuf],
@@ -64,7 +64,7 @@ impl Commands {
             Kind::Whole | Kind::Gone => false,
         };
         match &mut self.making {
-            Some(making) if !is_own && !is_none => making.changed(&event.path, watcher),
+            Some(making) if !is_own && !is_none => making.note_change(&event.path, watcher),
             _ => Ok(false),
         }
     }
@@ -78,18 +78,18 @@ impl Commands {
     ///
     /// # Errors
     /// If the system watches no more folders.
-    pub(super) fn look(&mut self, watcher: &mut Watcher) -> Result<bool, NotWatched> {
-        self.making.as_mut().map_or(Ok(false), |making| making.look(watcher))
+    pub(super) fn look_at_sources(&mut self, watcher: &mut Watcher) -> Result<bool, NotWatched> {
+        self.making.as_mut().map_or(Ok(false), |making| making.look_at_sources(watcher))
     }
 
     /// Says how `--run`'s command ended, if it has failed by now.
     ///
     /// # Errors
     /// If standard output cannot be written.
-    pub(super) fn say_ended(&mut self, teller: &Teller) -> Result<(), NoOutput> {
+    pub(super) fn say_ended(&mut self, reporter: &Reporter) -> Result<(), NoOutput> {
         if let Some(runner) = &mut self.runner {
             if let Some(status) = runner.ended().filter(|status| !status.success()) {
-                teller.command_ended(&runner.text, status)?;
+                reporter.report_command_end(&runner.text, status)?;
             }
         }
         Ok(())
@@ -108,7 +108,7 @@ impl Commands {
     }
 
     /// Says why the command is run though nothing seems to have changed.
-    fn say_why(making: &Making, teller: &Teller) -> Result<(), NoOutput> {
+    fn say_why(making: &Making, reporter: &Reporter) -> Result<(), NoOutput> {
         for path in &making.paused_for {
             let name = making.sources.name(path);
             let text = format!(
@@ -116,7 +116,7 @@ impl Commands {
                  it out, if the command writes it",
                 making.command.text
             );
-            teller.note(&name, &text)?;
+            reporter.note(&name, &text)?;
         }
         Ok(())
     }
@@ -139,13 +139,13 @@ impl Commands {
     ///
     /// # Errors
     /// If the command cannot be started, or standard output cannot be written.
-    pub(super) fn start(&mut self, teller: &Teller) -> Result<Option<(String, String)>, StartFault> {
+    pub(super) fn start(&mut self, reporter: &Reporter) -> Result<Option<(String, String)>, StartFault> {
         let making = match &mut self.making {
             Some(making) => making,
             None => return Ok(None),
         };
         if making.is_wanted && !making.is_running && !making.pauses() {
-            Commands::say_why(making, teller)?;
+            Commands::say_why(making, reporter)?;
             making.start()?;
         }
         let name = format!("`{}`", making.command.text);

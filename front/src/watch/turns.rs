@@ -12,18 +12,18 @@ use nix::errno::Errno;
 use nix::poll::{poll, PollFd, PollFlags};
 
 use super::commands::how_ended;
+use super::event_timer::EventTimer;
 use super::events::{plain, NotWatched};
-use super::gathering::Gathering;
-use super::here::Here;
 use super::image::{Image, ImageFault};
 use super::inputs::{Inputs, LONGEST_WRITING};
 use super::jobserver::Jobserver;
 use super::linking::{Found, Linking, Outcome, Refusals};
+use super::reported::{Reported, BEFORE_SAID};
+use super::reporter::{Good, NoOutput, Reporter, State};
 use super::running::{Commands, StartFault};
-use super::says::{Good, NoOutput, State, Teller};
-use super::standing::{Standing, BEFORE_SAID};
 use super::stops::Stops;
 use super::words::Words;
+use super::working_folder::WorkingFolder;
 use crate::mirror::SessionError;
 use crate::place::NotWritten;
 
@@ -70,15 +70,15 @@ impl WatchFault {
 pub(super) struct Watch<'a> {
     words: &'a Words,
     stops: &'a Stops,
-    teller: Teller,
-    here: Here,
+    reporter: Reporter,
+    folder: WorkingFolder,
     inputs: Inputs,
     linking: Linking,
     image: Image,
     written: Vec<PathBuf>,
     commands: Commands,
-    gathering: Gathering,
-    standing: Standing,
+    timer: EventTimer,
+    reported: Reported,
     is_out_of_memory: bool,
 }
 
@@ -88,26 +88,26 @@ impl<'a> Watch<'a> {
     /// # Errors
     /// If a folder cannot be watched.
     pub(super) fn new(words: &'a Words, stops: &'a Stops, jobserver: &Jobserver) -> Result<Watch<'a>, WatchFault> {
-        let here = Here::new();
+        let folder = WorkingFolder::new();
         let mut inputs = Inputs::new();
         let image = Image::new(words);
         let written = image.paths();
-        let commands = Commands::new(words, jobserver, &mut inputs.watcher, &here)?;
+        let commands = Commands::new(words, jobserver, &mut inputs.watcher, &folder)?;
         for folder in written.iter().filter_map(|path| path.parent()) {
             inputs.watcher.watch(folder)?;
         }
         Ok(Watch {
             words,
             stops,
-            teller: Teller::new(words.is_json, &words.image),
-            here,
+            reporter: Reporter::new(words.is_json, &words.image),
+            folder,
             inputs,
             linking: Linking::new(words),
             image,
             written,
             commands,
-            gathering: Gathering::new(Instant::now()),
-            standing: Standing::new(),
+            timer: EventTimer::new(Instant::now()),
+            reported: Reported::new(),
             is_out_of_memory: false,
         })
     }
@@ -128,7 +128,7 @@ impl<'a> Watch<'a> {
             }
             self.turn()?;
             if self.words.is_once && self.by_signal().is_none() && self.is_finished() {
-                let status = self.end_of_once() as u8;
+                let status = self.status_of_once() as u8;
                 return Ok(self.by_signal().unwrap_or(status));
             }
         }
@@ -149,38 +149,38 @@ impl<'a> Watch<'a> {
 
     fn turn(&mut self) -> Result<(), WatchFault> {
         let now = Instant::now();
-        self.commands.say_ended(&self.teller)?;
+        self.commands.say_ended(&self.reporter)?;
         if let Some(status) = self.commands.make_ended() {
             self.drain()?;
             self.commands.finish(status);
-            self.gathering.note_urgent(now);
+            self.timer.note_urgent(now);
         }
         if self.commands.is_due(now) {
-            self.gathering.note_urgent(now);
+            self.timer.note_urgent(now);
         }
         for path in self.inputs.give_up(now) {
-            self.gathering.note(now);
+            self.timer.note(now);
             let why = format!("its writer has not closed it for {} s: read as it is", LONGEST_WRITING.as_secs());
-            self.teller.note(&path.display().to_string(), &why)?;
+            self.reporter.note(&path.display().to_string(), &why)?;
         }
-        let is_free = self.gathering.first.is_none() || self.inputs.watcher.is_disturbed;
-        if now >= self.gathering.next_look && is_free {
+        let is_free = self.timer.first.is_none() || self.inputs.watcher.is_disturbed;
+        if now >= self.timer.next_look && is_free {
             self.look_at_all(now)?;
         }
-        if self.gathering.due().map_or(false, |due| now >= due) {
-            self.gathering.begin();
+        if self.timer.due().map_or(false, |due| now >= due) {
+            self.timer.begin();
             let done = self.step();
             self.image.drop_prepared();
-            self.gathering.end();
+            self.timer.end();
             match done {
                 Ok(()) => {}
                 Err(StepFault::Session(fault)) => self.restart(fault)?,
                 Err(StepFault::Watch(fault)) => return Err(fault),
             }
         }
-        if self.gathering.first.is_none() {
+        if self.timer.first.is_none() {
             // else what was gathered may make it another state
-            self.standing.say_in_time(Instant::now(), &mut self.teller)?;
+            self.reported.say_in_time(Instant::now(), &mut self.reporter)?;
         }
         Ok(())
     }
@@ -190,11 +190,11 @@ impl<'a> Watch<'a> {
     /// Waits for events, signals, the session's end, or the next thing to do.
     fn wait(&mut self) -> Result<(), WatchFault> {
         let mut times: Vec<Instant> = self.inputs.silent_from().into_iter().collect();
-        match self.gathering.due() {
+        match self.timer.due() {
             Some(due) => times.push(due),
             None => {
-                times.push(self.gathering.next_look);
-                times.extend(self.standing.time());
+                times.push(self.timer.next_look);
+                times.extend(self.reported.time());
                 times.extend(self.commands.time());
             }
         }
@@ -229,17 +229,17 @@ impl<'a> Watch<'a> {
             let events = self.inputs.watcher.read(&asks)?;
             let now = Instant::now();
             if self.inputs.watcher.is_disturbed {
-                self.gathering.next_look = now;
+                self.timer.next_look = now;
             }
             if events.is_empty() {
                 return Ok(());
             }
             for event in events {
-                let is_of_input = self.inputs.take(&event, now);
-                if is_of_input || self.commands.concern(&event, &self.written, &mut self.inputs.watcher)? {
-                    self.gathering.event(now);
+                let is_of_input = self.inputs.note_event(&event, now);
+                if is_of_input || self.commands.note_event(&event, &self.written, &mut self.inputs.watcher)? {
+                    self.timer.note_event(now);
                 } else if self.written.contains(&event.path) {
-                    self.gathering.look_by(now + BEFORE_SAID);
+                    self.timer.look_by(now + BEFORE_SAID);
                 }
             }
         }
@@ -247,52 +247,51 @@ impl<'a> Watch<'a> {
 
     /// Looks at all inputs, folders and outputs, for events that the system lost.
     fn look_at_all(&mut self, now: Instant) -> Result<(), WatchFault> {
-        self.gathering.looked(now);
-        let is_renewed = self.here.look();
+        self.timer.note_look(now);
+        let is_renewed = self.folder.enter_renewed();
         if is_renewed {
-            let name = self.here.path.display().to_string();
-            self.teller.note(&name, "another folder has this name now: the watch goes on in that one")?;
+            let name = self.folder.path.display().to_string();
+            self.reporter.note(&name, "another folder has this name now: the watch goes on in that one")?;
         }
         self.written = self.image.paths();
-        let is_disturbed = self.inputs.watcher.look()? | self.inputs.watcher.is_disturbed | is_renewed;
+        let is_disturbed = self.inputs.watcher.watch_renewed()? | self.inputs.watcher.is_disturbed | is_renewed;
         self.inputs.watcher.is_disturbed = false;
-        let mut has_changed = is_disturbed && self.commands.look(&mut self.inputs.watcher)?;
-        has_changed |= self.inputs.look()?;
-        has_changed |= self.is_to_place()?;
+        let mut has_changed = is_disturbed && self.commands.look_at_sources(&mut self.inputs.watcher)?;
+        has_changed |= self.inputs.look_at_all()?;
+        has_changed |= self.look_at_outputs()?;
         if has_changed {
-            self.gathering.note(now);
+            self.timer.note(now);
         }
         Ok(())
     }
 
-    /// Whether an image that cannot be written is tried again, or one that was removed is put back.
-    ///
-    /// One that another program has written stays until the next change, which is said.
-    fn is_to_place(&mut self) -> Result<bool, WatchFault> {
-        match self.standing.state {
+    /// Looks at image and map; gives whether they are to be written: as they could not be, or one was removed. One that
+    /// another program has overwritten stays until the next change, which is reported.
+    fn look_at_outputs(&mut self) -> Result<bool, WatchFault> {
+        match self.reported.state {
             Some(State::Good(_)) => {}
             Some(State::Waiting(_)) => return Ok(true),
             _ => return Ok(false),
         }
-        for path in self.image.others() {
+        for path in self.image.overwritten_by_others() {
             let why = "another program has written it; it stays so until the next change";
-            self.teller.note(&path.display().to_string(), why)?;
+            self.reporter.note(&path.display().to_string(), why)?;
         }
-        Ok(self.image.are_gone())
+        Ok(self.image.any_removed())
     }
 
     // one step
 
     fn set(&mut self, state: State, is_at_once: bool) -> Result<(), WatchFault> {
-        Ok(self.standing.set(state, is_at_once, &mut self.teller)?)
+        Ok(self.reported.set(state, is_at_once, &mut self.reporter)?)
     }
 
     /// Reads what has changed, sends it, and puts the image in place, as far as the rule of truth allows.
     fn step(&mut self) -> Result<(), StepFault> {
-        if self.here.is_left() {
+        if self.folder.is_left() {
             self.look_at_all(Instant::now())?;
         }
-        if let Some(reason) = self.commands.start(&self.teller)? {
+        if let Some(reason) = self.commands.start(&self.reporter)? {
             self.set(State::Waiting(vec![reason]), true)?;
         }
         if !self.commands.is_made() {
@@ -306,7 +305,7 @@ impl<'a> Watch<'a> {
                 Round::Again => self.inputs.search_anew(),
             }
         }
-        self.gathering.note(Instant::now());
+        self.timer.note(Instant::now());
         Ok(())
     }
 
@@ -332,7 +331,7 @@ impl<'a> Watch<'a> {
             return Ok(Round::Done);
         }
         if let Some(refusals) = refused {
-            return self.refused(refusals);
+            return self.set_refused(refusals);
         }
         let edits = self.linking.edits;
         let (linking, words, stops) = (&mut self.linking, self.words, self.stops);
@@ -342,20 +341,20 @@ impl<'a> Watch<'a> {
         }
         match outcome {
             Outcome::Again => Ok(Round::Again),
-            Outcome::Refused(refusals) => self.refused(refusals),
-            _ if self.has_changed()? => Ok(Round::Changed),
+            Outcome::Refused(refusals) => self.set_refused(refusals),
+            _ if self.find_changes()? => Ok(Round::Changed),
             Outcome::Faults(faults) => {
                 self.image.is_current = false;
                 let after = self.inputs.after.iter().cloned().collect();
-                self.set(State::Faulty(faults, after), !self.gathering.is_eager)?;
+                self.set(State::Faulty(faults, after), !self.timer.is_eager)?;
                 self.inputs.after.clear();
                 Ok(Round::Done)
             }
-            Outcome::Image => self.place(),
+            Outcome::Image => self.publish(),
         }
     }
 
-    fn refused(&mut self, refusals: Refusals) -> Result<Round, StepFault> {
+    fn set_refused(&mut self, refusals: Refusals) -> Result<Round, StepFault> {
         self.set(State::Refused(refusals), false)?;
         Ok(Round::Done)
     }
@@ -363,53 +362,53 @@ impl<'a> Watch<'a> {
     // the image
 
     /// Puts the image in place if it is the truth of all files; begins anew if something changed meanwhile.
-    fn place(&mut self) -> Result<Round, StepFault> {
+    fn publish(&mut self) -> Result<Round, StepFault> {
         if self.image.is_current && self.image.are_placed() {
-            if !matches!(self.standing.state, Some(State::Good(_))) {
-                let good = self.good(false);
+            if !matches!(self.reported.state, Some(State::Good(_))) {
+                let good = self.good_state(false);
                 self.set(good, true)?;
             }
             self.inputs.after.clear();
             return Ok(Round::Done);
         }
-        match self.try_place() {
+        match self.try_publish() {
             Ok(round) => Ok(round),
-            Err(PlaceFault::Image(ImageFault::Session(fault))) => Err(fault.into()),
-            Err(PlaceFault::Image(ImageFault::Refused(refusals))) => self.refused(refusals),
-            Err(PlaceFault::Image(ImageFault::NotWritten(NotWritten { path, fault }))) => {
+            Err(PublishFault::Image(ImageFault::Session(fault))) => Err(fault.into()),
+            Err(PublishFault::Image(ImageFault::Refused(refusals))) => self.set_refused(refusals),
+            Err(PublishFault::Image(ImageFault::NotWritten(NotWritten { path, fault }))) => {
                 let why = format!("it cannot be written: {}", plain(&fault));
                 self.set(State::Waiting(vec![(path.display().to_string(), why)]), false)?;
                 Ok(Round::Done)
             }
-            Err(PlaceFault::Watch(fault)) => Err(fault.into()),
+            Err(PublishFault::Watch(fault)) => Err(fault.into()),
         }
     }
 
-    fn try_place(&mut self) -> Result<Round, PlaceFault> {
+    fn try_publish(&mut self) -> Result<Round, PublishFault> {
         let (linking, image, words) = (&mut self.linking, &mut self.image, self.words);
-        let report = self.inputs.look_beside(|| linking.take_image(words, image))?;
-        if self.has_changed()? {
+        let report = self.inputs.look_beside(|| linking.write_image(words, image))?;
+        if self.find_changes()? {
             return Ok(Round::Changed);
         }
         if self.stops.ending().is_some() {
             return Ok(Round::Done);
         }
-        let is_written = !self.image.is_there();
+        let is_written = !self.image.adopt_if_same();
         let is_new = !self.image.is_current;
         if is_written {
             self.image.commit(self.stops)?;
         }
-        let good = self.good(is_written);
+        let good = self.good_state(is_written);
         if is_written {
             if let Err(fault) = self.image.write_gdb(self.stops) {
                 let why = format!("it cannot be written: {}", plain(&fault.fault));
-                self.teller.note(&fault.path.display().to_string(), &why).map_err(WatchFault::from)?;
+                self.reporter.note(&fault.path.display().to_string(), &why).map_err(WatchFault::from)?;
             }
         }
-        self.image.placed();
-        self.linking.is_placed();
+        self.image.note_published();
+        self.linking.note_published();
         if let Some(report) = report {
-            self.teller.adapted(report).map_err(WatchFault::from)?;
+            self.reporter.report_adapted(report).map_err(WatchFault::from)?;
         }
         self.set(good, true)?;
         if is_written && is_new {
@@ -419,18 +418,19 @@ impl<'a> Watch<'a> {
         Ok(Round::Done)
     }
 
-    /// Whether a file is not what was last read of it, as a look or an event says; it is read again then.
-    fn has_changed(&mut self) -> Result<bool, WatchFault> {
+    /// Takes the events; gives whether a file is not what was last read of it, and is to be read again.
+    fn find_changes(&mut self) -> Result<bool, WatchFault> {
         self.drain()?;
         if self.inputs.watcher.is_disturbed {
-            self.gathering.next_look = Instant::now();
+            self.timer.next_look = Instant::now();
             return Ok(true);
         }
         Ok(self.inputs.are_dirty())
     }
 
-    fn good(&mut self, is_written: bool) -> State {
-        let milliseconds = self.gathering.last.elapsed().as_secs_f64() * 1000.0;
+    /// The state after a good link; the names of changed inputs are taken for it.
+    fn good_state(&mut self, is_written: bool) -> State {
+        let milliseconds = self.timer.last.elapsed().as_secs_f64() * 1000.0;
         let after = std::mem::take(&mut self.inputs.after).into_iter().collect();
         let usage = self.linking.usage();
         State::Good(Good { after, milliseconds, length: self.image.length, is_written, usage })
@@ -452,21 +452,21 @@ impl<'a> Watch<'a> {
             return self.set(State::Waiting(vec![("the session".into(), "it ends again and again".into())]), true);
         }
         let how = status.map_or_else(|| "ended".to_owned(), how_ended);
-        self.teller.restarted(&format!("the session {how}"))?;
-        self.gathering.note_urgent(Instant::now());
+        self.reporter.report_restart(&format!("the session {how}"))?;
+        self.timer.note_urgent(Instant::now());
         Ok(())
     }
 
     // --once
 
     fn is_finished(&self) -> bool {
-        let is_still = !self.inputs.has_writers() && self.gathering.first.is_none();
-        self.linking.ends_always() || is_still && self.standing.is_said
+        let is_still = !self.inputs.has_writers() && self.timer.first.is_none();
+        self.linking.ends_always() || is_still && self.reported.is_said
     }
 
     /// The exit status, by the state that stands.
-    fn end_of_once(&mut self) -> Status {
-        match self.standing.state {
+    fn status_of_once(&mut self) -> Status {
+        match self.reported.state {
             Some(State::Good(_)) => {
                 self.commands.wait(self.stops);
                 return Status::Good;
@@ -511,25 +511,25 @@ impl<F: Into<WatchFault>> From<F> for StepFault {
 }
 
 /// What ends the placing of an image.
-enum PlaceFault {
+enum PublishFault {
     Image(ImageFault),
     Watch(WatchFault),
 }
 
-impl From<ImageFault> for PlaceFault {
-    fn from(fault: ImageFault) -> PlaceFault {
-        PlaceFault::Image(fault)
+impl From<ImageFault> for PublishFault {
+    fn from(fault: ImageFault) -> PublishFault {
+        PublishFault::Image(fault)
     }
 }
 
-impl From<NotWritten> for PlaceFault {
-    fn from(fault: NotWritten) -> PlaceFault {
-        PlaceFault::Image(fault.into())
+impl From<NotWritten> for PublishFault {
+    fn from(fault: NotWritten) -> PublishFault {
+        PublishFault::Image(fault.into())
     }
 }
 
-impl From<WatchFault> for PlaceFault {
-    fn from(fault: WatchFault) -> PlaceFault {
-        PlaceFault::Watch(fault)
+impl From<WatchFault> for PublishFault {
+    fn from(fault: WatchFault) -> PublishFault {
+        PublishFault::Watch(fault)
     }
 }

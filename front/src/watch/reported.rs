@@ -2,36 +2,36 @@
 
 use std::time::{Duration, Instant};
 
-use super::says::{NoOutput, State, Teller};
+use super::reporter::{NoOutput, Reporter, State};
 
 /// How long an input stays refused or away before it is said.
 pub(super) const BEFORE_SAID: Duration = Duration::from_millis(300);
 
 /// The state, and whether it was said.
 #[derive(Debug)]
-pub(super) struct Standing {
+pub(super) struct Reported {
     pub(super) state: Option<State>,
     pub(super) is_said: bool,
     since: Instant,
 }
 
-impl Standing {
-    pub(super) fn new() -> Standing {
-        Standing { state: None, is_said: false, since: Instant::now() }
+impl Reported {
+    pub(super) fn new() -> Reported {
+        Reported { state: None, is_said: false, since: Instant::now() }
     }
 
     /// Makes this the state; it is said now, or if it stays.
     ///
     /// # Errors
     /// If standard output cannot be written.
-    pub(super) fn set(&mut self, state: State, is_at_once: bool, teller: &mut Teller) -> Result<(), NoOutput> {
+    pub(super) fn set(&mut self, state: State, is_at_once: bool, reporter: &mut Reporter) -> Result<(), NoOutput> {
         if self.state.as_ref() != Some(&state) || matches!(state, State::Good(_)) {
             self.state = Some(state);
             self.since = Instant::now();
             self.is_said = false;
         }
         match is_at_once && !self.is_said {
-            true => self.say(teller),
+            true => self.say(reporter),
             false => Ok(()),
         }
     }
@@ -45,16 +45,16 @@ impl Standing {
     ///
     /// # Errors
     /// If standard output cannot be written.
-    pub(super) fn say_in_time(&mut self, now: Instant, teller: &mut Teller) -> Result<(), NoOutput> {
+    pub(super) fn say_in_time(&mut self, now: Instant, reporter: &mut Reporter) -> Result<(), NoOutput> {
         match self.time().map_or(false, |time| now >= time) {
-            true => self.say(teller),
+            true => self.say(reporter),
             false => Ok(()),
         }
     }
 
-    fn say(&mut self, teller: &mut Teller) -> Result<(), NoOutput> {
+    fn say(&mut self, reporter: &mut Reporter) -> Result<(), NoOutput> {
         if let Some(state) = &self.state {
-            teller.say(state)?;
+            reporter.say(state)?;
         }
         self.is_said = true;
         Ok(())

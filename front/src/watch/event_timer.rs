@@ -13,7 +13,7 @@ const PERIOD: Duration = Duration::from_secs(1);
 
 /// Events that are gathered.
 #[derive(Debug)]
-pub(super) struct Gathering {
+pub(super) struct EventTimer {
     /// When the first of them came; `None` if there is nothing to deal with.
     pub(super) first: Option<Instant>,
     /// When the last event came.
@@ -26,13 +26,13 @@ pub(super) struct Gathering {
     pub(super) is_eager: bool,
 }
 
-impl Gathering {
-    pub(super) fn new(now: Instant) -> Gathering {
-        Gathering { first: Some(now), last: now, next_look: now + PERIOD, is_urgent: true, is_eager: false }
+impl EventTimer {
+    pub(super) fn new(now: Instant) -> EventTimer {
+        EventTimer { first: Some(now), last: now, next_look: now + PERIOD, is_urgent: true, is_eager: false }
     }
 
     /// Notes an event of a file.
-    pub(super) fn event(&mut self, now: Instant) {
+    pub(super) fn note_event(&mut self, now: Instant) {
         if self.first.is_none() && now.saturating_duration_since(self.last) >= REST {
             self.is_urgent = true;
             self.is_eager = true;
@@ -72,7 +72,7 @@ impl Gathering {
     }
 
     /// Notes that all inputs were looked at.
-    pub(super) fn looked(&mut self, now: Instant) {
+    pub(super) fn note_look(&mut self, now: Instant) {
         self.next_look = now + PERIOD;
     }
 
@@ -84,36 +84,36 @@ impl Gathering {
 
 #[cfg(test)]
 mod tests {
-    use super::{Gathering, LONGEST_GATHERING, QUIET, REST};
+    use super::{EventTimer, LONGEST_GATHERING, QUIET, REST};
     use std::time::{Duration, Instant};
 
-    fn after_rest() -> (Gathering, Instant) {
+    fn after_rest() -> (EventTimer, Instant) {
         let now = Instant::now();
-        let mut gathering = Gathering::new(now);
-        gathering.begin();
-        (gathering, now + REST)
+        let mut timer = EventTimer::new(now);
+        timer.begin();
+        (timer, now + REST)
     }
 
     #[test]
     fn an_event_after_rest_is_dealt_with_at_once_and_a_burst_is_gathered() {
-        let (mut gathering, now) = after_rest();
-        gathering.event(now);
-        assert_eq!((gathering.due(), gathering.is_eager), (Some(now), true));
-        gathering.begin();
-        gathering.end();
+        let (mut timer, now) = after_rest();
+        timer.note_event(now);
+        assert_eq!((timer.due(), timer.is_eager), (Some(now), true));
+        timer.begin();
+        timer.end();
         let next = now + Duration::from_millis(3);
-        gathering.event(next);
-        assert_eq!((gathering.due(), gathering.is_eager), (Some(next + QUIET), false));
+        timer.note_event(next);
+        assert_eq!((timer.due(), timer.is_eager), (Some(next + QUIET), false));
         for _ in 0..30 {
-            gathering.event(gathering.last + Duration::from_millis(10));
+            timer.note_event(timer.last + Duration::from_millis(10));
         }
-        assert_eq!(gathering.due(), Some(next + LONGEST_GATHERING));
+        assert_eq!(timer.due(), Some(next + LONGEST_GATHERING));
     }
 
     #[test]
     fn the_end_of_a_command_is_dealt_with_at_once() {
-        let (mut gathering, now) = after_rest();
-        gathering.note_urgent(now);
-        assert_eq!(gathering.due(), Some(now));
+        let (mut timer, now) = after_rest();
+        timer.note_urgent(now);
+        assert_eq!(timer.due(), Some(now));
     }
 }

@@ -57,7 +57,7 @@ enum Known {
 
 /// Says each state once.
 #[derive(Debug)]
-pub(super) struct Teller {
+pub(super) struct Reporter {
     is_json: bool,
     is_coloured: bool,
     image: PathBuf,
@@ -68,9 +68,9 @@ pub(super) struct Teller {
     report: Option<Report>,
 }
 
-impl Teller {
-    pub(super) fn new(is_json: bool, image: &Path) -> Teller {
-        Teller {
+impl Reporter {
+    pub(super) fn new(is_json: bool, image: &Path) -> Reporter {
+        Reporter {
             is_json,
             is_coloured: !is_json && has_colours(&io::stdout()),
             image: image.to_owned(),
@@ -104,7 +104,7 @@ impl Teller {
     }
 
     /// Says that the session was started again.
-    pub(super) fn restarted(&self, why: &str) -> Result<(), NoOutput> {
+    pub(super) fn report_restart(&self, why: &str) -> Result<(), NoOutput> {
         match self.is_json {
             true => self.object("restarted", |json| json.text("why", why)),
             false => self.line(YELLOW, "session", &format!(": {why}; started again")),
@@ -112,7 +112,7 @@ impl Teller {
     }
 
     /// Says what was changed in a script of GNU ld, and which options have no effect, if that is new.
-    pub(super) fn adapted(&mut self, report: Report) -> Result<(), NoOutput> {
+    pub(super) fn report_adapted(&mut self, report: Report) -> Result<(), NoOutput> {
         if report.lines.is_empty() || self.report.as_ref() == Some(&report) {
             return Ok(());
         }
@@ -136,7 +136,7 @@ impl Teller {
     }
 
     /// Says that the command of `--run` has ended with a status that is not 0.
-    pub(super) fn command_ended(&self, command: &str, status: ExitStatus) -> Result<(), NoOutput> {
+    pub(super) fn report_command_end(&self, command: &str, status: ExitStatus) -> Result<(), NoOutput> {
         match self.is_json {
             true => Ok(()),
             false => self.line(YELLOW, "run", &format!(": `{command}` {}", how_ended(status))),
@@ -300,7 +300,7 @@ fn listed(names: &[String]) -> String {
 
 #[cfg(test)]
 mod tests {
-    use super::{kind_of, listed, Teller};
+    use super::{kind_of, listed, Reporter};
     use crate::report::Diagnostic;
     use std::path::Path;
 
@@ -319,10 +319,10 @@ mod tests {
 
     #[test]
     fn faults_that_stand_longest_come_first_wherever_code_moves_them() {
-        let mut teller = Teller::new(true, Path::new("image"));
-        teller.sort(&mut [fault("F12 a.o .text 0000000000000010 x")]);
+        let mut reporter = Reporter::new(true, Path::new("image"));
+        reporter.sort(&mut [fault("F12 a.o .text 0000000000000010 x")]);
         let mut next = [fault("F12 b.o .text 0000000000000010 x"), fault("F12 a.o .text 0000000000000020 x")];
-        teller.sort(&mut next);
+        reporter.sort(&mut next);
         assert!(next[0].rule.as_deref().unwrap().contains("a.o"));
         assert_eq!(kind_of(&next[0]), ["F12", "a.o", ".text", "x"]);
     }

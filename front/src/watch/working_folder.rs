@@ -6,13 +6,13 @@ use super::events::identity;
 
 /// The folder in which the program was started.
 #[derive(Debug)]
-pub(super) struct Here {
+pub(super) struct WorkingFolder {
     pub(super) path: PathBuf,
 }
 
-impl Here {
-    pub(super) fn new() -> Here {
-        Here { path: real(Path::new(".")) }
+impl WorkingFolder {
+    pub(super) fn new() -> WorkingFolder {
+        WorkingFolder { path: real(Path::new(".")) }
     }
 
     /// Whether another folder has the name now.
@@ -21,8 +21,8 @@ impl Here {
         named.is_some() && named != identity(Path::new("."))
     }
 
-    /// Goes into the folder that has the name now, if that is another one; says whether it did.
-    pub(super) fn look(&self) -> bool {
+    /// Goes into the folder that has the name now, if that is another one; gives whether it did.
+    pub(super) fn enter_renewed(&self) -> bool {
         self.is_left() && std::env::set_current_dir(&self.path).is_ok()
     }
 }
