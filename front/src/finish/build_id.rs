@@ -64,7 +64,7 @@ fn of_pieces<R: Rounds + Default>(file: &FileImage, id: &Range<u64>) -> Vec<u8> 
         });
     }
     let mut whole = Digest::<R>::new();
-    hashes.iter().for_each(|hash| whole.take(hash));
+    hashes.iter().for_each(|hash| whole.update(hash));
     whole.finish()
 }
 
@@ -75,34 +75,34 @@ fn fill(file: &FileImage, id: &Range<u64>, first: usize, hashes: &mut [Vec<u8>])
         let end = (start + PIECE).min(file.len());
         let (before, after) = (id.start.clamp(start, end), id.end.clamp(start, end));
         let mut digest = Digest::<Quick>::new();
-        take(&mut digest, file, start..before);
-        take_zeros(&mut digest, after - before);
-        take(&mut digest, file, after..end);
+        hash_stretch(&mut digest, file, start..before);
+        hash_zeros(&mut digest, after - before);
+        hash_stretch(&mut digest, file, after..end);
         *hash = digest.finish();
     }
 }
 
-/// Takes a stretch of the file.
-fn take(digest: &mut Digest<Quick>, file: &FileImage, stretch: Range<u64>) {
+/// Hashes a stretch of the file.
+fn hash_stretch(digest: &mut Digest<Quick>, file: &FileImage, stretch: Range<u64>) {
     let mut at = stretch.start;
     for (place, bytes) in file.pieces_from(stretch.start) {
         if place >= stretch.end {
             break;
         }
         let start = at.max(place);
-        take_zeros(digest, start - at);
+        hash_zeros(digest, start - at);
         let end = stretch.end.min(place + bytes.len() as u64).max(start);
         let within = |at: u64| usize::try_from(at - place).unwrap_or(usize::MAX);
-        digest.take(bytes.get(within(start)..within(end)).unwrap_or_default());
+        digest.update(bytes.get(within(start)..within(end)).unwrap_or_default());
         at = end;
     }
-    take_zeros(digest, stretch.end.saturating_sub(at));
+    hash_zeros(digest, stretch.end.saturating_sub(at));
 }
 
-fn take_zeros(digest: &mut Digest<Quick>, mut count: u64) {
+fn hash_zeros(digest: &mut Digest<Quick>, mut count: u64) {
     while count > 0 {
         let some = count.min(ZEROS.len() as u64);
-        digest.take(ZEROS.get(..some as usize).unwrap_or_default());
+        digest.update(ZEROS.get(..some as usize).unwrap_or_default());
         count -= some;
     }
 }
@@ -135,9 +135,9 @@ mod tests {
     #[test]
     fn a_small_file_is_one_piece() {
         let mut inner = Digest::<Quick>::new();
-        inner.take(b"a\0\0d");
+        inner.update(b"a\0\0d");
         let mut outer = Digest::<Sha1>::new();
-        outer.take(&inner.finish());
+        outer.update(&inner.finish());
         assert_eq!(hash_of(&file(b"abcd"), HashKind::Sha1, 1..3), outer.finish());
     }
 

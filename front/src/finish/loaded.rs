@@ -44,7 +44,7 @@ fn holds(segment: &Segment, section: &Section, load: u64) -> bool {
     segment.kind == elf::PT_LOAD && is_inside && distance == load.wrapping_sub(section.address)
 }
 
-/// What is another in the bytes that a segment loads for a section.
+/// The first difference in the bytes that a segment loads for a section; `None` if there is none.
 fn difference(file: &FileImage, segment: &Segment, section: &Section, content: &[u8]) -> Option<&'static str> {
     let within = section.address.wrapping_sub(segment.address);
     let in_file = segment.file_size.saturating_sub(within).min(section.size);

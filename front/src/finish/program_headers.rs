@@ -293,7 +293,7 @@ impl Writer<'_> {
         end
     }
 
-    /// What FLAGS says, else the rights of the sections; headers are read.
+    /// The rights of a segment: FLAGS, else those of its sections; headers are read.
     fn rights(&self, entry: &Entry<'_>) -> u32 {
         if let Some(flags) = entry.wanted.flags {
             return flags;

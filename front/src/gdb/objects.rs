@@ -35,7 +35,7 @@ enum WhyMissing {
     NoMember,
 }
 
-/// What the system says, without the number that Rust adds.
+/// The system's message of a fault, without the number that Rust adds.
 pub(super) fn plain(fault: &io::Error) -> String {
     fault.to_string().split(" (os error").next().unwrap_or_default().to_owned()
 }

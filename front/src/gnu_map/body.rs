@@ -288,7 +288,7 @@ fn hex(bytes: &[u8]) -> String {
     bytes.iter().map(|byte| format!("{byte:02x}")).collect()
 }
 
-/// What stands at the places of a script.
+/// The statements of a script, by their places.
 fn nodes_of(script: &Script) -> HashMap<Span, Node<'_>> {
     let mut nodes = HashMap::new();
     for statement in &script.statements {

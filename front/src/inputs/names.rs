@@ -21,7 +21,7 @@ pub enum NameState {
 }
 
 impl NameState {
-    /// What an object has of a name by its symbol.
+    /// The state that an object's symbol gives its name.
     pub fn of(symbol: &Symbol<'_>) -> NameState {
         match (symbol.home, symbol.binding) {
             (Home::Undefined, Binding::Weak) => NameState::UndefinedWeak,
@@ -32,7 +32,7 @@ impl NameState {
         }
     }
 
-    /// What is known after an object that has this of the name.
+    /// The state of a name after a further object, which gives it the state `found`.
     pub(super) fn after(old: Option<NameState>, found: NameState) -> NameState {
         use NameState::{Common, Defined, Undefined, UndefinedWeak, Weak};
         match (found, old) {
@@ -107,7 +107,7 @@ impl Names {
         self.known.iter().filter_map(|(name, state)| Some((name, (*state)?)))
     }
 
-    /// What is known of a name that was asked for.
+    /// The state of a name that was asked for.
     pub fn state(&self, name: &BStr) -> Option<NameState> {
         self.known.get(name).copied().flatten()
     }

@@ -44,7 +44,7 @@ pub struct ScriptInputs {
 }
 
 impl ScriptInputs {
-    /// What a script says.
+    /// The files, folders and names that a script gives.
     pub fn of(script: &Script) -> ScriptInputs {
         let mut found = ScriptInputs::default();
         script.statements.iter().for_each(|statement| found.read_statement(&statement.node));
@@ -90,7 +90,7 @@ impl ScriptInputs {
         names.first().map_or(false, |name| name == ELF)
     }
 
-    /// What a script in the place of an object may not have; gives its name.
+    /// Notes a statement that a script in the place of an object may not have; gives its name.
     fn take_other(&mut self, statement: &Statement) -> String {
         match statement {
             Statement::Startup(name) => {

@@ -47,7 +47,7 @@ pub(crate) fn room(place: &Place) -> u64 {
 }
 
 impl Link<'_> {
-    /// What SIZEOF_HEADERS is now.
+    /// The value of SIZEOF_HEADERS now.
     pub fn headers_size(&mut self) -> u64 {
         let count = match self.headers.count {
             Some(count) => count,

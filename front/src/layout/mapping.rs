@@ -56,7 +56,7 @@ impl Link<'_> {
         Ok(())
     }
 
-    /// What a statement under KEEP matches is kept.
+    /// Keeps the sections that statements under KEEP match.
     pub fn keep(&mut self, rows: &Rows) {
         for (taking, matches) in self.program.takings.iter().zip(&rows.matches) {
             if taking.node.is_kept {

@@ -17,7 +17,7 @@ pub(crate) struct Match {
     pub pattern: Option<u32>,
 }
 
-/// What each statement matches, in the order of the sections.
+/// The sections that each statement matches, in their order.
 pub(crate) fn matches_of(
     takings: &[Taking],
     sections: &[InputSection],

@@ -12,7 +12,7 @@ use super::stop::Stop;
 use object::elf;
 
 /// The flags by which a section is like another.
-fn look() -> Flags {
+fn likeness() -> Flags {
     Flags::CONTENTS | Flags::ALLOC | Flags::LOAD | Flags::READONLY | Flags::CODE | Flags::TLS
 }
 
@@ -367,13 +367,13 @@ fn relocations(link: &Link<'_>) -> Option<OutputId> {
 
 /// The output section after which one of these flags goes, and whether it has the same ones.
 fn by_flags(link: &Link<'_>, kind: u32, flags: Flags) -> (Option<OutputId>, bool) {
-    if let Some(found) = last_like(link, flags, look(), Some(kind)) {
+    if let Some(found) = last_like(link, flags, likeness(), Some(kind)) {
         return (Some(found), true);
     }
     if let Some(found) = near(link, flags, Some(kind)) {
         return (Some(found), false);
     }
-    (last_like(link, flags, look(), None).or_else(|| near(link, flags, None)), false)
+    (last_like(link, flags, likeness(), None).or_else(|| near(link, flags, None)), false)
 }
 
 /// By fewer flags: what is like it most.

@@ -16,7 +16,7 @@ pub enum Taker {
 }
 
 impl Layout {
-    /// What takes a section of an object first, in the order of the script.
+    /// Which kind of statement takes a section of an object first, in the order of the script.
     pub fn taker(&self, object: ObjectIndex, number: SectionIndex) -> Taker {
         let section = match self.rows.find(object, number) {
             Some(section) => section,

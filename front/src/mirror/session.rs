@@ -239,7 +239,7 @@ struct Buffer {
 }
 
 impl Buffer {
-    /// What is not used yet.
+    /// The bytes that were read and not used yet.
     fn rest(&self) -> &[u8] {
         self.bytes.get(self.at..).unwrap_or_default()
     }

@@ -145,7 +145,7 @@ struct Entry<'a> {
     align: u32,
     part: u32,
     offset: u64,
-    /// The entry that it is the end of.
+    /// The longer entry that ends with this one.
     whole: Option<u32>,
 }
 

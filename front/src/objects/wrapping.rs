@@ -15,7 +15,7 @@ const OFFSET_AT: usize = 24;
 const SIZE_AT: usize = 32;
 const SYMBOL: usize = std::mem::size_of::<Sym64<Little>>();
 
-/// What a reference to a name is to; `None` if that is the name itself.
+/// The name that a reference to a name is to, under `--wrap`; `None` if that is the name itself.
 pub fn wrapped_name(name: &BStr, wraps: &[BString]) -> Option<BString> {
     let has = |name: &[u8]| wraps.iter().any(|one| one == name);
     if has(name) {

@@ -88,7 +88,7 @@ pub(super) fn say_no_script(error: &ScriptError) {
     say_all(&[Diagnostic::from(error)]);
 }
 
-/// What was passed over in the scripts.
+/// Prints warnings of what was passed over in the scripts.
 pub(super) fn say_warnings(plan: &LinkPlan) {
     say_all(&warnings(plan));
 }

@@ -40,7 +40,7 @@ pub struct NotWritten {
     pub fault: io::Error,
 }
 
-/// What the system says, without the number that Rust adds.
+/// The system's message of a fault, without the number that Rust adds.
 fn plain(fault: &io::Error) -> String {
     let text = fault.to_string();
     text.split(" (os error").next().unwrap_or_default().to_owned()

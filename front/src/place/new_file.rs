@@ -219,7 +219,7 @@ pub fn put_in_place(beside: &Path, target: &Path) -> io::Result<Option<PathBuf>>
     Ok(None)
 }
 
-/// What a path leads to by symbolic links, also if no file is there yet.
+/// The path that a path leads to by symbolic links, also if no file is there yet.
 pub(super) fn resolved(path: &Path) -> io::Result<PathBuf> {
     let mut path = path.to_owned();
     for _ in 0..MOST_LINKS {

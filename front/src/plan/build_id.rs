@@ -70,7 +70,7 @@ impl Identity {
         Ok(Identity { style, id, objects })
     }
 
-    /// What the note has.
+    /// The style of the ID in the note.
     pub fn style(&self) -> &BuildId {
         &self.style
     }
@@ -110,7 +110,7 @@ impl Identity {
     }
 }
 
-/// What takes the note, by the script alone.
+/// Which kind of statement takes the note, by the script alone.
 fn taker_of(command: &Command, scripts: &Scripts, first: &Object, own: &Object) -> Taker {
     let objects = [first.clone(), own.clone()];
     let settings = settings_of(command, scripts);

@@ -89,7 +89,7 @@ impl Remade {
         self.merges = Arc::clone(&evaluation.merges);
     }
 
-    /// What merging changes, by the places of objects.
+    /// What merging changes in objects and asks of them, by their places.
     fn wanted(
         &self,
         objects: &[Object],

@@ -158,7 +158,7 @@ fn put_defsyms(
     Ok(())
 }
 
-/// What a part of the statements says of files and names.
+/// The files and names that a part of the statements gives.
 fn part_of(script: &Script, range: std::ops::Range<usize>) -> ScriptInputs {
     let statements = script.statements.get(range).unwrap_or_default().to_vec();
     ScriptInputs::of(&Script { statements })

@@ -9,7 +9,7 @@ use crate::command::{Command, Input, Orphans};
 use crate::layout::settings::{GcSettings, OrphanHandling};
 use crate::layout::Settings;
 
-/// What a command and its scripts say of a layout.
+/// The settings of a layout for a command and its scripts.
 pub fn settings_of(command: &Command, scripts: &Scripts) -> Settings {
     let mut settings = Settings {
         paged: !command.is_omagic && !command.is_nmagic,

@@ -171,7 +171,7 @@ fn is_weak(name: &BStr, objects: &[Object]) -> bool {
     !objects.iter().any(is_strong)
 }
 
-/// What has entries: the symbols of references that are in the image.
+/// The entries of the table: the symbols of references that are in the image.
 fn entries_of(objects: &[Object], is_live: &dyn Fn(usize, SectionIndex) -> bool) -> BTreeSet<Entry> {
     let places = objects.iter().enumerate();
     let references = places.flat_map(|(place, object)| object.tabled().iter().map(move |one| (place, object, one)));

@@ -98,7 +98,7 @@ fn pattern_fault(word: &[u8]) -> (Cause, String) {
     (Cause::Tokens, why)
 }
 
-/// What is wrong with the sets of a word.
+/// The fault of the sets of a word; `None` if they have none.
 fn set_fault(word: &[u8]) -> Option<&'static str> {
     let mut rest = word;
     loop {

@@ -77,7 +77,7 @@ impl Outline {
         outline
     }
 
-    /// What the statements that begin on a line have of divisions and ALIGN.
+    /// The divisions and ALIGNs in the statements that begin on a line.
     pub fn doubtful(&self, line: u32) -> Doubtful {
         self.doubtful.get(&line).copied().unwrap_or_default()
     }

@@ -67,7 +67,7 @@ pub(super) fn relocation_name(kind: u32) -> String {
     }
 }
 
-/// What a type that `ldi` does not link needs.
+/// What a link needs for a relocation of a type that `ldi` does not link.
 pub(super) fn need_of(kind: u32) -> Need {
     match kind {
         16..=23 | 34..=36 => Need::Tls,

@@ -73,7 +73,7 @@ impl Diagnostic {
         }
     }
 
-    /// What stands in front of the sentence: the place.
+    /// The front of the message, before the sentence: the place.
     fn prefix(&self) -> String {
         let mut prefix = String::new();
         if let Some(file) = &self.file {

@@ -230,7 +230,7 @@ impl Rendering<'_> {
         self.inserts_of(at, false);
     }
 
-    /// What is inserted at an offset in front of all, or what is not.
+    /// Writes the texts that are inserted at an offset: those in front of all, or the others.
     fn inserts_of(&mut self, at: u32, is_front: bool) {
         let edits = self.edits;
         let all = edits.inserted.get(&at).map(Vec::as_slice).unwrap_or_default();

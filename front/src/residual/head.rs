@@ -190,7 +190,7 @@ impl<'a> Walk<'a> {
         own
     }
 
-    /// What is said of words of a head that the profile has not.
+    /// Reports words of a head that the profile does not have.
     fn said_of_head(&mut self, section: &OutputSection, place: Option<&Placed>, span: Span) {
         let name = section.name.node.clone();
         if let Some(kind) = &section.kind {

@@ -116,7 +116,7 @@ impl Residual {
         self.notes.iter().any(|note| note.kind == NoteKind::Left)
     }
 
-    /// What has another meaning now.
+    /// The notes of constructs that have another meaning now.
     pub fn changed(&self) -> impl Iterator<Item = &Note> {
         self.notes.iter().filter(|note| note.kind == NoteKind::Changed)
     }

@@ -71,7 +71,7 @@ impl Counting<'_, '_> {
         self.walk.inside.as_ref().filter(|inside| !inside.is_absolute).map(|inside| inside.id)
     }
 
-    /// What a plain number is here.
+    /// The kind of a plain number here.
     fn plain(&self) -> Kind {
         let is_sane = |statement: &Statement| matches!(statement, Statement::Feature(word) if *word == "SANE_EXPR");
         match self.own().is_some() || self.walk.script.statements.iter().any(|one| is_sane(&one.node)) {
@@ -80,7 +80,7 @@ impl Counting<'_, '_> {
         }
     }
 
-    /// What an address is here (ldexp.c, `new_rel_from_abs`).
+    /// The kind of an address here (ldexp.c, `new_rel_from_abs`).
     fn address(&self) -> Kind {
         self.own().map_or(Kind::Absolute, Kind::Section)
     }

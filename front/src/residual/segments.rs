@@ -80,7 +80,7 @@ fn members<'a>(walk: &'a Walk<'_>) -> Vec<Member<'a>> {
     found.into_iter().map(|(_, member)| member).collect()
 }
 
-/// What GNU ld refuses of names.
+/// Refuses names of segments that GNU ld refuses.
 fn check_names(headers: &[&Spanned<ProgramHeader>], members: &[Member<'_>]) -> Result<(), String> {
     for member in members {
         for name in &member.segments {

@@ -273,7 +273,7 @@ impl<'a> Walk<'a> {
         (!labels.is_empty()).then(|| format!("{}{more}", labels.join(", ")))
     }
 
-    /// What a file of INCLUDE has stands in the text already.
+    /// Notes each INCLUDE: what its file has stands in the text already.
     fn includes(&mut self) {
         let source = self.request.source;
         for (span, path) in source.includes() {

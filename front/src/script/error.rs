@@ -114,7 +114,7 @@ impl ScriptError {
         self.0.line.as_bstr()
     }
 
-    /// What may be meant.
+    /// A sentence on what may be meant.
     #[must_use]
     pub fn hint(&self) -> Option<&str> {
         self.0.hint.as_deref()

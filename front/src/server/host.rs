@@ -84,7 +84,7 @@ impl ServerHost {
         ServerHost { files, found: RefCell::default() }
     }
 
-    /// What the link left.
+    /// Why another linker is to link, or why the server cannot, if so.
     pub(super) fn found(self) -> Found {
         self.found.into_inner()
     }

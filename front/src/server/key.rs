@@ -102,7 +102,7 @@ pub(super) fn output_of(words: &[OsString]) -> PathBuf {
     found.into()
 }
 
-/// What a path leads to, also if no file is there yet.
+/// The path without symbolic links, also if no file is there yet.
 pub(super) fn real_path(path: &Path) -> PathBuf {
     if let Ok(whole) = path.canonicalize() {
         return whole;

@@ -119,7 +119,7 @@ impl Links {
         Outcome::declined("inputs change all the time")
     }
 
-    /// What came of a link; `None` if inputs are others meanwhile.
+    /// The outcome of a link; `None` if inputs changed meanwhile.
     fn outcome(&mut self, done: Done, found: Found, texts: Vec<Printed>, wish: &Wish) -> Option<Outcome> {
         let Done(status, planned) = done;
         let hindrance = self.hindrance(status, &found);
@@ -225,7 +225,7 @@ impl Links {
         Some(changed)
     }
 
-    /// What the default script is made of, if it is that of the link.
+    /// The linker that the default script is asked of, with its stamp; `None` if the link has a script of its own.
     fn default_script(&self, planned: &Planned) -> Option<(PathBuf, Option<Stamp>)> {
         if planned.plan.inputs.scripts.is_own {
             return None;

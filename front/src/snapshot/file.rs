@@ -107,7 +107,7 @@ impl From<ReadFault> for io::Error {
     }
 }
 
-/// What the system says, without the number that Rust adds.
+/// The system's message of a fault, without the number that Rust adds.
 fn plain(fault: &io::Error) -> String {
     let text = fault.to_string();
     text.split(" (os error").next().unwrap_or_default().to_owned()
@@ -124,7 +124,7 @@ pub struct Seen {
     pub is_settled: bool,
 }
 
-/// What the system says of a path, through symbolic links.
+/// The system's data on the file at a path, through symbolic links.
 pub fn stat(path: &Path) -> Result<Stat, ReadFault> {
     rustix::fs::statat(cwd(), path, AtFlags::empty()).map_err(ReadFault::of)
 }

@@ -200,7 +200,7 @@ impl Snapshot {
         self.files.keys().map(PathBuf::as_path)
     }
 
-    /// What was read of a path.
+    /// The file that was read at a path.
     pub fn seen(&self, path: &Path) -> Option<&Seen> {
         self.files.get(path)?.as_ref()
     }
@@ -248,7 +248,7 @@ impl ScriptFiles for Snapshot {
     }
 }
 
-/// What was read, with the bytes of before if they are equal.
+/// A file that was read, with the bytes of before if they are equal.
 fn with_old_bytes(mut found: Seen, old: &Seen) -> Seen {
     if found.data == old.data {
         found.data = old.data.clone();

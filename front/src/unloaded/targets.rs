@@ -34,7 +34,7 @@ pub(super) struct Targets<'a> {
 }
 
 impl Targets<'_> {
-    /// What a symbol of an object stands for.
+    /// The target of a symbol of an object, with an addend.
     pub(super) fn of(&self, object: ObjectIndex, number: SymbolIndex, addend: u64) -> Target {
         let own = self.objects.get(object.0 as usize);
         let symbol = match own.and_then(|own| own.symbol(number)) {

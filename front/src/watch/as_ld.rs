@@ -286,7 +286,7 @@ fn refusals(plan: &LinkPlan, brought: &Brought, environment: &Environment) -> Ve
     said
 }
 
-/// What is left of the script, which `ldi` does not link.
+/// Lines on what is left of the script, which `ldi` does not link.
 fn lines_of_left(plan: &LinkPlan) -> Vec<String> {
     let left = plan.residual.notes.iter().filter(|note| note.kind == NoteKind::Left);
     let mut lines: Vec<String> = left.map(Note::to_string).collect();

@@ -44,7 +44,7 @@ pub(super) struct NotWatched {
     fault: io::Error,
 }
 
-/// What the system says, without the number that Rust adds.
+/// The system's message of a fault, without the number that Rust adds.
 pub(super) fn plain(fault: &io::Error) -> String {
     fault.to_string().split(" (os error").next().unwrap_or_default().to_owned()
 }
@@ -92,8 +92,8 @@ impl Watcher {
         self.inotify.as_ref()
     }
 
-    /// Watches a folder too, if it is there; `watch_renewed` tries those again that are not. Says whether it is watched only
-    /// now.
+    /// Watches a folder too, if it is there; `watch_renewed` tries those again that are not. Gives whether it is watched
+    /// only now.
     ///
     /// # Errors
     /// If the system watches no more folders.

@@ -29,7 +29,7 @@ impl Jobserver {
     }
 }
 
-/// What the flags say of the jobserver.
+/// The word of the flags that names the jobserver.
 fn named(flags: &str) -> Option<&str> {
     flags.split_whitespace().find_map(|word| PREFIXES.iter().find_map(|prefix| word.strip_prefix(prefix)))
 }

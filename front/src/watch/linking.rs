@@ -256,7 +256,7 @@ impl Linking {
         self.sizes = self.own_sizes();
     }
 
-    /// What the next image does to sizes.
+    /// How the next image changes sizes.
     pub(super) fn usage(&self) -> Usage {
         self.own_sizes().map_or_else(Usage::default, |sizes| sizes.since(self.sizes.as_ref()))
     }

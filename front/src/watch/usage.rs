@@ -46,7 +46,7 @@ impl Sizes {
         sizes
     }
 
-    /// What has changed since; without others all regions, and no section.
+    /// The changes since other sizes; without these all regions, and no section.
     pub(super) fn since(&self, before: Option<&Sizes>) -> Usage {
         let before = match before {
             Some(before) => before,

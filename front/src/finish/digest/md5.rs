@@ -29,7 +29,7 @@ const SINES: [u32; 64] = [
 ];
 
 impl Rounds for Md5 {
-    fn take(&mut self, block: &[u8; BLOCK]) {
+    fn hash_block(&mut self, block: &[u8; BLOCK]) {
         let x = words(block, u32::from_le_bytes);
         let [mut a, mut b, mut c, mut d] = self.0;
         for (step, sine) in SINES.iter().enumerate() {

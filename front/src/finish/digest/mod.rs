@@ -13,8 +13,8 @@ const BLOCK: usize = 64;
 
 /// The rounds of a hash over blocks of 64 bytes, and the words of its state.
 pub(super) trait Rounds {
-    /// Takes a block.
-    fn take(&mut self, block: &[u8; BLOCK]);
+    /// Hashes a block.
+    fn hash_block(&mut self, block: &[u8; BLOCK]);
     /// The number of the bits that were hashed, as the last block has it.
     fn length(bits: u64) -> [u8; 8];
     /// The hash.
@@ -36,22 +36,22 @@ impl<R: Rounds + Default> Digest<R> {
         Digest { rounds: R::default(), rest: Vec::with_capacity(BLOCK), length: 0 }
     }
 
-    /// Takes bytes.
-    pub(super) fn take(&mut self, mut bytes: &[u8]) {
+    /// Hashes further bytes.
+    pub(super) fn update(&mut self, mut bytes: &[u8]) {
         self.length = self.length.wrapping_add(bytes.len() as u64);
         if !self.rest.is_empty() {
             let (front, rest) = bytes.split_at(bytes.len().min(BLOCK - self.rest.len()));
             self.rest.extend_from_slice(front);
             bytes = rest;
             match <&[u8; BLOCK]>::try_from(self.rest.as_slice()) {
-                Ok(block) => self.rounds.take(block),
+                Ok(block) => self.rounds.hash_block(block),
                 Err(_) => return,
             }
             self.rest.clear();
         }
         let mut blocks = bytes.chunks_exact(BLOCK);
         for block in blocks.by_ref().filter_map(|block| block.try_into().ok()) {
-            self.rounds.take(block);
+            self.rounds.hash_block(block);
         }
         self.rest.extend_from_slice(blocks.remainder());
     }
@@ -62,7 +62,7 @@ impl<R: Rounds + Default> Digest<R> {
         let mut end = vec![0x80];
         end.resize(1 + (BLOCK + 55 - self.rest.len()) % BLOCK, 0);
         end.extend(R::length(bits));
-        self.take(&end);
+        self.update(&end);
         self.rounds.end()
     }
 }
@@ -86,7 +86,7 @@ mod tests {
 
     fn hash<R: Rounds + Default>(parts: &[&[u8]]) -> String {
         let mut digest = Digest::<R>::new();
-        parts.iter().for_each(|part| digest.take(part));
+        parts.iter().for_each(|part| digest.update(part));
         hex(&digest.finish())
     }
 

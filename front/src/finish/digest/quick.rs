@@ -38,7 +38,7 @@ fn taken((one, other): (u64, u64), (first, second): (u64, u64), (key, other_key)
 }
 
 impl Rounds for Quick {
-    fn take(&mut self, block: &[u8; BLOCK]) {
+    fn hash_block(&mut self, block: &[u8; BLOCK]) {
         let mut w = [0; BLOCK / 8];
         for (to, from) in w.iter_mut().zip(block.chunks_exact(8)) {
             *to = from.try_into().map_or(0, u64::from_le_bytes);
@@ -68,7 +68,7 @@ mod tests {
 
     fn hash(text: &[u8]) -> Vec<u8> {
         let mut digest = Digest::<Quick>::new();
-        digest.take(text);
+        digest.update(text);
         digest.finish()
     }
 

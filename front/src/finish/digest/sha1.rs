@@ -13,7 +13,7 @@ impl Default for Sha1 {
 }
 
 impl Rounds for Sha1 {
-    fn take(&mut self, block: &[u8; BLOCK]) {
+    fn hash_block(&mut self, block: &[u8; BLOCK]) {
         let mut w = words(block, u32::from_be_bytes);
         let [mut a, mut b, mut c, mut d, mut e] = self.0;
         for step in 0..80 {

@@ -150,7 +150,7 @@ impl LinkedNames {
                 if is_anew.get(*place as usize) == Some(&true) {
                     let is_unique = object.unique().binary_search(&symbol.index).is_ok();
                     let one = self.names.get_mut(*place as usize);
-                    one.into_iter().for_each(|one| one.said.take(number, &symbol, is_unique));
+                    one.into_iter().for_each(|one| one.said.add_object(number, &symbol, is_unique));
                 }
             }
         }
@@ -320,8 +320,8 @@ impl Said {
         self.rank == Some(Rank::Weak)
     }
 
-    /// What one more object says (elflink.c, `elf_link_add_object_symbols`, `elf_merge_st_other`).
-    fn take(&mut self, object: usize, symbol: &Symbol<'_>, is_unique: bool) {
+    /// Adds what one more object says (elflink.c, `elf_link_add_object_symbols`, `elf_merge_st_other`).
+    fn add_object(&mut self, object: usize, symbol: &Symbol<'_>, is_unique: bool) {
         let (own, other) = (self.visibility.wrapping_sub(1), symbol.visibility.number().wrapping_sub(1));
         self.visibility = own.min(other).wrapping_add(1);
         let rank = symbol.rank();
@@ -371,7 +371,7 @@ mod tests {
 
     fn of(symbols: &[Symbol<'_>]) -> (u8, u64, u8) {
         let mut known = Said::default();
-        symbols.iter().for_each(|symbol| known.take(0, symbol, false));
+        symbols.iter().for_each(|symbol| known.add_object(0, symbol, false));
         (known.kind, known.size, known.visibility)
     }
 

@@ -84,9 +84,9 @@ impl Outputs {
             one.size == place.size && one.output.address == place.address && place.size != 0
         };
         let is_named = |one: &Header<'_>, name: &BStr, _: &Placed| one.name == name;
-        outputs.take(&mut wanted, &mut headers, &is_there);
-        outputs.take(&mut wanted, &mut headers, &is_at);
-        outputs.take(&mut wanted, &mut headers, &is_named);
+        outputs.assign_headers(&mut wanted, &mut headers, &is_there);
+        outputs.assign_headers(&mut wanted, &mut headers, &is_at);
+        outputs.assign_headers(&mut wanted, &mut headers, &is_named);
         outputs.take_unloaded(&others, unloaded, first_unloaded(image));
         outputs.make_missing(symbols.evaluation, image.sections.len() + unloaded.len());
         outputs.find_instead(&headers, symbols);
@@ -162,7 +162,7 @@ impl Outputs {
     }
 
     /// Gives sections that are wanted the headers that fit.
-    fn take(
+    fn assign_headers(
         &mut self,
         wanted: &mut Vec<Wanted<'_>>,
         headers: &mut Vec<Header<'_>>,

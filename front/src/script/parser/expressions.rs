@@ -57,7 +57,7 @@ impl Parser<'_> {
         Ok(Fill { value, literal })
     }
 
-    /// What follows the first operand of an expression.
+    /// Reads what follows the first operand of an expression.
     fn rest(&mut self, left: Deep) -> Parsed<Deep> {
         let test = self.binary(left, 1)?;
         if self.accept(Expression, "?")?.is_none() {
@@ -131,7 +131,7 @@ impl Parser<'_> {
         self.node(kind, token.span, 0)
     }
 
-    /// What stands between parentheses, of which the first is taken.
+    /// Reads an expression between parentheses, of which the first is taken.
     fn group(&mut self, opening: Token) -> Parsed<Deep> {
         let mut inner = self.nested(ErrorKind::ExpressionDepth, Self::deep)?;
         let closing = self.demand(Expression, ")")?;
@@ -151,7 +151,7 @@ impl Parser<'_> {
         self.node(kind, span, depth)
     }
 
-    /// What follows the name of a function, and how deep its arguments are.
+    /// Reads what follows the name of a function; gives also how deep the arguments are.
     fn arguments(&mut self, word: &str) -> Parsed<(ExprKind, usize)> {
         if let Some((query, state)) = query(word) {
             let name = self.name_in_parentheses(state, "a name")?;

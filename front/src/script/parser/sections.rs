@@ -237,7 +237,7 @@ impl Parser<'_> {
         Ok(Spanned::new(statements, opening.span.to(closing.span)))
     }
 
-    /// What follows the closing brace. Within an overlay no region does.
+    /// Reads what follows the closing brace. Within an overlay no region does.
     fn tail(&mut self, has_regions: bool) -> Parsed<Tail> {
         let mut tail = Tail::default();
         if has_regions && self.accept(Script, ">")?.is_some() {
