@@ -42,7 +42,7 @@ pub(super) enum WordsRefused {
     List(String, String),
 }
 
-/// What the words say.
+/// The call that the words make.
 #[derive(Debug, Default, PartialEq, Eq)]
 pub(super) struct Call {
     pub(super) script: PathBuf,

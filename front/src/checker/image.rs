@@ -25,7 +25,7 @@ pub(super) struct Loaded<'a> {
     pub contents: &'a [u8],
 }
 
-/// Some values.
+/// A set of values.
 pub(super) type Values = QuickSet<u64>;
 
 /// An image.

@@ -18,7 +18,7 @@ use crate::layout::evaluation::Evaluation;
 use crate::objects::Object;
 use crate::report::link_map::LinkMap;
 
-/// What came of a comparison.
+/// The outcome of a comparison.
 #[derive(Clone, PartialEq, Eq, Debug, Default)]
 pub struct Checked {
     /// What is another in the image; ten at most.

@@ -366,7 +366,7 @@ impl Command {
         !self.scripts.is_empty() || self.default_script.is_some()
     }
 
-    /// Keeps a note, once.
+    /// Adds a note, unless it is there already.
     pub fn note(&mut self, text: impl Into<String>) {
         let text = text.into();
         if !self.notes.contains(&text) {

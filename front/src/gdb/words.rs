@@ -49,7 +49,7 @@ pub(super) enum Task {
     Lines(Vec<OsString>),
 }
 
-/// What the words say.
+/// The call that the words make.
 #[derive(Clone, PartialEq, Eq, Debug)]
 pub(super) struct Call {
     pub(super) map: PathBuf,

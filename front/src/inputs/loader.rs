@@ -210,7 +210,7 @@ impl<'a> Loader<'a> {
         }
     }
 
-    /// A group that begins here.
+    /// A group that begins with the next object.
     fn group(&self) -> Group {
         Group { archives: Vec::new(), begin: self.objects.len() }
     }

@@ -40,7 +40,7 @@ pub enum InputFault {
     Missing(String),
 }
 
-/// Whose inputs are wanted.
+/// A request for the inputs of a link.
 #[derive(Clone, Copy)]
 pub struct Request<'a> {
     /// The command.

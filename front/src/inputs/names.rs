@@ -81,7 +81,7 @@ impl Names {
         self.known.insert(name.clone(), Some(NameState::Defined));
     }
 
-    /// An object is taken.
+    /// Adds an object that is taken.
     pub fn add(&mut self, object: &Object) {
         self.enter(object);
         self.taken.push(object.clone());

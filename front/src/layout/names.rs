@@ -38,12 +38,12 @@ impl Names {
         self.all.iter().map(|name| name.as_bstr())
     }
 
-    /// How many there are.
+    /// How many names there are.
     pub fn len(&self) -> usize {
         self.all.len()
     }
 
-    /// Whether there is none.
+    /// Whether there is no name.
     pub fn is_empty(&self) -> bool {
         self.all.is_empty()
     }

@@ -59,7 +59,7 @@ fn made_until(link: &Link<'_>, id: OutputId) -> Option<OutputId> {
     link.program.order.get(..=at)?.iter().rev().find(counts).copied()
 }
 
-/// The sorts.
+/// The sorts of orphans.
 #[derive(Clone, Copy, PartialEq, Eq, Debug)]
 enum Sort {
     Text,
@@ -498,7 +498,7 @@ fn list(link: &mut Link<'_>, own: OutputId, next: Option<OutputId>, beside: Opti
     made.insert(at.unwrap_or(made.len()), own);
 }
 
-/// At the end of all.
+/// Puts an orphan's output section at the end of all.
 fn append(link: &mut Link<'_>, own: OutputId) {
     if let Some(statement) = link.output(own).map(|output| output.statement) {
         link.program.top.push(statement);
@@ -506,7 +506,7 @@ fn append(link: &mut Link<'_>, own: OutputId) {
     }
 }
 
-/// Behind an output section's statement.
+/// Puts an orphan's output section behind the statement of another one.
 fn insert_behind(link: &mut Link<'_>, own: OutputId, last: OutputId) {
     let (own_statement, last_statement) = match (link.output(own), link.output(last)) {
         (Some(own), Some(last)) => (own.statement, last.statement),

@@ -18,7 +18,7 @@ pub(crate) enum Source {
 }
 
 impl Source {
-    /// With one more.
+    /// The source with one more symbol.
     pub fn and(self, symbol: SymbolId) -> Source {
         match self {
             Source::None => Source::One(symbol),
@@ -26,7 +26,7 @@ impl Source {
         }
     }
 
-    /// The one symbol.
+    /// The symbol, if it is only one.
     pub fn one(self) -> Option<SymbolId> {
         match self {
             Source::One(symbol) => Some(symbol),
@@ -70,7 +70,7 @@ impl Standing {
 }
 
 impl Link<'_> {
-    /// A pass begins.
+    /// Notes that a pass begins.
     pub fn stand_at_beginning(&mut self) {
         let all = self.program.made.clone();
         let mut standing = std::mem::take(&mut self.standing);
@@ -78,7 +78,7 @@ impl Link<'_> {
         self.standing = standing;
     }
 
-    /// A statement is next.
+    /// Notes which statement is next.
     pub fn stand_before(&mut self, id: StatementId) {
         let (target, is_outside) = match self.step(id) {
             Some(step) => match &step.kind {

@@ -44,7 +44,7 @@ pub struct Wanted<'a> {
     pub script: &'a [u8],
 }
 
-/// What came of bringing a session to what is wanted.
+/// The outcome of bringing a session to what is wanted.
 #[derive(Clone, PartialEq, Eq, Debug, Default)]
 pub struct Brought {
     /// Whether the link is good, that is without faults.

@@ -44,7 +44,7 @@ impl LinkNames {
         found
     }
 
-    /// Looks more names up.
+    /// Looks up further names.
     pub fn ask<N: AsRef<[u8]>>(&mut self, objects: &[Object], names: impl IntoIterator<Item = N>) {
         let new: QuickMap<BString, Known> = names
             .into_iter()

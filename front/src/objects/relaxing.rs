@@ -51,7 +51,7 @@ pub(super) struct Reference {
     pub(super) symbol: Referred,
 }
 
-/// What becomes of it.
+/// A reference after it was relaxed.
 #[derive(Clone, PartialEq, Eq, Debug)]
 pub(super) struct Relaxed {
     /// Where the field is now.

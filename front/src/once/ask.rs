@@ -11,7 +11,7 @@ use crate::streams::{self, Stream};
 /// The release of GNU ld whose command line this is; the last word of the version, which builds ask for.
 const FOLLOWS: &str = "2.40";
 
-/// Prints it.
+/// Prints what was asked for.
 pub(super) fn print(command: &Command, scripts: Option<&Scripts>, environment: &Environment) {
     let mut out = Vec::new();
     // Memory takes all that is written.

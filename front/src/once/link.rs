@@ -111,7 +111,7 @@ pub(crate) struct Planned {
     pub(crate) command: Command,
     /// The plan.
     pub(crate) plan: LinkPlan,
-    /// What came of the comparison of its last image; it is the same for objects that are alike.
+    /// The outcome of the comparison of its last image; it is the same for objects that are alike.
     pub(crate) verdict: Option<Verdict>,
 }
 
@@ -208,7 +208,7 @@ fn while_sending<T>(
 struct Link<'a> {
     command: &'a Command,
     plan: &'a mut LinkPlan,
-    /// What came of the comparison, if an image of the plan was compared before.
+    /// The outcome of the comparison, if an image of the plan was compared before.
     known: &'a mut Option<Verdict>,
     asked: Asked<'a>,
     host: &'a dyn Host,
@@ -403,7 +403,7 @@ impl Link<'_> {
         Ok(Status::Good)
     }
 
-    /// Says what came of the comparison with GNU ld's image.
+    /// Prints the outcome of the comparison with GNU ld's image.
     fn say_verdict(&self, verdict: &Verdict) {
         self.report();
         verdict.lines.iter().for_each(|line| eprintln!("{line}"));

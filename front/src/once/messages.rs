@@ -36,7 +36,7 @@ pub(crate) fn of_object(plan: &LinkPlan, index: usize, refusal: Refusal, environ
     }
 }
 
-/// An object that is refused.
+/// Prints the message of an object that is refused.
 pub(super) fn say_refused_object(plan: &LinkPlan, index: usize, refusal: Refusal, environment: &Environment) {
     say_all(&of_object(plan, index, refusal, environment));
 }
@@ -66,7 +66,7 @@ pub(crate) fn of_script(plan: &LinkPlan, refusal: Refusal, environment: &Environ
     refusals_of_script(&input, &|line| origin(plan, line))
 }
 
-/// The faults of a link.
+/// Prints the faults of a link.
 pub(super) fn say_faults(command: &Command, plan: &LinkPlan, faults: &[u8]) {
     say_all(&of_faults(command, plan, faults, Some(GREATEST_FAULTS)));
 }

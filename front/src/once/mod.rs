@@ -31,7 +31,7 @@ use link::plan_link;
 pub(crate) use link::{make, notes_of, pieces_of, plan_while_sending, section_outside, zeros_of, Planned};
 pub use link::{LinkFault, Status};
 
-/// A line for people.
+/// Prints a line on standard error, after the program's name.
 fn say(text: impl AsRef<str>) {
     eprintln!("ld.ldi: {}", text.as_ref());
 }
@@ -67,7 +67,7 @@ pub(crate) fn said(done: Result<Done, LinkFault>) -> Done {
     }
 }
 
-/// What came of a link.
+/// The outcome of a link.
 #[derive(Debug)]
 pub(crate) struct Done(pub(crate) Status, pub(crate) Option<Planned>);
 

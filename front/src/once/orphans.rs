@@ -8,7 +8,7 @@ use crate::layout::evaluation::{Evaluation, InputSection};
 use crate::layout::Flags;
 use crate::plan::LinkPlan;
 
-/// The lines.
+/// The lines that `--orphan-handling=warn` prints.
 pub(super) fn warnings(command: &Command, plan: &LinkPlan) -> Vec<String> {
     let evaluation = match &plan.evaluation {
         Ok(evaluation) if command.orphans == Some(Orphans::Warn) => evaluation,

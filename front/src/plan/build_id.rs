@@ -25,7 +25,7 @@ pub struct Identity {
     objects: Vec<Object>,
 }
 
-/// Why there is none.
+/// Why there is no build ID.
 #[derive(Clone, Copy, PartialEq, Eq, Debug, thiserror::Error)]
 pub(super) enum NoIdentity {
     /// Nobody asks for one, or the file can have none.

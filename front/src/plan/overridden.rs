@@ -7,7 +7,7 @@ use crate::layout::Evaluation;
 use crate::mirror::Held;
 use crate::objects::{without_names, Object, Rank};
 
-/// The names.
+/// The names that the script overrides.
 pub(super) fn names(evaluation: &Evaluation) -> Vec<&BStr> {
     evaluation.symbols.iter().filter(|symbol| symbol.is_overridden).map(|symbol| symbol.name.as_bstr()).collect()
 }

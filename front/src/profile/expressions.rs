@@ -93,7 +93,7 @@ impl Check<'_> {
         }
     }
 
-    /// The use of a region.
+    /// Looks at the use of a region.
     pub(super) fn region(&mut self, name: &Name, at: Span) {
         if !self.regions.contains(name) {
             let shown = name.as_bstr();

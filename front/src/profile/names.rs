@@ -51,7 +51,7 @@ impl Check<'_> {
         }
     }
 
-    /// A fill after `=`.
+    /// Looks at a fill after `=`.
     pub(super) fn fill(&mut self, fill: &Fill) {
         let at = fill.value.span;
         let text = self.source.slice(at);

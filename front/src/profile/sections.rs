@@ -14,7 +14,7 @@ use crate::script::tree::{
 const DISCARD: &[u8] = b"/DISCARD/";
 
 impl Check<'_> {
-    /// A statement of SECTIONS.
+    /// Looks at a statement of SECTIONS.
     pub(super) fn sections_statement(&mut self, statement: &SectionsStatement, at: Span) {
         match statement {
             SectionsStatement::Assign(assignment) => self.assignment(assignment, Home::Sections, at),

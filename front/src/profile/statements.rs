@@ -66,7 +66,7 @@ impl Check<'_> {
         }
     }
 
-    /// An assignment or PROVIDE.
+    /// Looks at an assignment or PROVIDE.
     pub(super) fn assignment(&mut self, assignment: &Assignment, home: Home, at: Span) {
         let (target, name) = (assignment.target.span, &assignment.target.node);
         let wrapped = match assignment.provision {
@@ -119,7 +119,7 @@ impl Check<'_> {
         }
     }
 
-    /// ASSERT as a statement.
+    /// Looks at an ASSERT that is a statement.
     pub(super) fn assertion(&mut self, assertion: &Assertion, at: Span) {
         self.expression(&assertion.condition, DotPlace::Assert);
         if !self.is_quoted(at) {

@@ -121,7 +121,7 @@ pub(crate) fn hash_comments(text: &[u8]) -> Vec<(usize, usize)> {
 }
 
 impl Check<'_> {
-    /// The text itself.
+    /// Looks at the text itself.
     pub(super) fn text(&mut self) {
         let text = self.source.text();
         for (start, end) in hash_comments(text) {

@@ -182,7 +182,7 @@ impl Sentences<'_> {
         found.unwrap_or_else(|| Site { file: self.names.shown(object), line: None, place: None, relocation: None })
     }
 
-    /// F2.
+    /// The message of F2.
     fn undefined_entry(&mut self, name: &[u8]) -> Diagnostic {
         let by = if self.inputs.entry.is_some() { ", given to -e" } else { "" };
         let sentence = format!("undefined entry symbol `{}'{by}", plain(name));
@@ -203,7 +203,7 @@ impl Sentences<'_> {
         diagnostic
     }
 
-    /// F3.
+    /// The message of F3.
     fn orphan(&mut self, object: &[u8], section: &[u8]) -> Diagnostic {
         let size = self.names.section_size(object, section).map(|size| format!(" of {}", count(size, "byte")));
         let (script, size) = (self.script_name(), size.unwrap_or_default());
@@ -218,7 +218,7 @@ impl Sentences<'_> {
 
     // Layout
 
-    /// F4.
+    /// Why an expression of F4 has no value.
     fn why_not_ready(&mut self, line: u32, name: &[u8]) -> String {
         let shown = plain(name);
         let assigned = self.outline.assignments.get(name.as_bstr()).copied();
@@ -241,7 +241,7 @@ impl Sentences<'_> {
         format!("`{shown}' is not defined")
     }
 
-    /// F5.
+    /// The message of F5.
     fn no_value(&self, line: u32) -> Diagnostic {
         let doubtful = self.outline.doubtful(line);
         let reason = match (doubtful.has_division, doubtful.has_align) {
@@ -252,7 +252,7 @@ impl Sentences<'_> {
         self.at_line(line, reason.into())
     }
 
-    /// F7.
+    /// The message of F7.
     fn region_full(&self, section: &[u8], region: &[u8]) -> Diagnostic {
         let output = self.outline.outputs.get(section.as_bstr());
         let is_region = |name: &Option<crate::script::tree::Name>| name.as_ref().map_or(false, |name| name == region);
@@ -271,7 +271,7 @@ impl Sentences<'_> {
             .with_advice("raise LENGTH, or place less there")
     }
 
-    /// F9 and F10.
+    /// The message of F9 or F10.
     fn meeting(&self, what: &str, section: &[u8], earlier: &[u8]) -> Diagnostic {
         let other = self.outline.outputs.get(earlier.as_bstr());
         let other = other.map(|output| format!(" ({})", self.place_text(output.line))).unwrap_or_default();
@@ -279,7 +279,7 @@ impl Sentences<'_> {
         self.at_output(section, format!("the {what} of section `{name}' overlap those of `{earlier}'{other}"))
     }
 
-    /// F11.
+    /// The message of F11.
     fn too_long(&self, length: u64) -> Diagnostic {
         Diagnostic::error(format!("the image would have {length} bytes, more than {MOST_IMAGE_BYTES}"))
             .of_file(self.inputs.script_path)
@@ -291,7 +291,7 @@ impl Sentences<'_> {
 
     // Relocation
 
-    /// F12.
+    /// The message of F12.
     fn undefined(&mut self, object: &[u8], section: &[u8], offset: u64, name: &[u8]) -> Diagnostic {
         let shown = plain(name);
         let is_meant = |object: &Object, relocation: Relocation| {
@@ -305,7 +305,7 @@ impl Sentences<'_> {
         }
     }
 
-    /// F13.
+    /// The message of F13 of a relocation.
     fn left_out(&mut self, object: &[u8], section: &[u8], offset: u64, symbol: SymbolIndex) -> Diagnostic {
         let site = self.names.site(object, section, offset, &|_, relocation| relocation.symbol == symbol);
         let target = self.left_out_target(object, symbol);
@@ -331,7 +331,7 @@ impl Sentences<'_> {
         }
     }
 
-    /// F13 of the entry symbol.
+    /// The message of F13 of the entry symbol.
     fn entry_left_out(&self) -> Diagnostic {
         let entry = self.inputs.entry.map(|entry| plain(entry.as_bytes()));
         let by_script = self.outline.entry.as_ref().filter(|_| entry.is_none());
@@ -345,7 +345,7 @@ impl Sentences<'_> {
         diagnostic.with_advice("take it in")
     }
 
-    /// F14.
+    /// The message of F14.
     fn overflow(&mut self, object: &[u8], section: &[u8], offset: u64, kind: u32, value: u64) -> Diagnostic {
         let site = self.names.site(object, section, offset, &|_, relocation| relocation.kind == kind);
         let name = RELOCATIONS.iter().find(|row| row.number == kind);
@@ -368,7 +368,7 @@ impl Sentences<'_> {
 
     // Assertions
 
-    /// F15.
+    /// The message of F15.
     fn assertion(&mut self, line: u32, message: &[u8]) -> Diagnostic {
         let text = if message.is_empty() { String::new() } else { format!(": {}", plain(message)) };
         let mut diagnostic = self.at_line(line, format!("assertion failed{text}"));
@@ -389,7 +389,7 @@ fn line_number(line: u64) -> u32 {
     u32::try_from(line).unwrap_or(u32::MAX)
 }
 
-/// A number of things.
+/// A number, and the word for things of that number.
 fn count(number: u64, what: &str) -> String {
     if number == 1 {
         format!("{number} {what}")

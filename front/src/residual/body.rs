@@ -60,7 +60,7 @@ impl<'a> Body<'a> {
         }
     }
 
-    /// The location counter.
+    /// The location counter now.
     fn dot(&self) -> u64 {
         self.start.wrapping_add(self.at)
     }
@@ -393,8 +393,8 @@ impl<'a> Walk<'a> {
         text.join(" ")
     }
 
-    /// Reports sections of one name and one file that come in another order than in the file: a statement by their names
-    /// takes them together, as they come there.
+    /// Reports sections of one name and one file that come in another order than in the file: a statement by their
+    /// names takes them together, as they come there.
     fn say_out_of_order(&mut self, sections: &[SectionId], body: &Body<'a>) {
         let evaluation = match self.request.evaluation {
             Some(evaluation) => evaluation,

@@ -39,7 +39,7 @@ pub(super) struct Written {
 }
 
 impl<'a> Walk<'a> {
-    /// An output section.
+    /// Rewrites an output section.
     pub(super) fn output_section(&mut self, section: &'a OutputSection, span: Span) {
         if section.name.node == "/DISCARD/" {
             return self.discard(section, span);

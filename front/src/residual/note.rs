@@ -47,7 +47,7 @@ pub enum Topic {
 /// One line of the report.
 #[derive(Clone, PartialEq, Eq, Hash, Debug)]
 pub struct Note {
-    /// What became of it.
+    /// What became of the construct.
     pub kind: NoteKind,
     /// What it is of.
     pub topic: Topic,

@@ -590,7 +590,7 @@ impl<'a> Walk<'a> {
 
     // --- ASSERT ---
 
-    /// An ASSERT as a statement.
+    /// Rewrites an ASSERT that is a statement.
     pub(super) fn assertion(&mut self, assertion: &Assertion, span: Span) {
         let text = self.condition(&assertion.condition, span, true);
         let message = message_of(&assertion.message);
@@ -689,7 +689,7 @@ impl<'a> Walk<'a> {
         }
     }
 
-    /// `-e` in place of ENTRY.
+    /// Writes the symbol of `-e` in place of ENTRY.
     fn given_entry(&mut self, name: &BStr, last: Option<Span>, insertion: u32) {
         if let Some(span) = last {
             self.edits.blank(self.text, span);

@@ -144,7 +144,7 @@ pub struct Warning {
     pub place: Place,
 }
 
-/// A byte for people.
+/// A byte as messages show it.
 fn shown(byte: u8) -> String {
     if byte.is_ascii_graphic() || byte == b' ' {
         format!("`{}`", char::from(byte))

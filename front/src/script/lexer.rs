@@ -110,7 +110,7 @@ pub(super) struct Lexer {
 }
 
 impl Lexer {
-    /// Begins with a file.
+    /// Begins to read a file.
     pub fn push(&mut self, path: PathBuf, text: Vec<u8>) -> Result<(), ScriptError> {
         self.planned = self.planned.saturating_add(text.len() + BREAKS);
         if u32::try_from(self.planned).is_err() {
@@ -229,7 +229,7 @@ impl Lexer {
         self.warnings.push(Warning { kind, span: token.span, place });
     }
 
-    /// An error at a token.
+    /// The error of a token.
     pub fn error(&self, token: Token, kind: ErrorKind) -> ScriptError {
         self.error_at(token.file, token.at, token.span, kind)
     }

@@ -170,7 +170,7 @@ fn has_ended(stream: &UnixStream) -> bool {
     !matches!(stream.read(&mut [0]), Err(fault) if fault.kind() == io::ErrorKind::WouldBlock)
 }
 
-/// What came of a link.
+/// The outcome of a link.
 #[derive(Clone, PartialEq, Eq, Debug, Default)]
 pub(super) struct Answer {
     /// The exit status.

@@ -37,7 +37,7 @@ pub(super) struct Wish {
     pub(super) style: Style,
 }
 
-/// What came of a call.
+/// The outcome of a call.
 #[derive(Debug)]
 pub(super) struct Outcome {
     /// The answer that is sent to the call.
@@ -73,7 +73,7 @@ pub(super) struct Links {
 }
 
 impl Links {
-    /// Nothing was linked yet.
+    /// The links of an output of which nothing was linked yet.
     pub(super) fn new(environment: Environment) -> Links {
         let mirror = Mirror::new(find_program("ldi", &environment), None);
         Links { environment, mirror, snapshot: Snapshot::shared(), kept: None, files: NewFiles::default() }
@@ -89,7 +89,7 @@ impl Links {
         self.mirror.process()
     }
 
-    /// Makes a link.
+    /// Makes the link that a call wishes.
     pub(super) fn make(&mut self, wish: &Wish) -> Outcome {
         nix::sys::stat::umask(nix::sys::stat::Mode::from_bits_truncate(wish.mask));
         if !are_lasting_words(&wish.words) {

@@ -31,7 +31,7 @@ pub use serve::main;
 /// The time in which a server that was started has to answer, or longer, by LDI_SERVER_ANSWER.
 const START: Duration = Duration::from_secs(5);
 
-/// A line for people.
+/// Prints a line on standard error, after the program's name.
 fn say(text: impl AsRef<str>) {
     eprintln!("ld.ldi: {}", text.as_ref());
 }

@@ -405,7 +405,7 @@ impl Server {
         }
     }
 
-    /// Leaves nothing behind.
+    /// Removes the socket and files that were not put in place, and ends the session and this process.
     fn end(&mut self) {
         self.remove_socket();
         self.files.close();

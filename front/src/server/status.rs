@@ -20,7 +20,7 @@ const LIMIT: Duration = Duration::from_secs(5);
 /// The time after which a server that ended while it was asked is asked again.
 const PAUSE: Duration = Duration::from_millis(50);
 
-/// How a server is.
+/// The state of a server.
 #[derive(Clone, PartialEq, Eq, Debug)]
 pub(super) struct State {
     /// The output.

@@ -34,7 +34,7 @@ pub enum Question {
 }
 
 impl Question {
-    /// The answer of now.
+    /// The answer to the question at this moment.
     fn ask(self, path: &Path) -> bool {
         let found = stat(path);
         match self {
@@ -113,7 +113,7 @@ impl Shared {
 }
 
 impl Snapshot {
-    /// Nothing was looked at yet.
+    /// A snapshot for which nothing was read yet.
     pub fn new() -> Snapshot {
         Snapshot::default()
     }

@@ -34,7 +34,7 @@ pub(super) struct AsLd {
     pub(super) is_out_of_memory: bool,
 }
 
-/// What came of an image.
+/// The file of an image, or why there is none.
 pub(super) enum Made {
     /// The file, and what there is to say of it.
     File(FileImage, Vec<String>),

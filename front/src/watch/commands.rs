@@ -31,7 +31,7 @@ impl Command {
         Command { text: text.into(), started: None, goes_to_errors, jobserver: jobserver.clone(), process: None }
     }
 
-    /// Starts it.
+    /// Starts the command.
     pub(super) fn start(&mut self) -> io::Result<()> {
         self.started = Some(Instant::now());
         let mut process = Process::new("/bin/sh");

@@ -11,7 +11,7 @@ const LONGEST_GATHERING: Duration = Duration::from_millis(200);
 /// How often all inputs are looked at, for events that the system lost.
 const PERIOD: Duration = Duration::from_secs(1);
 
-/// Events that are gathered.
+/// When the events that are gathered are dealt with, and when all inputs are looked at.
 #[derive(Debug)]
 pub(super) struct EventTimer {
     /// When the first of them came; `None` if there is nothing to deal with.
@@ -66,7 +66,7 @@ impl EventTimer {
         self.is_urgent = false;
     }
 
-    /// The step has ended.
+    /// Notes that the step has ended.
     pub(super) fn end(&mut self) {
         self.is_eager = false;
     }

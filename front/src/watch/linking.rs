@@ -29,7 +29,7 @@ const NOT_A_SCRIPT: u32 = 5;
 /// Inputs that are refused: the name of each, and its message.
 pub(super) type Refusals = Vec<(String, Diagnostic)>;
 
-/// What a search came to.
+/// The outcome of a search.
 #[derive(Debug)]
 pub(super) enum Found {
     /// All inputs that are needed are there.

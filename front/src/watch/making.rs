@@ -17,7 +17,7 @@ use super::sources::Sources;
 const QUICK: u32 = 3;
 /// The pause before the next such run, which doubles each time.
 const PAUSE: Duration = Duration::from_secs(2);
-/// The longest of them.
+/// The longest pause.
 const LONGEST_PAUSE: Duration = Duration::from_secs(60);
 
 /// Runs a command, once at a time, when it is wanted.

@@ -69,7 +69,7 @@ impl Plain {
         self.script = script;
     }
 
-    /// Reads all anew.
+    /// Reads all inputs anew.
     pub(super) fn find(&mut self, words: &Words, inputs: &mut Inputs) -> Found {
         *self = Plain::default();
         let script = inputs.snapshot.read(&words.script).ok();

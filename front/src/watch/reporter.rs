@@ -34,7 +34,7 @@ pub(super) struct Good {
     pub(super) usage: Usage,
 }
 
-/// What a watch is in.
+/// The state of a watch.
 #[derive(Clone, PartialEq, Debug)]
 pub(super) enum State {
     /// The image is that of the inputs.
@@ -55,7 +55,7 @@ enum Known {
     Other(State),
 }
 
-/// Says each state once.
+/// Reports each state once.
 #[derive(Debug)]
 pub(super) struct Reporter {
     is_json: bool,

@@ -485,7 +485,7 @@ impl<'a> Watch<'a> {
     }
 }
 
-/// What came of a round of a step.
+/// The outcome of a round of a step.
 enum Round {
     /// The state is set.
     Done,

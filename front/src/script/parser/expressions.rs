@@ -139,7 +139,7 @@ impl Parser<'_> {
         Ok(inner)
     }
 
-    /// A function and its arguments.
+    /// Reads a function and its arguments.
     fn call(&mut self, token: Token, word: &'static str, state: State) -> Parsed<Deep> {
         let is_known = query(word).is_some() || function(word).is_some() || matches!(word, "SEGMENT_START" | "ASSERT");
         if !is_known {

@@ -46,7 +46,7 @@ impl Parser<'_> {
         Ok(Spanned::new(Statement::Assign(assignment), self.since(token.span)))
     }
 
-    /// The end of the text.
+    /// Reads the end of the text.
     pub fn end(&mut self, state: State) -> Parsed<()> {
         let token = self.peek(state)?;
         match token.kind {
