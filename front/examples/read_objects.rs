@@ -5,7 +5,7 @@ use bstr::BString;
 use ldi_front::command::read_command;
 use ldi_front::inputs::{load, Request};
 use ldi_front::objects::{Object, Origin};
-use ldi_front::snapshot::{look, Snapshot};
+use ldi_front::snapshot::{stat, Snapshot};
 use rustix::time::{clock_gettime, ClockId};
 use std::os::unix::ffi::OsStrExt;
 use std::path::PathBuf;
@@ -28,7 +28,7 @@ fn main() {
             times.push(processor_time() - begun);
             begun = processor_time();
         };
-        assert!(paths.iter().all(|path| look(path).is_ok()));
+        assert!(paths.iter().all(|path| stat(path).is_ok()));
         lap();
         let mut snapshot = Snapshot::new();
         let data: Vec<_> = paths.iter().map(|path| snapshot.read(path).unwrap_or_default()).collect();
