@@ -28,7 +28,7 @@ use Rattle.relink_driver.specs.Worked.{IsLinkWork, IsWorkBeside}
 use Rattle.relink.specs.Outcome.{is_good, shown}
 use Rattle.relink.specs.PreviousLink.{HasUpdateOutcome, IsCurrent, IsEffect, IsPreviousLink, lent, next_view}
 use Rattle.relink.specs.PreviousLink.{origin_of}
-use Rattle.relink.specs.Work.{HasPlacedWork, HasWorked, IsPlacedWork, IsReadingWork, IsWholeWork}
+use Rattle.relink.specs.Work.{AreSmall, HasPlacedWork, HasWorked, IsPlacedWork, IsReadingWork, IsWholeWork}
 use Rattle.relink.specs.Work.{LinksNothing, decided_by}
 use Rattle.relink.specs.declared.outcome.LinkOutcome.{LinkOutcome}
 use Rattle.relink.specs.declared.outcome.LinkOutcome.TheVariants as outcome
@@ -39,7 +39,7 @@ use Rattle.relink.specs.declared.previous.PreviousLink.{PreviousLink}
 use Rattle.relink.proofs.Lending.{IsFollowing, from_edit, is_last_of, none_of_last}
 use Rattle.relink.proofs.Succession.{is_next}
 use Rattle.relink.proofs.FirstChanged.{fewer, same_before}
-use Rattle.relink.proofs.Working.{AreSmall, ReadsObjects, read_alone, rises_by}
+use Rattle.relink.proofs.Working.{ReadsObjects, read_alone, rises_by}
 
 -- ---- the counts of a link
 

@@ -17,11 +17,11 @@ use Rattle.relink.specs.Deferred.{Deferred, IsOnlyEdit, IsSeenAs, edit_since, is
 use Rattle.relink.specs.Deferred.{staged_listing}
 use Rattle.relink.specs.DeferredWork.{IsLinkingWork, IsStagingWork}
 use Rattle.relink.specs.Outcome.{shown}
-use Rattle.relink.specs.Work.{Decides, HasPlacedWork, IsReadingWork, IsWholeWork, LinksNothing, decided_by}
+use Rattle.relink.specs.Work.{AreSmall, Decides, HasPlacedWork, IsReadingWork, IsWholeWork, LinksNothing, decided_by}
 use Rattle.relink.specs.declared.link_tables.LinkTables.{LinkTables}
 use Rattle.relink.specs.declared.outcome.LinkOutcome.{LinkOutcome}
 use Rattle.relink.proofs.Bounding.{LeavesScript, names_link_nothing, objects_link_nothing, stays_put, whole_from}
-use Rattle.relink.proofs.Working.{AreSmall, Few, ReadsObjects, decided_from, decides, is_work, read_alone}
+use Rattle.relink.proofs.Working.{Few, ReadsObjects, decided_from, decides, is_work, read_alone}
 
 -- ---- what is known since the last link
 
@@ -84,7 +84,7 @@ only_parts false h tables s p change only = absurd only
 -- ---- an edit right after a link
 
 -- nothing is counted
-nothing_counted : (m : Counts) → ReadsNothing m m
+pub nothing_counted : (m : Counts) → ReadsNothing m m
 nothing_counted m = record {
   objects = refl;
   names = refl;
@@ -93,7 +93,7 @@ nothing_counted m = record {
   bytes = omega arith;
 }
 
-then_none : (m0 m1 m2 : Counts) → LinksNothing m0 m1 → LinksNothing m1 m2 → LinksNothing m0 m2
+pub then_none : (m0 m1 m2 : Counts) → LinksNothing m0 m1 → LinksNothing m1 m2 → LinksNothing m0 m2
 then_none m0 m1 m2 a b = record {
   pieces = b.pieces ∙ a.pieces;
   fields = b.fields ∙ a.fields;
@@ -110,6 +110,7 @@ resolved_here : (h : ProjectState) (s : Staged) (change : Change) (is_linked : B
       project = project_of (next_listing h s);
       last = last;
       is_linked = is_linked_since is_linked tables (Some s);
+      is_resolved = is_some tables;
       edited = edit_since is_linked h tables (Some s);
     }) m0 m2
 resolved_here h s change true (Some t) last m0 m1 m2 b some small read counted same few leaves =
@@ -124,6 +125,7 @@ resolved_here h s change true (Some t) last m0 m1 m2 b some small read counted s
           (names_link_nothing m1 m2 names counted);
       made = inr (record {
         edited = (refl, script_stays change s leaves);
+        resolved = refl;
         objects = decided.objects ∙ read.objects;
         names = exact;
       });
@@ -141,6 +143,7 @@ pub resolved_work : (h : ProjectState) (s : Staged) (change : Change) (is_linked
       project = project_of (next_listing h s);
       last = last;
       is_linked = is_linked_since is_linked tables (Some s);
+      is_resolved = is_some tables;
       edited = edit_since is_linked h tables (Some s);
     }) m0 m2
 resolved_work h s change is_linked tables last p m0 m1 m2 is b some small read counted same few leaves =
@@ -148,6 +151,7 @@ resolved_work h s change is_linked tables last p m0 m1 m2 is b some small read c
       project = project_of (next_listing h s);
       last = last;
       is_linked = is_linked_since is_linked tables (Some s);
+      is_resolved = is_some tables;
       edited = edit_since is_linked h tables (Some s);
     }) m0 m2) is
     (resolved_here h s change is_linked tables last m0 m1 m2 b some small read counted same few leaves)
@@ -196,7 +200,7 @@ staged_and_linked p change next m0 m1 m2 staged linked =
           subst (λ (m : Counts). IsWholeWork p change next.project m0 m) (sym (linked.unchanged same.1))
           (alone p change next.project m0 m1 staged.reading staged.none same.0)
       | inr resolved ↦
-          let reads : ReadsNothing m1 m2 = linked.reads p change resolved.edited in
+          let reads : ReadsNothing m1 m2 = linked.reads resolved.resolved in
           whole_from p change next.project m0 m1 m2 staged.none (linked.placed p change resolved.edited)
           (reads.objects ∙ resolved.objects) (reads.names ∙ resolved.names)
           (reading_on p change next.project m0 m1 m2 staged.reading reads)
@@ -207,27 +211,30 @@ staged_and_linked p change next m0 m1 m2 staged linked =
 -- of the staged edit
 pub linking_work : (h : ProjectState) (is_linked : Bool) (tables : Option LinkTables) (now : Option Staged) (s : Staged)
     (bytes : List ℕ) (o seen : LinkOutcome) (d : Deferred) (m0 m1 : Counts) → now ≡ Some s
-    → d.is_linked ≡ is_linked_since is_linked tables now → d.edited ≡ edit_since is_linked h tables now
+    → d.is_linked ≡ is_linked_since is_linked tables now → d.is_resolved ≡ is_some tables
+    → d.edited ≡ edit_since is_linked h tables now
     → project_of (staged_listing h now) ≡ d.project → IsSeenAs is_linked o seen
     → (is_linked ≡ true → shown bytes o ≡ link (held h))
+    → (is_some tables ≡ true → ReadsNothing m0 m1)
     → (is_some tables ≡ true → (change : Change) → (keeps_script change ≡ true → s.script ≡ None)
     → shown bytes seen ≡ link (held h)
-    → ReadsNothing m0 m1 × HasPlacedWork (held h) change (project_of (next_listing h s)) m0 m1)
+    → HasPlacedWork (held h) change (project_of (next_listing h s)) m0 m1)
     → IsLinkingWork d m0 m1
-linking_work h is_linked tables now s bytes o seen d m0 m1 is linked edited shows like answers counted = record {
-  unchanged = λ yes. absurd (never_linked is_linked tables now s is (sym linked ∙ yes));
-  reads = λ p change only. (both p change only).0;
-  placed = λ p change only.
-      subst (λ (q : Project). HasPlacedWork p change q m0 m1)
-      (sym (ap (λ (n : Option Staged). project_of (staged_listing h n)) is) ∙ shows) (both p change only).1;
-}
+linking_work h is_linked tables now s bytes o seen d m0 m1 is linked resolved edited shows like answers reads counted =
+    record {
+      unchanged = λ yes. absurd (never_linked is_linked tables now s is (sym linked ∙ yes));
+      reads = λ yes. reads (sym resolved ∙ yes);
+      placed = λ p change only.
+          subst (λ (q : Project). HasPlacedWork p change q m0 m1)
+          (sym (ap (λ (n : Option Staged). project_of (staged_listing h n)) is) ∙ shows) (placed p change only);
+    }
   where
-    both : (p : Project) (change : Change) → IsOnlyEdit p change d.edited
-        → ReadsNothing m0 m1 × HasPlacedWork p change (project_of (next_listing h s)) m0 m1
-    both p change only =
+    placed : (p : Project) (change : Change) → IsOnlyEdit p change d.edited
+        → HasPlacedWork p change (project_of (next_listing h s)) m0 m1
+    placed p change only =
         let parts = only_parts is_linked h tables s p change
         (subst (IsOnlyEdit p change) (edited ∙ ap (edit_since is_linked h tables) is) only) in
-        subst (λ (q : Project). ReadsNothing m0 m1 × HasPlacedWork q change (project_of (next_listing h s)) m0 m1)
+        subst (λ (q : Project). HasPlacedWork q change (project_of (next_listing h s)) m0 m1)
         parts.2
         (counted parts.1 change parts.3
         (seen_link is_linked bytes o seen (link (held h)) parts.0 like (answers parts.0)))

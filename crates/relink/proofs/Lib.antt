@@ -15,3 +15,4 @@ mod Followed
 mod Deferring
 mod LazyTables
 mod DeferredCounts
+mod DeferredEdits

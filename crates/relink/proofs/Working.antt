@@ -30,7 +30,7 @@ use Rattle.ldmodel_project.specs.Edited.{IsAmong, ChangesOneObject, unedited}
 use Rattle.ldmodel_project.specs.declared.staged.Staged.{Staged}
 use Rattle.relink_driver.specs.Reads.{ReadsNothing}
 use Rattle.relink.specs.Change.{names_at, names_of_edit, names_of_step}
-use Rattle.relink.specs.Work.{Decides, IsReadingWork, decided_by}
+use Rattle.relink.specs.Work.{AreSmall, Decides, IsReadingWork, decided_by}
 use Rattle.relink.proofs.Finding.{any_none, find_none, find_only, find_some, get_insert, inserted_counts}
 use Rattle.relink.proofs.Finding.{same_inserted}
 use Rattle.relink.proofs.Following.{tables_of_objects}
@@ -363,14 +363,6 @@ decides m0 m1 m2 names h r = record {
   fields = (let same = ap (λ (m : Counts). m.fields) h in omega (arith, same, r.fields));
   bytes = (let same = ap (λ (m : Counts). m.bytes) h in omega (arith, same, r.bytes));
 }
-
--- the counts before an edit are those of a meter
-pub record AreSmall (m : Counts) : Type 0 where
-  pub objects : m.objects < 2 ^ 64
-  pub names : m.names < 2 ^ 64
-  pub pieces : m.pieces < 2 ^ 64
-  pub fields : m.fields < 2 ^ 64
-  pub bytes : m.bytes < 2 ^ 64
 
 -- objects are read, and nothing else is counted
 pub record ReadsObjects (most : ℕ) (m0 m1 : Counts) : Type 0 where

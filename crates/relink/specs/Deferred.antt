@@ -29,6 +29,8 @@ pub record Deferred : Type 0 where
   pub last : Link
   -- whether it is known that no edit came since, and the names are resolved
   pub is_linked : Bool
+  -- whether the names are resolved, so that each edit decides its own
+  pub is_resolved : Bool
   -- the edit that came since, if it is known that no other one did, and the names were resolved before it
   pub edited : Option EditSince
 

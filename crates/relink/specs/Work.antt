@@ -1,5 +1,5 @@
 -- How much an edit may count, and what it counts.
-use Rattle.std.specs.Prelude.{◌≡◌, ◌≤◌, ◌⊎◌, ⊤, ℕ, List, Ok, Option, length}
+use Rattle.std.specs.Prelude.{◌≡◌, ◌<◌, ◌≤◌, ◌^◌, ◌⊎◌, ⊤, ℕ, List, Ok, Option, length}
 use Rattle.elfobj.specs.Counts.{Counts, capped}
 use Rattle.relink_driver.specs.Resume.{AreSameBefore}
 use Rattle.relink_driver.specs.Rewritable.{IsRewritable}
@@ -17,6 +17,14 @@ use Rattle.relink_driver.specs.Counted.{IsImageCount}
 use Rattle.relink_driver.specs.Worked.{IsWorkBeside}
 use Rattle.relink.specs.declared.previous.UpdateOutcome.{UpdateOutcome}
 use Rattle.relink.specs.declared.previous.UpdateOutcome.TheVariants.{Faulty, Good, RewrittenInPlace}
+
+-- each count fits a u64, as those of a meter do
+pub record AreSmall (m : Counts) : Type 0 where
+  pub objects : m.objects < 2 ^ 64
+  pub names : m.names < 2 ^ 64
+  pub pieces : m.pieces < 2 ^ 64
+  pub fields : m.fields < 2 ^ 64
+  pub bytes : m.bytes < 2 ^ 64
 
 -- no object is read, and these names are decided, each once; no count falls
 pub record Decides (old new : Counts) (decided : List (List ℕ)) : Type 0 where

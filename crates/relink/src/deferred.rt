@@ -8,11 +8,12 @@ ghost use Rattle.ldmodel_project.specs.ProjectState.{held, listing_of, next_list
 ghost use Rattle.relink_driver.specs.Reads.{ReadsNothing};
 ghost use Rattle.relink.specs.Deferred.{HasStaged, HasTables, IsLastGood, IsSeenAs, IsStaged, IsUpdatedOver};
 ghost use Rattle.relink.specs.Deferred.{keeps_script, staged_listing};
-ghost use Rattle.relink.specs.DeferredWork.{IsLinkingWork, IsStagingWork};
+ghost use Rattle.relink.specs.DeferredWork.{IsEditWork, IsLinkingWork, IsStagingWork};
 ghost use Rattle.relink.specs.Outcome.{is_good, shown};
 ghost use Rattle.relink.specs.PreviousLink.{IsOfGoodLink, IsPreviousLink};
 ghost use Rattle.relink.specs.Work.{HasPlacedWork};
 
+use crate::counts::counts_fit;
 use crate::lazy_tables::{follow_if_made, tables_of_next, tables_of_project};
 use crate::lent_link::{lend_later, lend_previous, no_effect};
 use crate::link_tables::LinkTables;
@@ -60,7 +61,7 @@ pub struct DeferredSession {
 
 impl Model for DeferredSession {
     ghost use Rattle.std.specs.Coded.{codes};
-    ghost use Rattle.std.specs.Prelude.{◌≡◌, true};
+    ghost use Rattle.std.specs.Prelude.{◌≡◌, is_some, true};
     ghost use Rattle.ldscript.specs.statements.contracts.formula.Formula as formula;
     ghost use Rattle.ldmodel.specs.Link.{link};
     ghost use Rattle.ldmodel_project.specs.ProjectState.{held, listing_of, project_of};
@@ -76,6 +77,7 @@ impl Model for DeferredSession {
       project = project_of (staged_listing s.project s.staged);
       last = shown s.canvas.bytes s.outcome;
       is_linked = is_linked_since s.is_linked s.tables s.staged;
+      is_resolved = is_some s.tables;
       edited = edit_since s.is_linked s.project s.tables s.staged;
     } };
 
@@ -164,17 +166,17 @@ fn link_staged(
         canvas.new.bytes both.0 both.1) }
     ensures unchanged { OnErr result (canvas.new.bytes ≡ canvas.old.bytes) }
     ensures made { OnOk result (is_some tables.new ≡ true) }
+    ensures reads { OnOk result (is_some tables.old ≡ true → ReadsNothing meter.old meter.new) }
     ensures counted { OnOk result (is_some tables.old ≡ true → (change : Change)
         → (keeps_script change ≡ true → staged.now.script ≡ None)
         → shown canvas.old.bytes seen.now ≡ link (held project.now)
-        → ReadsNothing meter.old meter.new
-        × HasPlacedWork (held project.now) change (project_of (next_listing project.now staged.now))
+        → HasPlacedWork (held project.now) change (project_of (next_listing project.now staged.now))
         meter.old meter.new) }
 {
     // for the prover: brings in the law of keys with a place
     found_where_placed();
     // for the prover: brings in that the counts fit a u64
-    let _counts = (meter.pieces(), meter.fields(), meter.bytes());
+    counts_fit(meter);
     let same = puts_same(project, staged);
     let next = project.next(staged);
     let keys = next.keys();
@@ -228,6 +230,7 @@ fn link_unstaged(
     ensures unchanged { OnErr result ((is_linked.new ≡ is_linked.old) × (outcome.new ≡ outcome.old)
         × (previous.new ≡ previous.old)) }
     ensures made { OnOk result (is_some tables.new ≡ true) }
+    ensures reads { OnOk result (is_some tables.old ≡ true → ReadsNothing meter.old meter.new) }
     ensures counted { is_linked.old ≡ true → is_some tables.old ≡ true → meter.new ≡ meter.old }
 {
     if is_settled(*is_linked, tables) {
@@ -255,7 +258,8 @@ impl DeferredSession {
     pub fn close(self) {}
 
     /// Stages an edit, after the one before it is made without a link. Right after a link its counts, with those of the
-    /// next `link_now`, are those of an edit of a `Session` (`law::staged_and_linked`).
+    /// next `link_now`, are those of an edit of a `Session` (`law::staged_and_linked`); of several edits each reads the
+    /// object that it brings, and the link none (`law::edits_and_link`).
     ///
     /// # Errors
     ///
@@ -267,18 +271,13 @@ impl DeferredSession {
         ensures unlinked { self.new.last ≡ self.old.last }
         ensures counted { OnOk result (self.old.is_linked ≡ true
             → IsStagingWork self.old.project (change_of edit.entry) self.new meter.old meter.new) }
+        ensures each { OnOk result (IsEditWork self.old (change_of edit.entry) self.new meter.old meter.new) }
     {
         // for the prover: brings in the laws of names that objects declare
         names_of_objects();
         distinct_more();
         // for the prover: brings in that the counts fit a u64
-        let _counts = (
-            meter.objects(),
-            meter.names(),
-            meter.pieces(),
-            meter.fields(),
-            meter.bytes(),
-        );
+        counts_fit(meter);
         settle_staged(
             self.alloc,
             &mut self.project,
@@ -319,6 +318,7 @@ impl DeferredSession {
         ensures unlinked { OnErr result (self.new.last ≡ self.old.last) }
         ensures project { self.new.project ≡ self.old.project }
         ensures settled { OnOk result (self.new.is_linked ≡ true) }
+        ensures resolved { OnOk result (self.new.is_resolved ≡ true) }
         ensures counted { OnOk result (IsLinkingWork self.old meter.old meter.new) }
     {
         let Some(staged) = self.staged.take() else {

@@ -1,6 +1,6 @@
 //! Tables that are made when they are first needed.
 
-ghost use Rattle.std.specs.Prelude.{◌≡◌, IfOk, None, OnErr, OnOk, is_some, true};
+ghost use Rattle.std.specs.Prelude.{◌≡◌, IfOk, None, OnErr, OnOk, false, is_some, true};
 ghost use Rattle.ldmodel_project.specs.ProjectState.{Listing, listing_of, next_listing, project_of};
 ghost use Rattle.ldmodel_project.specs.Listing.{keys_of};
 ghost use Rattle.symres.specs.decisions.Counted.{CountsNames};
@@ -115,6 +115,7 @@ pub(crate) fn follow_if_made(
     ensures kept { OnOk result (HasTables (next_listing project.now staged.now) tables.new) }
     ensures back { OnErr result (HasTables (listing_of project.now) tables.new) }
     ensures made { OnOk result (is_some tables.old ≡ true → is_some tables.new ≡ true) }
+    ensures none { OnOk result (is_some tables.new ≡ false → meter.new ≡ meter.old) }
     ensures counted { OnOk result (is_some tables.old ≡ true → CountsNames meter.old meter.new
         (names_of_edit project.now.contents.entries staged.now.objects)) }
 {

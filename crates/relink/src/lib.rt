@@ -5,7 +5,7 @@
 //!   `unchanged`: edits that change nothing;
 //! - `deferred`: `DeferredSession`, which links when it is asked; `follow`: its tables follow an edit;
 //!   `lazy_tables`: they are made when they are first needed;
-//! - `law`: an edit that is linked at once counts what an edit of a `Session` does;
+//! - `law`: what edits that are linked at once count, or later, with one link; `counts`: a hint for that;
 //! - `change`, `match_table`: what an edit changes under a key; the matches of all objects;
 //! - `name_list`: the names of the objects of a link;
 //! - `previous`, `lent_link`, `session_link`: the previous link without faults, lent to the next one, and a link over
@@ -14,6 +14,7 @@
 #![tactic(auto)]
 
 mod change;
+mod counts;
 pub mod deferred;
 mod follow;
 pub mod law;

@@ -9,6 +9,7 @@ ghost use Rattle.relink.specs.Kept.{IsKept};
 ghost use Rattle.relink.specs.Work.{IsWholeWork};
 ghost use Rattle.relink_driver.specs.Applied.{Applied};
 
+use crate::counts::counts_fit;
 use crate::deferred::DeferredSession;
 use crate::lazy_tables::are_places;
 use crate::lent_link::lend_previous;
@@ -169,13 +170,7 @@ impl Session {
         distinct_more();
         found_where_placed();
         // for the prover: brings in that the counts fit a u64
-        let _counts = (
-            meter.objects(),
-            meter.names(),
-            meter.pieces(),
-            meter.fields(),
-            meter.bytes(),
-        );
+        counts_fit(meter);
         let staged = self.project.stage(edit, meter)?;
         let same = puts_same(&self.project, &staged);
         if is_unchanged(&self.project, &staged, same) {

@@ -176,6 +176,7 @@ pub(crate) fn link_later(
     ensures updated { IfOk result (HasUpdateOutcome (listing_of project.now)
         (lent_of previous.entry) canvas.old.bytes canvas.new.bytes) }
     ensures unchanged { OnErr result (canvas.new.bytes ≡ canvas.old.bytes) }
+    ensures reads { OnOk result (ReadsNothing meter.old meter.new) }
 {
     // for the prover: brings in this law
     symbol_table.names_kept();

@@ -58,6 +58,7 @@ returns-in-Ok-clause-counted c = λ made change keeps answers.
     let new = c.link_next-updated.new.canvas.bytes in
     let m1 = c.tables_of_next.new.meter in
     let m2 = c.link_next-updated.new.meter in
+    let small = c.counts_fit.ensures in
     let none = c.tables_of_next.ensures.kept (ap is_some c.take.ensures.value ∙ made) in
     let x = staged_following h s same bytes c.args.seen.now c.args.previous.now e c.next-next.result
     c.keys-keys.result.now c.requires.staged c.next-next.ensures.next c.next-next.ensures.found
@@ -72,13 +73,15 @@ returns-in-Ok-clause-counted c = λ made change keeps answers.
     (subst (λ (l : Listing). HasWorked (project_of l) (lent_of c.lend_previous.result.1) m1 m2 c.in-Ok.updated)
     c.next-next.ensures.next c.in-Ok.ensures.worked) in
     let q = project_of (next_listing h s) in
-    subst (λ (m : Counts). ReadsNothing m m2 × HasPlacedWork (held h) change q m m2) none (
-      c.in-Ok.ensures.reads,
-      linked_work h s same bytes new c.args.seen.now e c.args.previous.now c.in-Ok.updated change m1 m2 x answers
-          updated
-          worked
-          (omega (arith, c.pieces.type_inv, c.pieces.ensures, ap (λ (m : Counts). m.pieces) none))
-          (omega (arith, c.fields.type_inv, c.fields.ensures, ap (λ (m : Counts). m.fields) none))
-          (omega (arith, c.bytes.type_inv, c.bytes.ensures, ap (λ (m : Counts). m.bytes) none))
-          (leaves_if change s keeps),
-    )
+    subst (λ (m : Counts). HasPlacedWork (held h) change q m m2) none
+    (linked_work h s same bytes new c.args.seen.now e c.args.previous.now c.in-Ok.updated change m1 m2 x answers
+    updated worked
+    (omega (arith, small.pieces, ap (λ (m : Counts). m.pieces) none))
+    (omega (arith, small.fields, ap (λ (m : Counts). m.fields) none))
+    (omega (arith, small.bytes, ap (λ (m : Counts). m.bytes) none))
+    (leaves_if change s keeps))
+
+pub returns-in-Ok-clause-reads : goal.returns-in-Ok-clause-reads
+returns-in-Ok-clause-reads c = λ made.
+    subst (λ (m : Counts). ReadsNothing m c.link_next-updated.new.meter)
+    (c.tables_of_next.ensures.kept (ap is_some c.take.ensures.value ∙ made)) c.in-Ok.ensures.reads

@@ -1,11 +1,14 @@
-use Rattle.std.proofs.Common.{Bool, Option, subst, sym}
-use Rattle.std.specs.Prelude.{IfSome}
+use Rattle.std.proofs.Common.{◌∙◌, Bool, Option, ap, subst, sym}
+use Rattle.std.specs.Prelude.{IfSome, is_some}
+use Rattle.elfobj.specs.Counts.{Counts}
 use Rattle.ldmodel_project.specs.ProjectState.{held, listing_of}
+use Rattle.relink_driver.specs.Reads.{ReadsNothing}
 use Rattle.relink_driver.specs.RelinkOutcome.{HasPreviousImage}
 use Rattle.relink_driver.specs.StayedSections.{PreviousState}
 use Rattle.relink.specs.Deferred.{IsLastGood}
 use Rattle.relink.specs.PreviousLink.{HasUpdateOutcome, IsRecorded}
 use Rattle.relink.specs.declared.previous.EditEffect.{EditEffect}
+use Rattle.relink.proofs.DeferredCounts.{nothing_counted}
 use Rattle.relink.proofs.Deferring.{any_last_good, later_lent, linked_later}
 use Rattle.relink.proofs.deferred.link_unstaged.Goals as goal
 
@@ -48,3 +51,11 @@ returns-clause-last c =
     (subst (λ (e : EditEffect). IsRecorded c.in_ok-updated.updated e c.args.previous.now c.record_outcome.new.previous
     c.args.outcome.now c.record_outcome.new.outcome) c.no_effect.ensures c.record_outcome.ensures)
     (any_last_good c.args.is_linked.now l old c.args.outcome.now c.args.previous.now c.requires.last)).1
+
+pub returns-then-is_settled-clause-reads : goal.returns-then-is_settled-clause-reads
+returns-then-is_settled-clause-reads c = λ made. nothing_counted c.args.meter.now
+
+pub returns-clause-reads : goal.returns-clause-reads
+returns-clause-reads c = λ made.
+    subst (λ (m : Counts). ReadsNothing m c.link_later-updated.new.meter)
+    (c.tables_of_project.ensures.kept (ap is_some c.take.ensures.value ∙ made)) c.in_ok-updated.ensures.reads

@@ -48,6 +48,8 @@ returns-clause-counted c =
     let is : s.staged ≡ Some staged = sym c.take.ensures.value ∙ c.in-Some.is in
     linking_work s.project s.is_linked s.tables s.staged staged s.canvas.bytes s.outcome c.seen.result.now
     c.args.self.now c.args.meter.now c.link_staged.new.meter is
-    (sym (ap (λ (d : Deferred). d.is_linked) c.self.view_is)) (sym (ap (λ (d : Deferred). d.edited) c.self.view_is))
+    (sym (ap (λ (d : Deferred). d.is_linked) c.self.view_is))
+    (sym (ap (λ (d : Deferred). d.is_resolved) c.self.view_is))
+    (sym (ap (λ (d : Deferred). d.edited) c.self.view_is))
     (ap (λ (d : Deferred). d.project) c.self.view_is) c.seen.ensures c.self.invariant.3
-    c.in-Ok.ensures.counted
+    c.in-Ok.ensures.reads c.in-Ok.ensures.counted

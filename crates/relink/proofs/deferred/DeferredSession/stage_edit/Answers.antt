@@ -1,4 +1,4 @@
-use Rattle.std.proofs.Common.{◌≡◌, ◌∙◌, ap, arith, subst, sym}
+use Rattle.std.proofs.Common.{◌≡◌, ◌∙◌, ap, refl, subst, sym}
 use Rattle.ldmodel.specs.EditMeaning.{change_of}
 use Rattle.ldmodel.specs.Edits.{Change}
 use Rattle.ldmodel_project.specs.ProjectState.{Listing, ProjectState, held, project_of}
@@ -8,8 +8,9 @@ use Rattle.relink.specs.Deferred.{Deferred, HasTables}
 use Rattle.relink.specs.Outcome.{shown}
 use Rattle.relink.proofs.Bounding.{leaves_script}
 use Rattle.relink.proofs.DeferredCounts.{linked_parts, resolved_work, still_linked, unchanged_staging}
+use Rattle.relink.proofs.DeferredEdits.{staged_edit, unchanged_edit}
 use Rattle.relink.proofs.Deferring.{made, no_staged, shown_project, staying, unlinked}
-use Rattle.relink.proofs.Working.{AreSmall, objects_of_edit, same_touched}
+use Rattle.relink.proofs.Working.{objects_of_edit, same_touched}
 use Rattle.relink.proofs.deferred.DeferredSession.stage_edit.Goals as goal
 
 pub invariant_of-self-then-is_unchanged : goal.invariant_of-self-then-is_unchanged
@@ -79,13 +80,7 @@ returns-then-is_unchanged-clause-counted c = λ linked.
     let is : held h ≡ c.args.self.now.project =
     shown_project s.project c.settle_staged.new.project h s.staged c.args.self.now c.settle_staged.ensures.project
     c.stage.ensures.same (ap (λ (d : Deferred). d.project) c.self.view_is) in
-    let small : AreSmall c.args.meter.now = record {
-      objects = omega (arith, c.objects.type_inv, c.objects.ensures);
-      names = omega (arith, c.names.type_inv, c.names.ensures);
-      pieces = omega (arith, c.pieces.type_inv, c.pieces.ensures);
-      fields = omega (arith, c.fields.type_inv, c.fields.ensures);
-      bytes = omega (arith, c.bytes.type_inv, c.bytes.ensures);
-    } in
+    let small = c.counts_fit.ensures in
     let read = objects_of_edit (change_of c.args.edit) c.args.meter.now c.stage.new.meter small.objects
     c.in_ok-staged.ensures.read in
     unchanged_staging c.args.self.now.project (change_of c.args.edit) _ c.args.meter.now c.stage.new.meter small read
@@ -104,13 +99,7 @@ returns-in-Ok-clause-counted c = λ linked.
     let is : held h ≡ c.args.self.now.project =
     shown_project s.project c.settle_staged.new.project h s.staged c.args.self.now c.settle_staged.ensures.project
     c.stage.ensures.same (ap (λ (d : Deferred). d.project) c.self.view_is) in
-    let small : AreSmall c.args.meter.now = record {
-      objects = omega (arith, c.objects.type_inv, c.objects.ensures);
-      names = omega (arith, c.names.type_inv, c.names.ensures);
-      pieces = omega (arith, c.pieces.type_inv, c.pieces.ensures);
-      fields = omega (arith, c.fields.type_inv, c.fields.ensures);
-      bytes = omega (arith, c.bytes.type_inv, c.bytes.ensures);
-    } in
+    let small = c.counts_fit.ensures in
     let read = objects_of_edit change c.args.meter.now c.stage.new.meter small.objects c.in_ok-staged.ensures.read in
     let same = same_touched c.names_of_objects.ensures.one c.names_of_objects.ensures.all h change staged
     c.in_ok-staged.ensures.staged.0 c.in_ok-staged.ensures.staged.1 c.in_ok-staged.ensures.staged.2
@@ -120,3 +109,35 @@ returns-in-Ok-clause-counted c = λ linked.
     c.follow_if_made.new.meter is (c.settle_staged.ensures.kept parts.2 ∙ parts.0) (c.in-Ok.ensures.made parts.1) small
     read (c.in-Ok.ensures.counted parts.1) same c.distinct_more.ensures
     (leaves_script h change staged c.in_ok-staged.ensures.staged.3 c.in_ok-staged.ensures.named)
+
+pub returns-then-is_unchanged-clause-each : goal.returns-then-is_unchanged-clause-each
+returns-then-is_unchanged-clause-each c =
+    let s = c.self.inside in
+    let h : ProjectState = c.stage.new.self in
+    let is : held h ≡ c.args.self.now.project =
+    shown_project s.project c.settle_staged.new.project h s.staged c.args.self.now c.settle_staged.ensures.project
+    c.stage.ensures.same (ap (λ (d : Deferred). d.project) c.self.view_is) in
+    let small = c.counts_fit.ensures in
+    let read = objects_of_edit (change_of c.args.edit) c.args.meter.now c.stage.new.meter small.objects
+    c.in_ok-staged.ensures.read in
+    unchanged_edit c.args.self.now (change_of c.args.edit) _ c.args.meter.now c.stage.new.meter small read
+    (ap project_of (no_staged h c.settle_staged.new.staged c.settle_staged.ensures.none) ∙ is)
+    (ap (λ (d : Deferred). d.is_resolved) c.self.view_is)
+
+pub returns-in-Ok-clause-each : goal.returns-in-Ok-clause-each
+returns-in-Ok-clause-each c =
+    let s = c.self.inside in
+    let h : ProjectState = c.stage.new.self in
+    let staged : Staged = c.in_ok-staged.staged in
+    let change : Change = change_of c.args.edit in
+    let is : held h ≡ c.args.self.now.project =
+    shown_project s.project c.settle_staged.new.project h s.staged c.args.self.now c.settle_staged.ensures.project
+    c.stage.ensures.same (ap (λ (d : Deferred). d.project) c.self.view_is) in
+    let small = c.counts_fit.ensures in
+    let read = objects_of_edit change c.args.meter.now c.stage.new.meter small.objects c.in_ok-staged.ensures.read in
+    let same = same_touched c.names_of_objects.ensures.one c.names_of_objects.ensures.all h change staged
+    c.in_ok-staged.ensures.staged.0 c.in_ok-staged.ensures.staged.1 c.in_ok-staged.ensures.staged.2
+    c.in_ok-staged.ensures.named (Fits-stable h.contents staged.objects c.in_ok-staged.ensures.staged.0) in
+    staged_edit h staged c.args.self.now change _ s.tables c.follow_if_made.new.tables c.args.meter.now
+    c.stage.new.meter c.follow_if_made.new.meter is (sym (ap (λ (d : Deferred). d.is_resolved) c.self.view_is)) refl
+    refl small read c.in-Ok.ensures.made c.in-Ok.ensures.none c.in-Ok.ensures.counted same

@@ -1,4 +1,4 @@
-use Rattle.std.proofs.Common.{◌≡◌, ◌∙◌, ℕ, List, Option, ap, arith, refl, subst, sym}
+use Rattle.std.proofs.Common.{◌≡◌, ◌∙◌, ℕ, List, Option, ap, refl, subst, sym}
 use Rattle.std.specs.Prelude.{IfSome}
 use Rattle.relink_driver.specs.StayedSections.{PreviousState}
 use Rattle.ldmodel.specs.EditMeaning.{change_of}
@@ -21,7 +21,7 @@ use Rattle.relink.specs.declared.previous.PreviousLink.{PreviousLink}
 use Rattle.relink.proofs.Bounding.{leaves_script, unchanged_work, whole_work}
 use Rattle.relink.proofs.Following.{same_held}
 use Rattle.relink.proofs.Lending.{IsFollowing, ended_after, following, last_lent, same_listing}
-use Rattle.relink.proofs.Working.{AreSmall, decided_from, is_work, objects_of_edit, same_touched}
+use Rattle.relink.proofs.Working.{decided_from, is_work, objects_of_edit, same_touched}
 use Rattle.relink.proofs.session.Session.apply_edit.Goals as goal
 
 pub returns-then-is_unchanged-clause-counted : goal.returns-then-is_unchanged-clause-counted
@@ -35,13 +35,7 @@ returns-then-is_unchanged-clause-counted c =
     subst (λ (l : Listing). IsPreviousLink l bytes a previous)
     (same_listing c.self.inside.project h c.stage.ensures.same)
     c.self.invariant.2 in
-    let small : AreSmall c.args.meter.now = record {
-      objects = omega (arith, c.objects.type_inv, c.objects.ensures);
-      names = omega (arith, c.names.type_inv, c.names.ensures);
-      pieces = omega (arith, c.pieces.type_inv, c.pieces.ensures);
-      fields = omega (arith, c.fields.type_inv, c.fields.ensures);
-      bytes = omega (arith, c.bytes.type_inv, c.bytes.ensures);
-    } in
+    let small = c.counts_fit.ensures in
     let read = objects_of_edit (change_of c.args.edit) c.args.meter.now c.stage.new.meter small.objects
     c.in_ok-staged.ensures.read in
     unchanged_work (listing_of h) bytes a previous c.args.self.now (held h)
@@ -124,13 +118,7 @@ returns-in-Ok-clause-counted c =
     let edited = same_touched c.names_of_objects.ensures.one c.names_of_objects.ensures.all h change s
     c.in_ok-staged.ensures.staged.0 c.in_ok-staged.ensures.staged.1 c.in_ok-staged.ensures.staged.2
     c.in_ok-staged.ensures.named stable in
-    let small : AreSmall c.args.meter.now = record {
-      objects = omega (arith, c.objects.type_inv, c.objects.ensures);
-      names = omega (arith, c.names.type_inv, c.names.ensures);
-      pieces = omega (arith, c.pieces.type_inv, c.pieces.ensures);
-      fields = omega (arith, c.fields.type_inv, c.fields.ensures);
-      bytes = omega (arith, c.bytes.type_inv, c.bytes.ensures);
-    } in
+    let small = c.counts_fit.ensures in
     let read = objects_of_edit change c.args.meter.now c.stage.new.meter small.objects c.in_ok-staged.ensures.read in
     let exact = decided_from (held h) change (project_of next) c.args.meter.now c.stage.new.meter c.update.new.meter
     (names_of_edit h.contents.entries s.objects) read c.in-Ok.ensures.updated.decides edited in
