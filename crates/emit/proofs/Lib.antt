@@ -24,3 +24,20 @@ mod Staying
 mod OfSizes
 mod OfSymbols
 pub mod Mapped
+mod Places
+mod Others
+mod Frame
+mod Faults
+mod Sites
+mod Writing
+mod Planning
+mod Images
+pub mod Objects
+pub mod SameNames
+pub mod SameValues
+pub mod MappedGraph
+pub mod SameInputs
+pub mod SameReferences
+pub mod SameRows
+pub mod SameFrame
+pub mod SameLink

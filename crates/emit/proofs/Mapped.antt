@@ -29,10 +29,10 @@ use Rattle.emit_relocate.specs.declared.value.SymbolValue.TheVariants as value
 use Rattle.emit_text.specs.MapOf.{AreSymbolsOf, IsMapOf, IsSymbolOf, IsValue, symbol_names}
 use Rattle.emit_text.specs.declared.maps.MapParts.{MapParts}
 use Rattle.emit_text.specs.declared.symbols.MapSymbol.{MapSymbol}
-use Rattle.emit_values.specs.SymbolRows.{value_in}
-use Rattle.emit_values.specs.Values.{AreValues, HasFacts, shown_symbol}
-use Rattle.emit_values.specs.declared.values.OutputSymbol.{OutputSymbol}
-use Rattle.emit_values.specs.declared.values.Values.{Values}
+use Rattle.emit_relocate.specs.SymbolRows.{value_in}
+use Rattle.emit_relocate.specs.LinkValues.{AreValues, HasFacts, shown_symbol}
+use Rattle.emit_relocate.specs.declared.values.OutputSymbol.{OutputSymbol}
+use Rattle.emit_relocate.specs.declared.values.Values.{Values}
 use Rattle.emit.specs.Listed.{map_symbol, number_of}
 use Rattle.emit_text.proofs.ByteOrder.{Asc, Below, In, Lt, Name, contained_in, distinct_once, filtered_asc, filtered_in}
 use Rattle.emit_text.proofs.ByteOrder.{in_contained, in_sorted, sorted_asc, sorted_in}

@@ -16,10 +16,10 @@ use Rattle.emit_relocate.specs.Values.{value_of}
 use Rattle.emit_relocate.specs.declared.value.SymbolValue.{SymbolValue}
 use Rattle.emit_relocate.specs.declared.value.SymbolValue.TheVariants as value
 use Rattle.emit_text.specs.Definer.{definer_of, is_weak}
-use Rattle.emit_values.specs.NameRows.{Facts}
-use Rattle.emit_values.specs.SymbolRows.{definer_in, value_in}
-use Rattle.emit_values.specs.Values.{HasFacts}
-use Rattle.emit_values.specs.declared.values.OutputSymbol.{OutputSymbol}
+use Rattle.emit_relocate.specs.NameRows.{Facts}
+use Rattle.emit_relocate.specs.SymbolRows.{definer_in, value_in}
+use Rattle.emit_relocate.specs.LinkValues.{HasFacts}
+use Rattle.emit_relocate.specs.declared.values.OutputSymbol.{OutputSymbol}
 use Rattle.ldmodel_laws.proofs.EachOf.{zip_more}
 use Rattle.emit.specs.Sizes.{valued, valued_in}
 use Rattle.emit.specs.Tables.{AreTablesFor}

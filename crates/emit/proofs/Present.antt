@@ -20,10 +20,10 @@ use Rattle.emit_relocate.specs.KnownLink.{KnownLink}
 use Rattle.emit.specs.Runs.{AreRunsUnless, IsRunUnless}
 use Rattle.emit.proofs.Numbering.{linked_long, run_of, section_at}
 use Rattle.place.specs.IndexedLayout.{linked_in, linked_of}
-use Rattle.gather.specs.sections.SectionTable.{IsTableOf, number_of}
-use Rattle.gather.specs.sections.Slots.{no_slots, slots_of}
-use Rattle.gather.specs.sections.declared.input_section_table.InputSectionTable.{InputSectionTable}
-use Rattle.gather.specs.sections.declared.slots.Slots.{Slots}
+use Rattle.gather.specs.SectionTable.{IsTableOf, number_of}
+use Rattle.gather.specs.Slots.{no_slots, slots_of}
+use Rattle.gather.specs.declared.input_section_table.InputSectionTable.{InputSectionTable}
+use Rattle.gather.specs.declared.slots.Slots.{Slots}
 
 abbrev flat : List (List Patch) → List Patch
 flat runs = flat_map (λ run. run) runs

@@ -45,7 +45,7 @@ use Rattle.ldmodel_laws.specs.Spread.{IsSpread, entries_in}
 use Rattle.symres.specs.SymbolTable.{SymbolTableState}
 use Rattle.emit_relocate.specs.Filled.{EndBelow}
 use Rattle.emit_relocate.specs.Patched.{AreInFile, AreOfProfile, AreSized}
-use Rattle.emit_values.specs.LinkView.{known_link}
+use Rattle.emit_relocate.specs.LinkView.{known_link}
 use Rattle.emit.specs.Numbered.{AreAscending}
 use Rattle.emit.proofs.Ending.{AreBelow, EndsBelow}
 use Rattle.emit.proofs.InFile.{IsByContents, whole_range}

@@ -20,12 +20,12 @@ use Rattle.emit_relocate.specs.Values.{value_of}
 use Rattle.ldscript.specs.statements.Numbered.{shown_sections}
 use Rattle.ldscript.specs.statements.Numbering.{OutputSectionAt, output_sections}
 use Rattle.ldscript.specs.statements.declared.numbering.OutputSectionAt as code_section
-use Rattle.emit_values.specs.Sizes.{plus_symbol, plus_symbols, plus_value}
-use Rattle.emit_values.specs.SymbolRows.{value_in}
-use Rattle.emit_values.specs.Values.{AreValues, shown_symbol}
-use Rattle.emit_values.specs.declared.sizes.SymbolSizes.{SymbolSizes}
-use Rattle.emit_values.specs.declared.values.OutputSymbol.{OutputSymbol}
-use Rattle.emit_values.specs.declared.values.Values.{Values}
+use Rattle.emit_relocate.specs.Sizes.{plus_symbol, plus_symbols, plus_value}
+use Rattle.emit_relocate.specs.SymbolRows.{value_in}
+use Rattle.emit_relocate.specs.LinkValues.{AreValues, shown_symbol}
+use Rattle.emit_relocate.specs.declared.sizes.SymbolSizes.{SymbolSizes}
+use Rattle.emit_relocate.specs.declared.values.OutputSymbol.{OutputSymbol}
+use Rattle.emit_relocate.specs.declared.values.Values.{Values}
 use Rattle.emit.specs.Sizes.{names_size, valued, valued_in}
 
 abbrev pub tree_names : List code_section.OutputSectionAt → List (List ℕ)

@@ -17,7 +17,7 @@ use Rattle.symres.specs.SymbolTable.{SymbolTableState}
 use Rattle.emit_relocate.specs.PreviousLinkInfo.{HasStayedAt, IsComplete, IsPieceOf}
 use Rattle.emit_relocate.specs.KnownLink.{KnownLink}
 use Rattle.emit_relocate.specs.declared.previous_link_info.FileRange.{FileRange}
-use Rattle.emit_values.specs.LinkView.{known_link}
+use Rattle.emit_relocate.specs.LinkView.{known_link}
 use Rattle.emit.proofs.Lists.{zip_each, zip_right}
 use Rattle.emit.specs.Kept.{AreKept, HaveStayed, IsKeptBy, IsKeyed, IsSound}
 use Rattle.emit.specs.Output.{IsSectionKept}

@@ -19,7 +19,7 @@ use Rattle.ldmodel_project.specs.ByPlace.{faults_in}
 use Rattle.emit_relocate.specs.PreviousLinkInfo.{IsComplete}
 use Rattle.emit_relocate.specs.Fields.{evaluations}
 use Rattle.emit_relocate.specs.declared.previous_link_info.FileRange.{FileRange}
-use Rattle.emit_values.specs.LinkView.{known_link}
+use Rattle.emit_relocate.specs.LinkView.{known_link}
 use Rattle.emit.specs.Relocated.{IsRelocated}
 use Rattle.emit.specs.Runs.{AreRunsUnless}
 use Rattle.emit.specs.declared.relocated.Relocated.{Relocated}

@@ -10,9 +10,9 @@ use Rattle.symres.specs.SymbolTable.{SymbolTableState}
 use Rattle.emit.specs.declared.relocated.Relocated.{Relocated}
 use Rattle.place.specs.IndexedLayout.{IsIndexedLayout}
 use Rattle.place.specs.declared.indexed_layout.IndexedLayout.{IndexedLayout}
-use Rattle.emit_values.specs.LinkView.{known_link}
-use Rattle.emit_values.specs.Values.{AreValues}
-use Rattle.emit_values.specs.declared.values.Values.{Values}
+use Rattle.emit_relocate.specs.LinkView.{known_link}
+use Rattle.emit_relocate.specs.LinkValues.{AreValues}
+use Rattle.emit_relocate.specs.declared.values.Values.{Values}
 use Rattle.emit.specs.Output.{IsOutput}
 use Rattle.emit.specs.Runs.{AreRunsUnless}
 use Rattle.emit.specs.declared.output.OutputDrawing.{OutputDrawing}

@@ -2,9 +2,7 @@
 pub use Rattle.emit_fields.specs as fields
 pub use Rattle.emit_image.specs as image
 pub use Rattle.emit_relocate.specs as relocate
-pub use Rattle.emit_in_place.specs as in_place
 pub use Rattle.emit_text.specs as text
-pub use Rattle.emit_values.specs as values
 pub mod Relocated
 pub mod Numbered
 pub mod Runs
@@ -20,3 +18,6 @@ pub mod Pieces
 pub mod Sizes
 pub mod Tables
 pub mod Listed
+pub mod LocatedSections
+pub mod InPlaceRewrites
+pub mod Plan

@@ -4,8 +4,8 @@ use Rattle.ldmodel.specs.Assertions.{number_if_any}
 use Rattle.emit_relocate.specs.Values.{value_of}
 use Rattle.emit_relocate.specs.declared.value.SymbolValue.{SymbolValue}
 use Rattle.emit_text.specs.declared.symbols.MapSymbol.{MapSymbol}
-use Rattle.emit_values.specs.SymbolRows.{definer_in, value_in}
-use Rattle.emit_values.specs.declared.values.OutputSymbol.{OutputSymbol}
+use Rattle.emit_relocate.specs.SymbolRows.{definer_in, value_in}
+use Rattle.emit_relocate.specs.declared.values.OutputSymbol.{OutputSymbol}
 
 -- the number of a value, if it has one
 abbrev pub number_of : SymbolValue → Option ℕ

@@ -9,7 +9,7 @@ use Rattle.symres.specs.SymbolTable.{SymbolTableState}
 use Rattle.ldmodel_project.specs.ByPlace.{faults_in}
 use Rattle.emit_relocate.specs.Filled.{IsRunOf, ends_of, sections_in}
 use Rattle.emit_relocate.specs.KnownLink.{KnownLink}
-use Rattle.emit_values.specs.LinkView.{known_link}
+use Rattle.emit_relocate.specs.LinkView.{known_link}
 use Rattle.emit.specs.declared.relocated.Relocated.{Relocated}
 
 -- the fields of each input section, one after another, and where those of each end

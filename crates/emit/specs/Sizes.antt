@@ -3,9 +3,9 @@ use Rattle.std.specs.Prelude.{ℕ, ◌+◌, List, length, sum_by, Option, filter
 use Rattle.ldmodel.specs.Project.{Project}
 use Rattle.ldmodel.specs.Tail.{ValuedSymbol, with_value}
 use Rattle.emit_relocate.specs.Values.{value_of}
-use Rattle.emit_values.specs.SymbolRows.{value_in}
-use Rattle.emit_values.specs.Values.{shown_symbol}
-use Rattle.emit_values.specs.declared.values.OutputSymbol.{OutputSymbol}
+use Rattle.emit_relocate.specs.SymbolRows.{value_in}
+use Rattle.emit_relocate.specs.LinkValues.{shown_symbol}
+use Rattle.emit_relocate.specs.declared.values.OutputSymbol.{OutputSymbol}
 
 -- how many bytes names have, each with a zero byte after it
 abbrev pub names_size : List (List ℕ) → ℕ

@@ -18,7 +18,7 @@ ghost use Rattle.ldmodel.specs.WorkBound.{bytes_stayed, retargeted_bytes};
 ghost use Rattle.ldmodel.specs.declared.sections.SectionKey.{SectionKey};
 ghost use Rattle.symres.specs.SymbolTable.{SymbolTableState};
 ghost use Rattle.emit_relocate.specs.PreviousLinkInfo.{IsComplete};
-ghost use Rattle.emit_values.specs.LinkView.{known_link};
+ghost use Rattle.emit_relocate.specs.LinkView.{known_link};
 ghost use Rattle.emit.specs.Drawable.{AreOutputs, HasOutputs, IsDrawable, IsDrawableAt};
 ghost use Rattle.emit.specs.Kept.{AreKept, HaveStayed, IsSound};
 
@@ -34,7 +34,7 @@ use emit_image::redraw::redraw;
 use emit_image::section::{Drawing, ImagePart, ImagePiece};
 use emit_image::tail::{TailPart, TailParts};
 use emit_relocate::previous_link_info::PreviousLinkInfo;
-use emit_values::values::Values;
+use emit_relocate::values::Values;
 use ldmodel::memory::NoMemory;
 use ldmodel_laws::segments::sections_in_file;
 use ldmodel_laws::stayed::stayed_in_both;

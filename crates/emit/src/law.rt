@@ -11,7 +11,7 @@ ghost use Rattle.symres.specs.SymbolTable.{SymbolTableState};
 ghost use Rattle.emit.specs.Numbered.{AreAscending};
 ghost use Rattle.emit_relocate.specs.Filled.{EndBelow};
 ghost use Rattle.emit_relocate.specs.Patched.{AreInFile, AreOfProfile, AreSized};
-ghost use Rattle.emit_values.specs.LinkView.{known_link};
+ghost use Rattle.emit_relocate.specs.LinkView.{known_link};
 
 use ldmodel_laws::gathering::live_by_path;
 use ldmodel_laws::layout::{layout_by_effects, nothing_meets, placed_are_rows};

@@ -8,11 +8,11 @@ ghost use Rattle.symres.specs.SymbolTable.{SymbolTableState};
 ghost use Rattle.place.specs.Length.{AreTailSizes};
 ghost use Rattle.ldscript.specs.statements.Numbered.{shown_sections};
 ghost use Rattle.ldscript.specs.statements.Numbering.{OutputSectionAt as SectionOfTree};
-ghost use Rattle.emit_values.specs.Values.{AreValues};
+ghost use Rattle.emit_relocate.specs.LinkValues.{AreValues};
 ghost use Rattle.emit.specs.Sizes.{names_size};
 
-use emit_values::sizes::plus;
-use emit_values::values::Values;
+use emit_relocate::sizes::plus;
+use emit_relocate::values::Values;
 use ldmodel::memory::NoMemory;
 use ldmodel_project::view::ProjectView;
 use ldscript::tree::OutputSectionAt;

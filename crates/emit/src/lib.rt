@@ -4,8 +4,10 @@
 //! - `relocated` over `keys`: the fields of all relocations, or their faults; `law`;
 //! - `drawing` over `output`, `parts`, `pieces`, `data_runs`, `section_fields`, `symbols`: the image; `length`;
 //! - `good`: a link without faults is one that the laws on two links speak of;
+//! - `rewrite` over `plan` and `located_section`: the sections of one object over those in the previous image, if
+//!   nothing else of the link has changed; `rewritten`: what is then the same;
 //! - `map`, `fault_lines`: the texts;
-//! - the parts `fields`, `relocate`, `values`, `image`, `in_place`, `text`. Other families name this crate alone.
+//! - the parts `fields`, `relocate`, `image`, `text`. Other families name this crate alone.
 #![tactic(auto)]
 
 mod data_runs;
@@ -15,11 +17,15 @@ pub mod good;
 mod keys;
 mod law;
 pub mod length;
+pub mod located_section;
 pub mod map;
 mod output;
 mod parts;
 mod pieces;
+mod plan;
 pub mod relocated;
+pub mod rewrite;
+pub mod rewritten;
 mod section_fields;
 mod symbols;
 
@@ -31,8 +37,6 @@ pub use emit_fields::field::evaluate::field;
 pub use emit_fields::field::{Field, Overflow};
 pub use emit_image as image;
 pub use emit_image::headers::headers;
-pub use emit_in_place as in_place;
 pub use emit_relocate as relocate;
 pub use emit_relocate::index::Index;
 pub use emit_text as text;
-pub use emit_values as values;

@@ -7,12 +7,12 @@ ghost use Rattle.ldmodel.specs.MapText as definition;
 ghost use Rattle.ldmodel.specs.Rows as model;
 ghost use Rattle.symres.specs.SymbolTable.{SymbolTableState};
 ghost use Rattle.ldmodel_project.specs.ByPlace.{rows_in};
-ghost use Rattle.emit_values.specs.Values.{AreValues};
+ghost use Rattle.emit_relocate.specs.LinkValues.{AreValues};
 
+use emit_relocate::values::{OutputSymbol, Values};
 use emit_text::maps;
 use emit_text::maps::MapParts;
 use emit_text::symbols::{MapSymbol, MapSymbols};
-use emit_values::values::{OutputSymbol, Values};
 use ldmodel::memory::NoMemory;
 use ldmodel::rows::Piece;
 use ldmodel_laws::layout::placed_are_rows;

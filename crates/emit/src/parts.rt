@@ -17,7 +17,7 @@ use emit_image::headers::{headers, loaded_end};
 use emit_image::section::ImageSection;
 use emit_image::sections::TableSection;
 use emit_image::tail::{TailParts, tail};
-use emit_values::values::Values;
+use emit_relocate::values::Values;
 use ldmodel::impossible::impossible;
 use ldmodel::memory::NoMemory;
 use ldmodel_laws::segments::segments_by_neighbours;

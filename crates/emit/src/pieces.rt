@@ -18,7 +18,7 @@ ghost use Rattle.ldmodel.specs.declared.sections.SectionKey.{SectionKey as KeyOf
 ghost use Rattle.symres.specs.SymbolTable.{SymbolTableState};
 ghost use Rattle.ldmodel_project.specs.ByPlace.{piece_in, rows_in};
 ghost use Rattle.emit_relocate.specs.KnownLink.{KnownLink};
-ghost use Rattle.emit_values.specs.LinkView.{known_link};
+ghost use Rattle.emit_relocate.specs.LinkView.{known_link};
 ghost use Rattle.emit.specs.Output.{IsJoinedRow};
 ghost use Rattle.emit.specs.Pieces.{AreRowsAt, AreSources, IsDrawnPiece, IsPlacedAt, IsRowAt, IsRowPiece};
 ghost use Rattle.emit.specs.Pieces.{IsSectionPiece};

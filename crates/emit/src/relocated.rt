@@ -13,8 +13,8 @@ ghost use Rattle.ldmodel_project.specs.ByPlace.{faults_in};
 ghost use Rattle.emit.specs.Beside.{IsRelocatedBeside};
 ghost use Rattle.emit_relocate.specs.SymbolValues.{AreSymbolValues};
 ghost use Rattle.emit_relocate.specs.Values.{value_of};
-ghost use Rattle.emit_values.specs.LinkView.{IsLinkView, known_link};
-ghost use Rattle.emit_values.specs.Values.{AreValues};
+ghost use Rattle.emit_relocate.specs.LinkView.{IsLinkView, known_link};
+ghost use Rattle.emit_relocate.specs.LinkValues.{AreValues};
 
 use crate::keys::keys_of;
 use crate::law::{pieces_are_sized, pieces_in_file, sections_end_below};
@@ -26,12 +26,12 @@ use emit_relocate::law::{
     all_is_evaluated, due_sites_count, no_fault_is_missed, patches_are_fields,
     patches_are_those_retargeted,
 };
+use emit_relocate::link_view::LinkView;
 use emit_relocate::previous_link_info::PreviousLinkInfo;
 use emit_relocate::symbol::entry_fault;
 use emit_relocate::symbol_values::SymbolValues;
 use emit_relocate::value::SymbolValue;
-use emit_values::link_view::LinkView;
-use emit_values::values::Values;
+use emit_relocate::values::Values;
 use ldmodel::fault::Fault;
 use ldmodel::memory::NoMemory;
 use ldmodel_laws::stayed::{fields_in_image, pieces_in_image, stayed_in_both};

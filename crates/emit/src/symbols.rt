@@ -6,13 +6,13 @@ ghost use Rattle.ldmodel.specs.Layout.{Layout};
 ghost use Rattle.ldmodel.specs.Project.{Project};
 ghost use Rattle.ldmodel.specs.Tail.{ValuedSymbol, table_symbols};
 ghost use Rattle.symres.specs.SymbolTable.{SymbolTableState};
-ghost use Rattle.emit_values.specs.Values.{AreValues, HasFacts};
+ghost use Rattle.emit_relocate.specs.LinkValues.{AreValues, HasFacts};
 ghost use Rattle.emit.specs.Sizes.{valued};
 ghost use Rattle.emit.specs.Tables.{AreTablesFor};
 
 use emit_image::symbols::{SymbolTables, TableSymbol};
 use emit_relocate::value::SymbolValue;
-use emit_values::values::{OutputSymbol, Values};
+use emit_relocate::values::{OutputSymbol, Values};
 use ldmodel::memory::NoMemory;
 use std::alloc::Global;
 

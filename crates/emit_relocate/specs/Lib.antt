@@ -9,3 +9,17 @@ pub mod Filled
 pub mod Changes
 pub mod Patched
 pub mod Links
+pub mod ScriptValues
+pub mod Given
+pub mod GivenTable
+pub mod LinkView
+pub mod LinkValues
+pub mod NameRows
+pub mod ScriptNames
+pub mod Symbols
+pub mod Sizes
+pub mod AssertedSymbols
+pub mod FinalScope
+pub mod SymbolRows
+pub mod ObjectParts
+pub mod ObjectTable

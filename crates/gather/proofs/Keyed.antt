@@ -15,8 +15,8 @@ use Rattle.ldmodel.specs.Project.{Project}
 use Rattle.ldmodel.specs.Sections.{InputSection, SectionId, is_same, is_same_part}
 use Rattle.ldmodel.specs.declared.sections.SectionKey.{SectionKey}
 use Rattle.gather.specs.SectionPlaces.{ArePlaces, AreProjectPlaces, IsPlaceOf}
-use Rattle.gather_sections.specs.SectionTable.{IsTableOf, number_of}
-use Rattle.gather_sections.specs.declared.input_section_table.InputSectionTable.{InputSectionTable}
+use Rattle.gather.specs.SectionTable.{IsTableOf, number_of}
+use Rattle.gather.specs.declared.input_section_table.InputSectionTable.{InputSectionTable}
 use Rattle.gather.proofs.InLists.{there}
 use Rattle.ldmodel_laws.proofs.SameParts.{same_part, own_part}
 

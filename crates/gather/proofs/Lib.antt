@@ -30,3 +30,8 @@ pub mod SameInputs
 pub mod ByRuns
 pub mod Commons
 pub mod AllTaken
+mod Counting
+mod Ranks
+mod Searching
+mod OfObjects
+mod Numbering

@@ -13,9 +13,9 @@ use Rattle.ldmodel.specs.Sections.{is_same_part}
 use Rattle.ldmodel.specs.declared.sections.Part.{Part}
 use Rattle.ldmodel.specs.declared.sections.SectionKey.{SectionKey}
 use Rattle.gather.specs.SectionPlaces.{ArePlaces, is_same_key, place_at, place_under, with_place}
-use Rattle.gather_sections.specs.SectionTable.{IsTableOf, len_of, number_of}
-use Rattle.gather_sections.specs.declared.input_section_table.SectionNumber.{SectionNumber}
-use Rattle.gather_sections.specs.declared.input_section_table.InputSectionTable.{InputSectionTable}
+use Rattle.gather.specs.SectionTable.{IsTableOf, len_of, number_of}
+use Rattle.gather.specs.declared.input_section_table.SectionNumber.{SectionNumber}
+use Rattle.gather.specs.declared.input_section_table.InputSectionTable.{InputSectionTable}
 use Rattle.ldmodel_laws.proofs.SameParts.{same_part, own_part}
 
 same_key : (a b : SectionKey) → is_same_key a b ≡ true → a ≡ b

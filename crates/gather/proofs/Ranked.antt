@@ -10,7 +10,7 @@ use Rattle.std.proofs.lemmas.List.Elements.{Contains-append_left, Contains-appen
 use Rattle.std.proofs.lemmas.Option.{get_or_from_slice_get, same_Some, slice_get_within}
 use Rattle.ldmodel.specs.Project.{NamedObject, Project}
 use Rattle.ldmodel.specs.Sections.{InputSection}
-use Rattle.gather_sections.specs.SectionTable.{AreBlockRanks, IsBlockAmong}
+use Rattle.gather.specs.SectionTable.{AreBlockRanks, IsBlockAmong}
 use Rattle.gather.specs.Blocks.{block_of}
 use Rattle.gather.specs.Blocks.{AreBlocks, AreBlocksOf, block_rank}
 use Rattle.gather.specs.declared.blocks.CommonBlock.{CommonBlock}

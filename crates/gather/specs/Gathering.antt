@@ -6,7 +6,7 @@ use Rattle.ldmodel.specs.Project.{Project}
 use Rattle.ldmodel.specs.Rows.{rows}
 use Rattle.ldmodel.specs.declared.fault.Fault.TheVariants.{Orphan}
 use Rattle.ldmodel_project.specs.ByPlace.{rows_in}
-use Rattle.gather_sections.specs.SectionTable.{IsTableOf}
+use Rattle.gather.specs.SectionTable.{IsTableOf}
 use Rattle.gather.specs.declared.gathering.Gathering.{Gathering}
 
 -- its table numbers the input sections of the project, its rows are those of the project, its orphans are the faults

@@ -1,4 +1,3 @@
-pub use Rattle.gather_sections.specs as sections
 pub mod Words
 pub mod WordTables
 pub mod Known
@@ -25,3 +24,7 @@ pub mod SectionPlaces
 pub mod Referring
 pub mod Gathering
 pub mod Taking
+pub mod Slots
+pub mod Ranks
+pub mod SectionTable
+pub mod OfObjects

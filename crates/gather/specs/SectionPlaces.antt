@@ -16,9 +16,9 @@ use Rattle.ldmodel.specs.declared.sections.SectionKey.{SectionKey}
 use Rattle.symres.specs.Decided.{case_at}
 use Rattle.symres.specs.SymbolTable.{SymbolTableState}
 use Rattle.gather.specs.declared.places.Places.{Places}
-use Rattle.gather_sections.specs.SectionTable.{number_of}
-use Rattle.gather_sections.specs.declared.input_section_table.SectionNumber as code
-use Rattle.gather_sections.specs.declared.input_section_table.InputSectionTable.{InputSectionTable}
+use Rattle.gather.specs.SectionTable.{number_of}
+use Rattle.gather.specs.declared.input_section_table.SectionNumber as code
+use Rattle.gather.specs.declared.input_section_table.InputSectionTable.{InputSectionTable}
 
 abbrev pub place_at : List (Option ℕ) → ℕ → Option ℕ
 place_at places at = slice_index_or places at None

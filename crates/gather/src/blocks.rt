@@ -7,7 +7,7 @@ ghost use Rattle.gather.specs.Blocks.{AreBlocks, AreBlocksOf, block_of, block_ra
 ghost use Rattle.gather.specs.Commons.{AreCommonsIn};
 ghost use Rattle.gather.specs.ProjectMatches.{AreMatched};
 ghost use Rattle.gather.specs.Symbols.{IsObjectAt};
-ghost use Rattle.gather_sections.specs.SectionTable.{AreBlockRanks};
+ghost use Rattle.gather.specs.SectionTable.{AreBlockRanks};
 ghost use Rattle.ldmodel.specs.HandedOver.{decision_of};
 ghost use Rattle.ldmodel.specs.InputSections as inputs;
 ghost use Rattle.ldmodel.specs.Names.{is_common_place};
@@ -16,10 +16,10 @@ ghost use Rattle.symres.specs.SymbolTable.{IsSymbolTable};
 
 use crate::cases::case_of_symbol;
 use crate::matches::Matches;
+use crate::rank::Rank;
 use elfobj::Object;
 use elfobj::relocation::SymbolIndex;
 use elfobj::symbol::{Symbol, SymbolPlace};
-use gather_sections::rank::Rank;
 use ldmodel::memory::NoMemory;
 use ldmodel::names::{Case, ObjectPlace};
 use ldmodel_project::view::ProjectView;

@@ -7,16 +7,16 @@ ghost use Rattle.ldmodel.specs.Gathering.{is_discarded};
 ghost use Rattle.ldmodel.specs.InputSections.{input_sections};
 ghost use Rattle.ldmodel.specs.Live.{live};
 ghost use Rattle.symres.specs.SymbolTable.{IsSymbolTable};
-ghost use Rattle.gather_sections.specs.SectionTable.{IsTableOf};
+ghost use Rattle.gather.specs.SectionTable.{IsTableOf};
 
 use crate::by_key::places_by_key;
 use crate::gathered_section::GatheredSection;
+use crate::input_section_table::InputSectionTable;
 use crate::marking::mark;
 use crate::places::{Places, places_of};
 use crate::referring::ProjectReferences;
 use crate::roots::roots;
 use crate::targets::entry_section;
-use gather_sections::input_section_table::InputSectionTable;
 use ldmodel::memory::NoMemory;
 use ldmodel_project::view::ProjectView;
 use std::alloc::Global;

@@ -3,11 +3,11 @@
 ghost use Rattle.std.specs.Prelude.{◌≡◌, ◌<◌, IfOk, IfSome, length, option_and_then};
 ghost use Rattle.gather.specs.GatheredSections.{AreGathered};
 ghost use Rattle.gather.specs.SectionPlaces.{AreProjectPlaces, place_in, place_under, with_place};
-ghost use Rattle.gather_sections.specs.SectionTable.{IsTableOf};
+ghost use Rattle.gather.specs.SectionTable.{IsTableOf};
 
 use crate::gathered_section::GatheredSection;
+use crate::input_section_table::{InputSectionTable, SectionNumber};
 use crate::law::sections_apart;
-use gather_sections::input_section_table::{InputSectionTable, SectionNumber};
 use ldmodel::memory::NoMemory;
 use ldmodel::sections::SectionKey;
 use ldmodel_project::view::ProjectView;

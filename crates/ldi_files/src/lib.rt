@@ -10,8 +10,11 @@
 //! bytes are read, and what is left of old files, is tested on the built program.
 #![tactic(auto)]
 
+mod argument;
+pub mod argument_fault;
 pub mod clash;
 pub mod fault;
+pub mod named_file;
 pub mod place;
 pub mod reading;
 pub mod writing;

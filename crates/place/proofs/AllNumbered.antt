@@ -16,9 +16,9 @@ use Rattle.ldmodel.specs.Sections.{InputSection}
 use Rattle.ldmodel.specs.declared.rows.Piece.{Piece}
 use Rattle.ldmodel.specs.declared.sections.Part.{Part}
 use Rattle.ldmodel_project.specs.ByPlace.{piece_in, rows_in}
-use Rattle.gather.specs.sections.OfObjects.{IsOfObject}
-use Rattle.gather.specs.sections.SectionTable.{IsTableOf, number_of}
-use Rattle.gather.specs.sections.declared.input_section_table.InputSectionTable.{InputSectionTable}
+use Rattle.gather.specs.OfObjects.{IsOfObject}
+use Rattle.gather.specs.SectionTable.{IsTableOf, number_of}
+use Rattle.gather.specs.declared.input_section_table.InputSectionTable.{InputSectionTable}
 use Rattle.place.specs.Columns.{HaveNumbers}
 use Rattle.place.specs.Entries.{all_entries, row_entries}
 use Rattle.place.specs.InPlace.{IsOwned}

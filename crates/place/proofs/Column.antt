@@ -14,8 +14,8 @@ use Rattle.ldmodel.specs.Sections.{is_same_part}
 use Rattle.place.specs.Columns.{AddsEntries, HaveNumbers, IsColumn, has_number, is_number, place_of}
 use Rattle.place.specs.Entries.{is_part_of}
 use Rattle.place.specs.declared.indexed_section.IndexedSection.{IndexedSection}
-use Rattle.gather.specs.sections.SectionTable.{IsTableOf, len_of, number_of}
-use Rattle.gather.specs.sections.declared.input_section_table.InputSectionTable.{InputSectionTable}
+use Rattle.gather.specs.SectionTable.{IsTableOf, len_of, number_of}
+use Rattle.gather.specs.declared.input_section_table.InputSectionTable.{InputSectionTable}
 use Rattle.place.specs.declared.indexed_layout.SectionAddress.{SectionAddress}
 use Rattle.ldmodel_laws.proofs.SameParts.{same_part, own_part}
 

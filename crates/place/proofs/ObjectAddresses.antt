@@ -7,7 +7,7 @@ use Rattle.std.specs.Option.{option_and_then}
 use Rattle.std.specs.Prelude.{min, nat_lt}
 use Rattle.elfobj.specs.declared.section.SectionIndex.{SectionIndex}
 use Rattle.ldmodel.specs.declared.names.ObjectPlace.{ObjectPlace}
-use Rattle.gather.specs.sections.SectionTable.{slots_at}
+use Rattle.gather.specs.SectionTable.{slots_at}
 use Rattle.place.specs.IndexedLayout.{place_in, table_key}
 use Rattle.place.specs.declared.indexed_layout.IndexedLayout.{IndexedLayout}
 use Rattle.place.specs.declared.indexed_layout.SectionAddress.{SectionAddress}

@@ -13,7 +13,7 @@ use Rattle.ldmodel.specs.Rows.{taken}
 use Rattle.ldmodel.specs.Sections.{InputSection}
 use Rattle.ldmodel.specs.declared.sections.Part.{Part}
 use Rattle.ldmodel_project.specs.Inputs.{AreObjectsNamed}
-use Rattle.gather.specs.sections.OfObjects.{IsOfObject}
+use Rattle.gather.specs.OfObjects.{IsOfObject}
 use Rattle.place.specs.InPlace.{IsOwned}
 use Rattle.ldmodel_laws.proofs.EachOf.{each_filter, each_into_map, each_always, each_flat}
 use Rattle.ldmodel_laws.proofs.EachOf.{each_sorted}

@@ -26,7 +26,7 @@ use Rattle.place.specs.Columns.{HaveNumbers, IsColumn}
 use Rattle.place.specs.Entries.{all_entries, entry_of, is_part_of, row_entries}
 use Rattle.place.specs.LinkLayout.{IsLinkLayout}
 use Rattle.place.specs.InPlace.{AreInPlace, IsOwned, entries_of}
-use Rattle.gather.specs.sections.SectionTable.{IsTableOf}
+use Rattle.gather.specs.SectionTable.{IsTableOf}
 use Rattle.place.specs.IndexedLayout.{IsIndexedLayout, IsSectionAddress, place_in}
 use Rattle.place.specs.declared.indexed_section.IndexedSection.{IndexedSection}
 use Rattle.place.specs.declared.indexed_layout.SectionAddress.{SectionAddress}

@@ -4,8 +4,8 @@ use Rattle.std.specs.Prelude.{slice_index_or, find, All, IsSome}
 use Rattle.std.specs.Option.{option_map}
 use Rattle.place.specs.declared.indexed_section.IndexedSection.{IndexedSection}
 use Rattle.place.specs.declared.indexed_layout.SectionAddress.{SectionAddress}
-use Rattle.gather.specs.sections.SectionTable.{len_of, number_of}
-use Rattle.gather.specs.sections.declared.input_section_table.InputSectionTable.{InputSectionTable}
+use Rattle.gather.specs.SectionTable.{len_of, number_of}
+use Rattle.gather.specs.declared.input_section_table.InputSectionTable.{InputSectionTable}
 
 -- all of these have numbers
 abbrev pub HaveNumbers : InputSectionTable → List IndexedSection → Type 0

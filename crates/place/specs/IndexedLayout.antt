@@ -13,9 +13,9 @@ use Rattle.ldmodel.specs.declared.sections.Part.TheVariants.{InTable}
 use Rattle.ldmodel.specs.declared.sections.SectionKey.{SectionKey}
 use Rattle.place.specs.InPlace.{AreInPlace}
 use Rattle.place.specs.LinkLayout.{IsLinkLayout}
-pub use Rattle.gather.specs.sections.Slots.{linked_in}
-pub use Rattle.gather.specs.sections.SectionTable.{linked_of}
-use Rattle.gather.specs.sections.SectionTable.{IsTableOf, number_of}
+pub use Rattle.gather.specs.Slots.{linked_in}
+pub use Rattle.gather.specs.SectionTable.{linked_of}
+use Rattle.gather.specs.SectionTable.{IsTableOf, number_of}
 use Rattle.ldmodel.specs.Rows as model
 use Rattle.ldmodel_project.specs.ByPlace.{rows_in}
 use Rattle.place.specs.declared.indexed_layout.SectionAddress.{SectionAddress}

@@ -1,13 +1,13 @@
 //! The addresses of input sections, by their numbers.
 
 ghost use Rattle.std.specs.Prelude.{◌≡◌, ◌++◌, ◌∷◌, [], IfOk, List, drop, length, min};
-ghost use Rattle.gather.specs.sections.SectionTable.{len_of};
+ghost use Rattle.gather.specs.SectionTable.{len_of};
 ghost use Rattle.place.specs.Columns.{AddsEntries, IsColumn};
 ghost use Rattle.place.specs.Entries.{all_entries, row_entries};
 
 use crate::indexed_layout::SectionAddress;
 use crate::indexed_section::IndexedSection;
-use gather::sections::input_section_table::InputSectionTable;
+use gather::input_section_table::InputSectionTable;
 use ldmodel::memory::NoMemory;
 use ldmodel::names::ObjectPlace;
 use ldmodel::placed::OutputIndex;

@@ -7,13 +7,13 @@ ghost use Rattle.ldmodel.specs.Project.{Project};
 ghost use Rattle.place.specs.LinkLayout.{IsLinkLayout};
 ghost use Rattle.ldmodel.specs.Rows as model;
 ghost use Rattle.ldmodel_project.specs.ByPlace.{rows_in};
-ghost use Rattle.gather.specs.sections.SectionTable.{IsTableOf};
+ghost use Rattle.gather.specs.SectionTable.{IsTableOf};
 
 use crate::address_column::address_column;
 use crate::link_layout::LinkLayout;
 use crate::numbered::are_numbered;
-use gather::sections::input_section_table::{InputSectionTable, SectionNumber};
-use gather::sections::law::sections_of_objects;
+use gather::input_section_table::{InputSectionTable, SectionNumber};
+use gather::law::sections_of_objects;
 use ldmodel::memory::NoMemory;
 use ldmodel::names::ObjectPlace;
 use ldmodel::placed::OutputIndex;

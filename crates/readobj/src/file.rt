@@ -4,7 +4,7 @@ use crate::why::explain::explain;
 use crate::why::lto::is_slim;
 use elfobj::section::LinkedIndex;
 use elfobj::{Meter, Object, ObjectRefusal};
-use filearg::file::{NamedFile, print_too_long};
+use ldi_files::named_file::{NamedFile, print_too_long};
 use std::alloc::Global;
 use std::io;
 use std::io::{ErrorKind, Write};

@@ -1,6 +1,6 @@
 //! What is printed of a file that the command line names.
 
-use filearg::file::{NamedFile, print_too_long};
+use ldi_files::named_file::{NamedFile, print_too_long};
 use ldscript::{Script, ScriptRefusal};
 use std::alloc::Global;
 use std::io;

@@ -34,10 +34,10 @@ use Rattle.emit.specs.relocate.PreviousLinkInfo.{IsComplete}
 use Rattle.emit.specs.relocate.KnownLink.{KnownLink}
 use Rattle.emit.specs.relocate.SymbolValues.{AreSymbolValues}
 use Rattle.emit.specs.relocate.declared.symbol_values.SymbolValues.{SymbolValues}
-use Rattle.emit.specs.values.LinkView.{IsLinkView, known_link}
-use Rattle.emit.specs.values.Values.{AreValues}
-use Rattle.emit.specs.values.declared.link_view.LinkView.{LinkView}
-use Rattle.emit.specs.values.declared.values.Values.{Values}
+use Rattle.emit.specs.relocate.LinkView.{IsLinkView, known_link}
+use Rattle.emit.specs.relocate.LinkValues.{AreValues}
+use Rattle.emit.specs.relocate.declared.link_view.LinkView.{LinkView}
+use Rattle.emit.specs.relocate.declared.values.Values.{Values}
 use Rattle.relink_driver.specs.Counted.{AreEvaluated, HasEvaluated}
 use Rattle.relink_driver.specs.RelinkOutcome.{HasPreviousImage}
 use Rattle.relink_driver.specs.Phases.{AreBeside, ArePatches, HasPreviousLink, IsFilled, IsShort}

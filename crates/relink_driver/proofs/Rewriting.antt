@@ -31,8 +31,8 @@ use Rattle.ldscript.specs.statements.declared.statement.Statement.{Statement}
 use Rattle.emit.specs.Beside.{new_link}
 use Rattle.emit.specs.relocate.SymbolValues.{AreSymbolValues}
 use Rattle.emit.specs.relocate.declared.symbol_values.SymbolValues.{SymbolValues}
-use Rattle.gather.specs.sections.SectionTable.{IsTableOf, number_of}
-use Rattle.gather.specs.sections.declared.input_section_table.InputSectionTable.{InputSectionTable}
+use Rattle.gather.specs.SectionTable.{IsTableOf, number_of}
+use Rattle.gather.specs.declared.input_section_table.InputSectionTable.{InputSectionTable}
 use Rattle.place.specs.IndexedLayout.{IsIndexedLayout, IsSectionAddress}
 use Rattle.place.specs.InPlace.{IsOwned, entries_of}
 use Rattle.place.specs.LinkLayout.{IsLinkLayout}

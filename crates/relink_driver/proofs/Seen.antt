@@ -29,8 +29,8 @@ use Rattle.emit.specs.relocate.KnownLink.{AreNameValues, IsSymbolOf, KnownLink, 
 use Rattle.emit.specs.relocate.Values.{address_from, value_of}
 use Rattle.emit.specs.relocate.declared.value.SymbolValue as code
 use Rattle.emit.specs.relocate.declared.value.SymbolValue.TheVariants.{NotDefined}
-use Rattle.emit.specs.values.LinkView.{IsLinkView, known_link}
-use Rattle.emit.specs.values.declared.link_view.LinkView.{LinkView}
+use Rattle.emit.specs.relocate.LinkView.{IsLinkView, known_link}
+use Rattle.emit.specs.relocate.declared.link_view.LinkView.{LinkView}
 use Rattle.relink_driver.specs.ValueSources.{AreSeenIn, AreValueSources}
 use Rattle.relink_driver.specs.declared.symbol_values.ValueSources.{ValueSources}
 

@@ -33,8 +33,8 @@ use Rattle.ldmodel_laws.specs.FileOrder.{AreInFileOrder}
 use Rattle.ldmodel_laws.specs.Spread.{EachLater}
 use Rattle.ldmodel_laws.specs.StayedSites.{is_linked_part}
 use Rattle.emit.specs.Beside.{new_link}
-use Rattle.emit.specs.in_place.LocatedSections.{HasLocatedSections, IsLocatedSection, bytes_of}
-use Rattle.emit.specs.in_place.declared.located_section.LocatedSection.{LocatedSection}
+use Rattle.emit.specs.LocatedSections.{HasLocatedSections, IsLocatedSection, bytes_of}
+use Rattle.emit.specs.declared.located_section.LocatedSection.{LocatedSection}
 use Rattle.place.specs.IndexedLayout.{IsIndexedLayout}
 use Rattle.place.specs.declared.indexed_layout.IndexedLayout.{IndexedLayout}
 use Rattle.place.proofs.Members.{find_in}

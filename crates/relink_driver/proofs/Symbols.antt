@@ -21,7 +21,7 @@ use Rattle.emit.specs.relocate.KnownLink.{IsSymbolOf, KnownLink, named_object}
 use Rattle.emit.specs.relocate.Values.{value_of}
 use Rattle.emit.specs.relocate.declared.value.SymbolValue.{SymbolValue}
 use Rattle.emit.specs.relocate.declared.value.SymbolValue.TheVariants.{NotDefined}
-use Rattle.emit.specs.values.LinkView.{known_link}
+use Rattle.emit.specs.relocate.LinkView.{known_link}
 use Rattle.relink_driver.specs.ValueSources.{AreValueSources}
 use Rattle.relink_driver.specs.declared.symbol_values.ValueSources.{ValueSources}
 use Rattle.emit.specs.relocate.SymbolValues.{AreSymbolValues}

@@ -55,10 +55,10 @@ use Rattle.emit.specs.relocate.Values.{value_of}
 use Rattle.emit.specs.relocate.declared.symbol_values.SymbolValues.{SymbolValues}
 use Rattle.emit.specs.relocate.declared.value.SymbolValue as code
 use Rattle.emit.specs.relocate.declared.value.SymbolValue.TheVariants as value
-use Rattle.emit.specs.in_place.InPlaceRewrites.{IsBare, IsInPlaceRewrite}
-use Rattle.emit.specs.in_place.LocatedSections.{HasLocatedSections, bytes_of, sites_of}
-use Rattle.emit.specs.in_place.declared.rewrite.Rewrite.{Rewrite}
-use Rattle.emit.specs.in_place.declared.rewrite.Rewrite.TheVariants.{Done, Faulty}
+use Rattle.emit.specs.InPlaceRewrites.{IsBare, IsInPlaceRewrite}
+use Rattle.emit.specs.LocatedSections.{HasLocatedSections, bytes_of, sites_of}
+use Rattle.emit.specs.declared.rewrite.Rewrite.{Rewrite}
+use Rattle.emit.specs.declared.rewrite.Rewrite.TheVariants.{Done, Faulty}
 use Rattle.place.specs.IndexedLayout.{IsIndexedLayout}
 use Rattle.ldmodel_laws.proofs.Finding.{flat_map_in, member_of}
 use Rattle.ldmodel_laws.proofs.Members.{here, later, first_or_later, none_in_nil, at_place}

@@ -2,7 +2,7 @@
 use Rattle.std.specs.Prelude.{ℕ, zero, suc, ◌++◌, List, [], Option, option_and_then, option_to_list, slice_get}
 use Rattle.std.specs.Option.{option_map}
 use Rattle.elfobj.specs.declared.section.Section.{Section}
-use Rattle.emit.specs.in_place.declared.located_section.LocatedSection.{LocatedSection}
+use Rattle.emit.specs.declared.located_section.LocatedSection.{LocatedSection}
 use Rattle.ldmodel.specs.declared.names.ObjectPlace.{ObjectPlace}
 use Rattle.ldmodel.specs.declared.sections.Part.TheVariants.{InTable}
 use Rattle.ldmodel.specs.declared.sections.SectionKey.{SectionKey}

@@ -24,10 +24,10 @@ use Rattle.emit.specs.Runs.{AreRunsUnless}
 use Rattle.emit.specs.declared.relocated.Relocated.{Relocated}
 use Rattle.place.specs.IndexedLayout.{IsIndexedLayout}
 use Rattle.place.specs.declared.indexed_layout.IndexedLayout.{IndexedLayout}
-use Rattle.emit.specs.values.LinkView.{IsLinkView, known_link}
-use Rattle.emit.specs.values.Values.{AreValues}
-use Rattle.emit.specs.values.declared.link_view.LinkView.{LinkView}
-use Rattle.emit.specs.values.declared.values.Values.{Values}
+use Rattle.emit.specs.relocate.LinkView.{IsLinkView, known_link}
+use Rattle.emit.specs.relocate.LinkValues.{AreValues}
+use Rattle.emit.specs.relocate.declared.link_view.LinkView.{LinkView}
+use Rattle.emit.specs.relocate.declared.values.Values.{Values}
 
 -- the previous link is one without faults
 pub record HasPreviousLink (new : Project) (previous : PreviousState) : Type 0 where

@@ -10,7 +10,7 @@ use Rattle.symres.specs.SymbolTable.{SymbolTableState}
 use Rattle.place.specs.IndexedLayout.{IsIndexedLayout}
 use Rattle.emit.specs.relocate.KnownLink.{KnownLink}
 use Rattle.emit.specs.relocate.declared.previous_link_info.FileRange.{FileRange}
-use Rattle.emit.specs.values.LinkView.{known_link}
+use Rattle.emit.specs.relocate.LinkView.{known_link}
 use Rattle.relink_driver.specs.DirtyObjects.{AreDirtyObjects}
 use Rattle.relink_driver.specs.LinkSnapshot.{IsLinkSnapshot}
 use Rattle.relink_driver.specs.Origins.{AreOrigins}

@@ -8,7 +8,7 @@ use Rattle.symres.specs.SymbolTable.{IsSeenAt, IsSymbolTable, SymbolTableState}
 use Rattle.place.specs.IndexedLayout.{IsIndexedLayout, IsSectionAddress, table_key}
 use Rattle.place.specs.declared.indexed_layout.SectionAddress.{SectionAddress}
 use Rattle.emit.specs.relocate.KnownLink.{AreNameValues, KnownLink}
-use Rattle.emit.specs.values.LinkView.{known_link}
+use Rattle.emit.specs.relocate.LinkView.{known_link}
 use Rattle.relink_driver.specs.declared.symbol_values.ValueSources.{ValueSources}
 
 -- they are those of a link: the keys of names, the addresses of input sections, and the values of names

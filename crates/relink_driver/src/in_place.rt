@@ -5,7 +5,7 @@ ghost use Rattle.std.specs.Prelude.{slice_index_or, true};
 ghost use Rattle.ldmodel.specs.Project.{Project};
 ghost use Rattle.ldmodel.specs.Stayed.{GoodLink};
 ghost use Rattle.ldmodel_laws.specs.Outline.{DiffersInContents};
-ghost use Rattle.emit.specs.in_place.declared.rewrite.Rewrite.TheVariants.{Done, Faulty};
+ghost use Rattle.emit.specs.declared.rewrite.Rewrite.TheVariants.{Done, Faulty};
 ghost use Rattle.relink_driver.specs.RelinkOutcome.{HasPreviousImage};
 ghost use Rattle.relink_driver.specs.Context.{project_of};
 ghost use Rattle.relink_driver.specs.InPlace.{IsNextLink, IsKeptLink, IsInPlaceOutcome, origin_beside};
@@ -20,17 +20,17 @@ use crate::outline::{same_outline, same_targets};
 use crate::stayed_sections::{PreviousView, ReplacedObject};
 use emit::Canvas;
 use emit::good::is_good;
-use emit::in_place::located_section::nobits_are_bare;
-use emit::in_place::rewrite::{Rewrite, rewrite_in_place};
+use emit::located_section::nobits_are_bare;
+use emit::rewrite::{Rewrite, rewrite_in_place};
+use emit::rewritten::{
+    rewritten_frame, rewritten_layout, rewritten_link, rewritten_names, rewritten_rows,
+    rewritten_values,
+};
 use ldmodel::memory::NoMemory;
 use ldmodel::meter::Meter;
 use ldmodel::names::ObjectPlace;
 use ldmodel_laws::segments::{files_in_order, sections_in_file};
 use ldmodel_laws::stayed::{stayed_by_part, stayed_in_image};
-use ldmodel_outline::law::{
-    rewritten_frame, rewritten_layout, rewritten_link, rewritten_names, rewritten_rows,
-    rewritten_values,
-};
 use ldmodel_project::view::ProjectView;
 use place::numbered::are_numbered;
 use std::alloc::Global;
@@ -85,7 +85,7 @@ fn outlines_decide()
     ensures { (old : GoodLink) (project : Project) (i : ℕ) → DiffersInContents old.project project i
         → IsKeptLink old.project project old.layout }
 {
-    // for the prover: brings in the laws of `ldmodel_outline`
+    // for the prover: brings in the laws of `emit::rewritten`
     rewritten_names();
     rewritten_rows();
     rewritten_values();

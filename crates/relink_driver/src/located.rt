@@ -7,7 +7,7 @@ ghost use Rattle.relink_driver.specs.LocatedSections.{spots_below};
 use crate::section_location::find_location;
 use elfobj::Object;
 use elfobj::section::LinkedIndex;
-use emit::in_place::located_section::LocatedSection;
+use emit::located_section::LocatedSection;
 use ldmodel::memory::NoMemory;
 use ldmodel::names::ObjectPlace;
 use ldmodel::sections::{Part, SectionKey};

@@ -12,7 +12,7 @@ ghost use Rattle.ldmodel.specs.Targets.{referenced_value};
 ghost use Rattle.symres.specs.SymbolTable.{IsSeenAt, IsSymbolTable, SymbolTableState};
 ghost use Rattle.emit.specs.relocate.KnownLink.{IsSymbolOf, KnownLink, named_object, value_under};
 ghost use Rattle.emit.specs.relocate.Values.{value_of};
-ghost use Rattle.emit.specs.values.LinkView.{known_link};
+ghost use Rattle.emit.specs.relocate.LinkView.{known_link};
 ghost use Rattle.emit.specs.relocate.SymbolValues.{AreSymbolValues};
 ghost use Rattle.relink_driver.specs.ValueSources.{AreAddressesOf, AreSeenIn, AreValueSources};
 

@@ -2,7 +2,7 @@
 use Rattle.std.proofs.Common.{◌∙◌, ◌<◌, sym, ap, subst, take, arith, length}
 use Rattle.std.specs.List.{All}
 use Rattle.std.proofs.lemmas.List.{take_all}
-use Rattle.emit_values.specs.Values.{HasFacts}
+use Rattle.emit_relocate.specs.LinkValues.{HasFacts}
 use Rattle.emit.proofs.Lists.{own_member}
 use Rattle.emit.proofs.OfSymbols.{no_symbols, symbols_more}
 use Rattle.emit.proofs.Sizing.{table_is}

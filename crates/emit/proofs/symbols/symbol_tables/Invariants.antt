@@ -3,7 +3,7 @@ use Rattle.std.proofs.Common.{take}
 use Rattle.std.specs.List.{All}
 use Rattle.ldmodel.specs.Layout.{Layout}
 use Rattle.ldmodel.specs.Project.{Project}
-use Rattle.emit_values.specs.Values.{HasFacts}
+use Rattle.emit_relocate.specs.LinkValues.{HasFacts}
 use Rattle.emit.proofs.symbols.symbol_tables.Given as goal
 use Rattle.emit.specs.Sizes.{valued_in}
 use Rattle.emit.specs.Tables.{AreTablesFor}

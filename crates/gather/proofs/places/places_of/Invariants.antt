@@ -1,7 +1,7 @@
 -- The sections so far have their places.
 use Rattle.std.proofs.Common.{◌≡◌, length}
 use Rattle.gather.specs.SectionPlaces.{ArePlaces, place_under}
-use Rattle.gather_sections.specs.SectionTable.{len_of}
+use Rattle.gather.specs.SectionTable.{len_of}
 use Rattle.gather.proofs.places.places_of.Given as goal
 
 abbrev pub invariant-loop-place : goal.invariant-loop-place

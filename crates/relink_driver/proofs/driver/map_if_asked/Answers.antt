@@ -1,6 +1,6 @@
 use Rattle.std.proofs.Common.{◌≡◌, Bool, subst, sym}
 use Rattle.std.specs.Prelude.{IfOk}
-use Rattle.emit.specs.values.Values.{AreValues}
+use Rattle.emit.specs.relocate.LinkValues.{AreValues}
 use Rattle.ldmodel.specs.Layout.{Layout}
 use Rattle.ldmodel.specs.MapText as definition
 use Rattle.place.specs.LinkLayout.{IsLinkLayout}

@@ -2,7 +2,7 @@ use Rattle.std.proofs.Common.{◌∙◌, subst, sym}
 use Rattle.std.proofs.lemmas.Result.{err_from_is_err_and}
 use Rattle.emit.specs.relocate.KnownLink.{AreNameValues}
 use Rattle.emit.specs.relocate.SymbolValues.{AreSymbolValues}
-use Rattle.emit.specs.values.LinkView.{known_link}
+use Rattle.emit.specs.relocate.LinkView.{known_link}
 use Rattle.ldmodel.specs.Layout.{Layout}
 use Rattle.relink_driver.specs.Context.{project_of}
 use Rattle.relink_driver.specs.DirtyObjects.{AreDirtyObjects}

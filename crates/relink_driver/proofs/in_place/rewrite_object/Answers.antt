@@ -16,8 +16,8 @@ use Rattle.emit.specs.Beside.{new_link}
 use Rattle.emit.specs.relocate.Fields.{evaluations}
 use Rattle.emit.specs.relocate.KnownLink.{KnownLink}
 use Rattle.emit.specs.relocate.SymbolValues.{IsRow}
-use Rattle.emit.specs.in_place.LocatedSections.{HasLocatedSections, bytes_of, sites_of}
-use Rattle.emit.specs.in_place.declared.located_section.LocatedSection.{LocatedSection}
+use Rattle.emit.specs.LocatedSections.{HasLocatedSections, bytes_of, sites_of}
+use Rattle.emit.specs.declared.located_section.LocatedSection.{LocatedSection}
 use Rattle.relink_driver.specs.Context.{project_of}
 use Rattle.relink_driver.specs.LocatedSections.{spots_below}
 use Rattle.relink_driver.specs.StayedSections.{IsPreviousOf, PreviousState, ReplacedObjectState, previous_state}

@@ -10,7 +10,7 @@ use Rattle.ldmodel.specs.Layout.{Layout}
 use Rattle.ldmodel.specs.SectionHeaders.{image_length}
 use Rattle.ldmodel.specs.WorkBound.{bytes_stayed}
 use Rattle.emit.specs.Beside.{new_link}
-use Rattle.emit.specs.values.LinkView.{known_link}
+use Rattle.emit.specs.relocate.LinkView.{known_link}
 use Rattle.relink_driver.specs.Counted.{IsWritten}
 use Rattle.relink_driver.specs.Context.{project_of}
 use Rattle.relink_driver.proofs.Beside.{drawable_at, drawn_image, end_within, one_placement, stays_of}

@@ -7,7 +7,7 @@ use Rattle.emit_relocate.specs.Filled.{EndBelow, IsOrder}
 use Rattle.emit_relocate.specs.KnownLink.{KnownLink}
 use Rattle.emit_relocate.specs.SymbolValues.{HasSymbolValues}
 use Rattle.emit_relocate.specs.Values.{value_of}
-use Rattle.emit_values.specs.LinkView.{known_link}
+use Rattle.emit_relocate.specs.LinkView.{known_link}
 use Rattle.emit.proofs.Beside.{are_runs}
 use Rattle.emit.proofs.Faulting.{all_faults}
 use Rattle.emit.proofs.RelocatedLists.{one_place}

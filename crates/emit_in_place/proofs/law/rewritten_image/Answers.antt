@@ -1,6 +1,0 @@
-use Rattle.emit_in_place.proofs.Frame.{byte_same}
-use Rattle.emit_in_place.proofs.law.rewritten_image.Goals as goal
-
-pub returns-clause-byte : goal.returns-clause-byte
-returns-clause-byte c = λ p q s i b h frame spread named at_i o clear.
-    byte_same p q s i b h frame spread named at_i o clear

@@ -1,7 +1,0 @@
-use Rattle.emit_in_place.proofs.Planning.{found_by_number}
-use Rattle.emit_in_place.proofs.located_section.numbers_differ.Goals as goal
-
-pub returns : goal.returns
-returns c = λ j x is.
-    found_by_number c.args.object.now.sections c.sections-sections.result.now c.sections-sections.ensures.value
-    c.sections-sections.ensures.ascending j x is

@@ -1,3 +1,0 @@
-pub mod LocatedSections
-pub mod InPlaceRewrites
-pub mod Plan

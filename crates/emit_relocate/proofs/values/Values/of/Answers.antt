@@ -1,0 +1,36 @@
+use Rattle.std.proofs.Common.{List, subst, sym}
+use Rattle.emit_relocate.specs.KnownLink.{KnownLink}
+use Rattle.emit_relocate.specs.LinkView.{known_link}
+use Rattle.emit_relocate.specs.NameRows.{AreResolved}
+use Rattle.emit_relocate.specs.declared.symbol_row.SymbolRow.{SymbolRow}
+use Rattle.emit_relocate.proofs.values.Values.of.Goals as goal
+
+pub returns : goal.returns
+returns c =
+    λ s given link.
+    let l : KnownLink = known_link c.args.project.now s c.args.symbol_table.now in
+    record {
+      names = c.in_ok-rows.ensures.values l link;
+      entry = c.entry_value-entry.ensures s c.requires.symbol_table given link;
+      symbols = c.in_ok-sizes.ensures.symbols c.args.project.now s (record {
+        symbol_table = c.requires.symbol_table;
+        script = sym c.script-script.ensures;
+        rows = subst (λ (xs : List SymbolRow). AreResolved l xs) (sym c.deref.ensures.value)
+            (c.in_ok-rows.ensures.rows l link);
+        given = given;
+      });
+      facts = c.in_ok-sizes.ensures.facts c.args.project.now s (record {
+        symbol_table = c.requires.symbol_table;
+        script = sym c.script-script.ensures;
+        rows = subst (λ (xs : List SymbolRow). AreResolved l xs) (sym c.deref.ensures.value)
+            (c.in_ok-rows.ensures.rows l link);
+        given = given;
+      });
+      sizes = c.in_ok-sizes.ensures.sizes c.args.project.now s (record {
+        symbol_table = c.requires.symbol_table;
+        script = sym c.script-script.ensures;
+        rows = subst (λ (xs : List SymbolRow). AreResolved l xs) (sym c.deref.ensures.value)
+            (c.in_ok-rows.ensures.rows l link);
+        given = given;
+      });
+    }

@@ -1,6 +1,0 @@
-use Rattle.emit_values.proofs.Giving.{Noted}
-use Rattle.emit_values.proofs.given_table.given_table.Given as goal
-
--- the commands before this one are noted
-abbrev pub invariant-loop-at : goal.invariant-loop-at
-invariant-loop-at l = Noted l.symbol_table l.values l.at-index l.table.items

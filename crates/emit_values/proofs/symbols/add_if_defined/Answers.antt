@@ -1,8 +1,0 @@
-use Rattle.emit_values.specs.Symbols.{symbol_with}
-use Rattle.emit_values.proofs.Added.{keeps_one}
-use Rattle.emit_values.proofs.symbols.add_if_defined.Goals as goal
-
-pub returns-clause-facts : goal.returns-clause-facts
-returns-clause-facts c p s one all =
-    keeps_one p s (symbol_with c.args.name c.args.row.now) c.args.list.now.items
-    c.push_reserved.new.self.items c.push_reserved.ensures.items one all

@@ -1,5 +1,0 @@
-mod Counting
-mod Ranks
-mod Searching
-mod OfObjects
-mod Numbering

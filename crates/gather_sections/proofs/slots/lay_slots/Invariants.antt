@@ -1,5 +1,0 @@
-use Rattle.gather_sections.proofs.Counting.{LaidUpTo}
-use Rattle.gather_sections.proofs.slots.lay_slots.Given as goal
-
-abbrev pub invariant-loop-input : goal.invariant-loop-input
-invariant-loop-input l = LaidUpTo l.inputs l.objects.items l.slots l.linked l.input-index

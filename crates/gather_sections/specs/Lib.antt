@@ -1,4 +1,0 @@
-pub mod Slots
-pub mod Ranks
-pub mod SectionTable
-pub mod OfObjects

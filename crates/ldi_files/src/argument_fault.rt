@@ -1,0 +1,87 @@
+//! Why a file that a command line names is not shown.
+
+ghost use Rattle.std.specs.Prelude.{◌≡◌};
+
+use std::alloc::Global;
+use std::io;
+use std::io::ErrorKind;
+
+/// The status after words that are refused.
+const REFUSED: u8 = 2;
+/// The status after a device failed.
+const DEVICE: u8 = 3;
+/// The status if memory runs out.
+const NO_MEMORY: u8 = 4;
+
+/// Why a file that a command line names is not shown.
+#[derive(Debug, Drop)]
+pub enum FileFault {
+    /// There is more than one word after the program's name, or one that is not UTF-8.
+    Words,
+    /// The file of this name cannot be read.
+    Unread(String, io::Error),
+    /// Standard output cannot be written.
+    Unwritten(io::Error),
+    /// Out of memory.
+    Memory,
+}
+
+/// A fault of standard output, or out of memory.
+impl From<io::Error> for FileFault {
+    ghost use Rattle.ldi_files.specs.ArgumentFault.{IsOutputFault};
+
+    ghost from_gives = { IsOutputFault };
+
+    fn from(error: io::Error) -> FileFault {
+        if error.kind() == ErrorKind::OutOfMemory {
+            FileFault::Memory
+        } else {
+            FileFault::Unwritten(error)
+        }
+    }
+}
+
+impl FileFault {
+    ghost use Rattle.ldi_files.specs.ArgumentFault.{IsFaultOfFile, exit_status};
+
+    /// The fault of a file that cannot be read, or out of memory.
+    pub fn of_file(alloc: Global, name: &str, error: io::Error) -> FileFault
+        ensures { IsFaultOfFile name.now error result }
+    {
+        if error.kind() == ErrorKind::OutOfMemory {
+            return FileFault::Memory;
+        }
+        match String::from_str(alloc, name) {
+            Ok(name) => FileFault::Unread(name, error),
+            Err(_) => FileFault::Memory,
+        }
+    }
+
+    /// The status that a program ends with after this fault.
+    pub fn exit_status(&self) -> u8
+        ensures { result ≡ exit_status self.now }
+    {
+        match self {
+            FileFault::Words => REFUSED,
+            FileFault::Unread(_, _) | FileFault::Unwritten(_) => DEVICE,
+            FileFault::Memory => NO_MEMORY,
+        }
+    }
+
+    /// Reports the fault on standard error, and gives the status that a program ends with. If the words are refused,
+    /// `usage` is what is reported.
+    pub fn report(&self, rt: &impl Eprint, usage: &str) -> u8
+        ensures { result ≡ exit_status self.now }
+    {
+        // if standard error cannot be written either, the status alone says it
+        let _ = match self {
+            FileFault::Words => eprintln!(rt; "{usage}"),
+            FileFault::Unread(name, error) => eprintln!(rt; "{name}: cannot be read: {error}"),
+            FileFault::Unwritten(error) => eprintln!(rt;
+                "standard output cannot be written: {error}"
+            ),
+            FileFault::Memory => eprintln!(rt; "memory"),
+        };
+        self.exit_status()
+    }
+}

@@ -1,9 +1,0 @@
-pub mod Objects
-pub mod SameNames
-pub mod SameValues
-pub mod MappedGraph
-pub mod SameInputs
-pub mod SameReferences
-pub mod SameRows
-pub mod SameFrame
-pub mod SameLink

@@ -1,5 +1,0 @@
-use Rattle.ldmodel_outline.proofs.SameLink as same
-use Rattle.ldmodel_outline.proofs.law.rewritten_layout.Goals as goal
-
-pub returns : goal.returns
-returns c p q place h = same.same_layout h
