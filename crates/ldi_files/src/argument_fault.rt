@@ -2,7 +2,7 @@
 
 ghost use Rattle.std.specs.Prelude.{◌≡◌};
 
-use std::alloc::Global;
+use std::alloc::{AllocError, Global};
 use std::io;
 use std::io::ErrorKind;
 
@@ -15,7 +15,7 @@ const NO_MEMORY: u8 = 4;
 
 /// Why a file that a command line names is not shown.
 #[derive(Debug, Drop)]
-pub enum FileFault {
+pub enum ArgumentFault {
     /// There is more than one word after the program's name, or one that is not UTF-8.
     Words,
     /// The file of this name cannot be read.
@@ -27,33 +27,44 @@ pub enum FileFault {
 }
 
 /// A fault of standard output, or out of memory.
-impl From<io::Error> for FileFault {
+impl From<io::Error> for ArgumentFault {
     ghost use Rattle.ldi_files.specs.ArgumentFault.{IsOutputFault};
 
     ghost from_gives = { IsOutputFault };
 
-    fn from(error: io::Error) -> FileFault {
+    fn from(error: io::Error) -> ArgumentFault {
         if error.kind() == ErrorKind::OutOfMemory {
-            FileFault::Memory
+            ArgumentFault::Memory
         } else {
-            FileFault::Unwritten(error)
+            ArgumentFault::Unwritten(error)
         }
     }
 }
 
-impl FileFault {
+/// Memory ran out.
+impl From<AllocError> for ArgumentFault {
+    ghost use Rattle.ldi_files.specs.declared.argument_fault.ArgumentFault.TheVariants.{Memory};
+
+    ghost from_gives = { λ _ fault. fault ≡ Memory };
+
+    fn from(_error: AllocError) -> ArgumentFault {
+        ArgumentFault::Memory
+    }
+}
+
+impl ArgumentFault {
     ghost use Rattle.ldi_files.specs.ArgumentFault.{IsFaultOfFile, exit_status};
 
     /// The fault of a file that cannot be read, or out of memory.
-    pub fn of_file(alloc: Global, name: &str, error: io::Error) -> FileFault
+    pub fn of_file(alloc: Global, name: &str, error: io::Error) -> ArgumentFault
         ensures { IsFaultOfFile name.now error result }
     {
         if error.kind() == ErrorKind::OutOfMemory {
-            return FileFault::Memory;
+            return ArgumentFault::Memory;
         }
         match String::from_str(alloc, name) {
-            Ok(name) => FileFault::Unread(name, error),
-            Err(_) => FileFault::Memory,
+            Ok(name) => ArgumentFault::Unread(name, error),
+            Err(_) => ArgumentFault::Memory,
         }
     }
 
@@ -62,9 +73,9 @@ impl FileFault {
         ensures { result ≡ exit_status self.now }
     {
         match self {
-            FileFault::Words => REFUSED,
-            FileFault::Unread(_, _) | FileFault::Unwritten(_) => DEVICE,
-            FileFault::Memory => NO_MEMORY,
+            ArgumentFault::Words => REFUSED,
+            ArgumentFault::Unread(_, _) | ArgumentFault::Unwritten(_) => DEVICE,
+            ArgumentFault::Memory => NO_MEMORY,
         }
     }
 
@@ -75,12 +86,12 @@ impl FileFault {
     {
         // if standard error cannot be written either, the status alone says it
         let _ = match self {
-            FileFault::Words => eprintln!(rt; "{usage}"),
-            FileFault::Unread(name, error) => eprintln!(rt; "{name}: cannot be read: {error}"),
-            FileFault::Unwritten(error) => eprintln!(rt;
+            ArgumentFault::Words => eprintln!(rt; "{usage}"),
+            ArgumentFault::Unread(name, error) => eprintln!(rt; "{name}: cannot be read: {error}"),
+            ArgumentFault::Unwritten(error) => eprintln!(rt;
                 "standard output cannot be written: {error}"
             ),
-            FileFault::Memory => eprintln!(rt; "memory"),
+            ArgumentFault::Memory => eprintln!(rt; "memory"),
         };
         self.exit_status()
     }

@@ -1,13 +1,13 @@
-//! The bytes of a file.
+//! The file that the command line of a program names, as `readobj` and `readscript` take it.
 
-ghost use Rattle.std.specs.Prelude.{◌≡◌, ◌<◌, ◌^◌, ◌↔◌, IsTrue, length, take, IfOk, IfSome};
+ghost use Rattle.std.specs.Prelude.{◌<◌, ◌^◌, ◌↔◌, IsTrue, length};
 
 use crate::argument::file_word;
-use crate::argument_fault::FileFault;
-use std::alloc::Global;
+use crate::argument_fault::ArgumentFault;
+use crate::fault::FileFault;
+use crate::reading::FileReader;
 use std::env::Env;
-use std::fs::{File, OpenFile};
-use std::io::{ErrorKind, Read, Write};
+use std::io::{ErrorKind, Write};
 use std::rt::Files;
 use std::{env, io};
 
@@ -32,49 +32,26 @@ impl NamedFile {
     }
 }
 
-/// The bytes that a reader has left, or the first `most` of them if there are more. The buffer has room for `room`
-/// bytes from the beginning.
-///
-/// # Errors
-///
-/// If the reader fails; of kind `OutOfMemory` if memory runs out.
-pub fn read_bytes<R: Read + Drop>(
-    alloc: Global,
-    reader: R,
-    room: usize,
-    most: u64,
-) -> io::Result<Vec<u8>>
-    ensures { IfOk result (λ bytes. IfSome (R.remaining reader) (λ xs. bytes.items ≡ take most xs)) }
-{
-    let mut bytes = Vec::with_capacity(alloc, room)?;
-    reader.take(most).read_to_end(&mut bytes)?;
-    Ok(bytes)
-}
-
-/// The bytes of a file, in a buffer of its size, or the first `MAX_FILE` + 1 of them if it has more: so a file that is
-/// too long is recognized, and one without an end is not read for ever.
-///
-/// # Errors
-///
-/// If the file cannot be read; of kind `OutOfMemory` if memory runs out.
-pub fn read_file<R: Files + AllocGlobal>(rt: &R, name: &str) -> io::Result<Vec<u8>> {
-    let most = MAX_FILE + 1;
-    let file = File::open(rt, name)?;
-    let size = file.metadata()?.len();
-    let room = usize::try_from(size).unwrap_or(most).min(most);
-    read_bytes(rt.alloc(), file, room, most as u64)
-}
-
 /// The words of the command line, with the program's name first.
 fn arguments<R: Env + AllocGlobal>(rt: &R) -> io::Result<Vec<String>> {
     Ok(env::args(rt)?.collect(rt.alloc())?)
 }
 
 /// The file of this name.
-fn read_named<R: Files + AllocGlobal>(rt: &R, name: &str) -> io::Result<NamedFile> {
-    let bytes = read_file(rt, name)?;
-    let name = String::from_str(rt.alloc(), name)?;
-    Ok(NamedFile { name, bytes })
+fn read_named<R: Files + AllocGlobal>(rt: &R, name: &str) -> Result<NamedFile, ArgumentFault> {
+    let mut reader = FileReader::new(rt.alloc(), MAX_FILE + 1)?;
+    match reader.read(rt, name) {
+        Ok(file) => Ok(NamedFile {
+            name: String::from_str(rt.alloc(), name)?,
+            bytes: file.bytes,
+        }),
+        Err(FileFault::Memory) => Err(ArgumentFault::Memory),
+        Err(FileFault::Failed { error, .. }) => Err(ArgumentFault::of_file(
+            rt.alloc(),
+            name,
+            error,
+        )),
+    }
 }
 
 /// The file that the program's command line names; `None` if it has no word.
@@ -82,18 +59,17 @@ fn read_named<R: Files + AllocGlobal>(rt: &R, name: &str) -> io::Result<NamedFil
 /// # Errors
 ///
 /// If there are more words, or one is not UTF-8; if the file cannot be read; if memory runs out.
-pub fn named_file<R: Files + Env + AllocGlobal>(rt: &R) -> Result<Option<NamedFile>, FileFault> {
+pub fn named_file<R: Files + Env + AllocGlobal>(
+    rt: &R,
+) -> Result<Option<NamedFile>, ArgumentFault> {
     let args = match arguments(rt) {
         Ok(args) => args,
-        Err(error) if error.kind() == ErrorKind::OutOfMemory => return Err(FileFault::Memory),
-        Err(_) => return Err(FileFault::Words),
+        Err(error) if error.kind() == ErrorKind::OutOfMemory => return Err(ArgumentFault::Memory),
+        Err(_) => return Err(ArgumentFault::Words),
     };
-    let Some(name) = file_word(&args)? else {
-        return Ok(None);
-    };
-    match read_named(rt, name.as_str()) {
-        Ok(file) => Ok(Some(file)),
-        Err(error) => Err(FileFault::of_file(rt.alloc(), name.as_str(), error)),
+    match file_word(&args)? {
+        Some(name) => Ok(Some(read_named(rt, name.as_str())?)),
+        None => Ok(None),
     }
 }
 

@@ -53,7 +53,7 @@ use crate::stream::{Frame, Kind, split_frame};
 use crate::variants::print_variants;
 use crate::why::explain::explain;
 use elfobj::{Meter, Object, ObjectRefusal};
-use ldi_files::argument_fault::FileFault;
+use ldi_files::argument_fault::ArgumentFault;
 use ldi_files::named_file::{NamedFile, named_file};
 use std::alloc::Global;
 use std::io;
@@ -153,7 +153,7 @@ fn main(rt: HostRuntime) -> ExitCode {
         Ok(None) => show_stream(&rt).unwrap_or(FAILED),
         Ok(Some(file)) => match show_named(&rt, file) {
             Ok(status) => status,
-            Err(error) => FileFault::from(error).report(&rt, USAGE),
+            Err(error) => ArgumentFault::from(error).report(&rt, USAGE),
         },
         Err(fault) => fault.report(&rt, USAGE),
     };

@@ -76,7 +76,7 @@ use crate::numbers::push_numbers;
 use crate::pattern::push_match;
 use crate::script::push_script;
 use crate::tokens::push_tokens;
-use ldi_files::argument_fault::FileFault;
+use ldi_files::argument_fault::ArgumentFault;
 use ldi_files::named_file::{NamedFile, named_file};
 use std::alloc::{AllocError, Global};
 use std::io;
@@ -148,7 +148,7 @@ fn main(rt: HostRuntime) -> ExitCode {
         Ok(None) => show_stream(&rt).unwrap_or(FAILED),
         Ok(Some(file)) => match show_named(&rt, &file) {
             Ok(status) => status,
-            Err(error) => FileFault::from(error).report(&rt, USAGE),
+            Err(error) => ArgumentFault::from(error).report(&rt, USAGE),
         },
         Err(fault) => fault.report(&rt, USAGE),
     };
