@@ -7,7 +7,7 @@ use Rattle.std.proofs.lemmas.Bool.{cases_Bool, cases_lt, both_ways, false_from_n
 use Rattle.std.proofs.lemmas.List.{get_or-drop, get_or-take, get_or_default, length-drop, length-take, take_all}
 use Rattle.std.proofs.lemmas.List.Folds.{list_any_none}
 use Rattle.elfobj.specs.FieldMarks.{IsTaken, IsWindow}
-use Rattle.elfobj.specs.Places.{relocations_in}
+use Rattle.elfobj.specs.PartSpans.{relocations_in}
 use Rattle.elfobj.specs.Profile.{AreApart}
 use Rattle.elfobj_file.specs.Relocations.{field_end, meets, share_bytes}
 use Rattle.elfobj_file.specs.declared.span.Span.{Span}

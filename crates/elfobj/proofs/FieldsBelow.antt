@@ -10,7 +10,7 @@ use Rattle.std.proofs.lemmas.List.{get_or-map, length-map}
 use Rattle.std.proofs.lemmas.List.Folds.{list_any_at}
 use Rattle.std.proofs.lemmas.List.Sorted.{All-permutation, IsPermutation-map, list_any-IsPermutation}
 use Rattle.elfobj.specs.FieldMarks.{AreBelow}
-use Rattle.elfobj.specs.Places.{AreRelocated, relocations_in}
+use Rattle.elfobj.specs.PartSpans.{AreRelocated, relocations_in}
 use Rattle.elfobj_file.specs.Refusal.{entry_refusals, holds}
 use Rattle.elfobj_file.specs.RelocationEntries.{relocation_entries_below}
 use Rattle.elfobj_file.specs.Relocations.{field_end, relocation_of, relocations_at, share_bytes}

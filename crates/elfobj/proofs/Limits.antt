@@ -13,7 +13,7 @@ use Rattle.std.proofs.lemmas.Nat.{le_or_l}
 use Rattle.elfobj_file.specs.ElfHeader.{e_shnum}
 use Rattle.elfobj.specs.Linkable.{IsLinkable, PassesTests}
 use Rattle.elfobj_file.specs.Names.{is_name}
-use Rattle.elfobj.specs.Places.{IsFileWithin}
+use Rattle.elfobj.specs.PartSpans.{IsFileWithin}
 use Rattle.elfobj.specs.Profile.{IsSectionOfProfile, size_in_file}
 use Rattle.elfobj_file.specs.Refusal.{holds, is_looked_at, is_out_of_bounds, is_outside_profile, object_refusal}
 use Rattle.elfobj_file.specs.SectionHeaders.{header}

@@ -18,7 +18,7 @@ use Rattle.elfobj_file.specs.declared.relocation.Relocation.{Relocation}
 use Rattle.elfobj_file.specs.declared.relocation_entry.RelocationEntry.{RelocationEntry}
 use Rattle.elfobj_file.specs.declared.section.Section.{Section}
 use Rattle.elfobj_file.specs.declared.span.Span.{Span}
-use Rattle.elfobj.specs.Places.{AreRelocated, relocations_in}
+use Rattle.elfobj.specs.PartSpans.{AreRelocated, relocations_in}
 use Rattle.elfobj.specs.Runs.{AreTablesOf, IsTableOf, has_refused_entry, is_refused_for, table_entries}
 use Rattle.elfobj.specs.declared.relocation_fault.EntryFault.TheVariants.{Any}
 use Rattle.elfobj.specs.declared.relocation_run.SectionTable.{SectionTable}

@@ -13,7 +13,7 @@ use Rattle.elfobj_file.specs.declared.section.SectionKind.{SectionKind}
 use Rattle.elfobj_file.specs.declared.section_header.SectionHeader.{SectionHeader}
 use Rattle.elfobj_file.proofs.Headers.{headers_at, headers_length}
 use Rattle.elfobj.specs.Linkable.{IsNameTable}
-use Rattle.elfobj.specs.Places.{IsFileWithin}
+use Rattle.elfobj.specs.PartSpans.{IsFileWithin}
 use Rattle.elfobj.proofs.Passing.{none_at}
 use Rattle.elfobj.proofs.Steps.{file_within, linked_parts}
 

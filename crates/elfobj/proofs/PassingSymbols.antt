@@ -20,7 +20,7 @@ use Rattle.elfobj_file.specs.declared.section_header.SectionHeader.{SectionHeade
 use Rattle.elfobj_file.specs.declared.span.Span.{Span}
 use Rattle.elfobj_file.specs.declared.symbol.Symbol.{Symbol}
 use Rattle.elfobj_file.specs.declared.symbol_entry.SymbolEntry.{SymbolEntry}
-use Rattle.elfobj.specs.Places.{AreNamed}
+use Rattle.elfobj.specs.PartSpans.{AreNamed}
 use Rattle.elfobj.proofs.SymbolTables.{entries_length, entry_told, named_push, right_table, symbols_pass, wrong_symbol}
 use Rattle.elfobj.proofs.SymbolTables.{wrong_table}
 

@@ -3,12 +3,12 @@ use Rattle.std.proofs.Common.{◌≡◌, ℕ, ◌+◌, ◌<◌, List, [], ◌∷
 use Rattle.std.proofs.Common.{subst, arith}
 use Rattle.std.proofs.lemmas.List.{get_or-map, length-map, map-set, map_push, set-get_or, take_more, take_more_set}
 use Rattle.elfobj.specs.Linkable.{ArePartsOf}
-use Rattle.elfobj.specs.Places.{AreNamed, ArePlaced, AreRead, AreRelocated, name_in, relocations_in}
+use Rattle.elfobj.specs.PartSpans.{AreNamed, ArePlaced, AreRead, AreRelocated, name_in, relocations_in}
 use Rattle.elfobj_file.specs.Sections.{LinkedSection, sections_of}
 use Rattle.elfobj_file.specs.Spans.{IsInside, bytes_at}
 use Rattle.elfobj_file.specs.Symbols.{symbols_of}
 use Rattle.elfobj_file.specs.declared.span.Span.{Span}
-use Rattle.elfobj.specs.declared.place.Place.{Place}
+use Rattle.elfobj.specs.declared.part_spans.PartSpans.{PartSpans}
 use Rattle.elfobj_file.specs.declared.relocation.Relocation.{Relocation}
 use Rattle.elfobj_file.specs.declared.section.Section.{Section}
 use Rattle.elfobj_file.specs.declared.symbol.Symbol.{Symbol}
@@ -31,7 +31,8 @@ part_more f xs ys i x e l m h a =
     ∙ sym (take_more ys i e m)
 
 -- as many stretches as places
-pub as_many : (file : List ℕ) (ls : List LinkedSection) (ss : List Section) (ps : List Place) (all : List Relocation)
+pub as_many : (file : List ℕ) (ls : List LinkedSection) (ss : List Section) (ps : List PartSpans)
+    (all : List Relocation)
     (spans : List Span) → AreRead file ls ss ps
     → AreRelocated (map (λ (s : LinkedSection). s.relocations) ls) all spans → length spans ≡ length ps
 as_many file ls ss ps all spans a r =
@@ -56,51 +57,51 @@ part_at f xs ys k d e l m = sym (get_or-map f xs k d (f d) m) ∙ ap (λ zs. get
     ∙ get_or-map f ys k d (f d) l
 
 -- the same names and bytes are read
-pub read_kept : (file : List ℕ) (ls : List LinkedSection) (ss : List Section) (ps ps' : List Place)
-    → map (λ (p : Place). p.name) ps' ≡ map (λ (p : Place). p.name) ps
-    → map (λ (p : Place). p.bytes) ps' ≡ map (λ (p : Place). p.bytes) ps → AreRead file ls ss ps
+pub read_kept : (file : List ℕ) (ls : List LinkedSection) (ss : List Section) (ps ps' : List PartSpans)
+    → map (λ (p : PartSpans). p.name) ps' ≡ map (λ (p : PartSpans). p.name) ps
+    → map (λ (p : PartSpans). p.bytes) ps' ≡ map (λ (p : PartSpans). p.bytes) ps → AreRead file ls ss ps
     → AreRead file ls ss ps'
 read_kept file ls ss ps ps' e f a =
-    let long : length ps' ≡ length ps = sym (length-map ps' (λ (p : Place). p.name)) ∙ ap length e
-    ∙ length-map ps (λ (p : Place). p.name) in
+    let long : length ps' ≡ length ps = sym (length-map ps' (λ (p : PartSpans). p.name)) ∙ ap length e
+    ∙ length-map ps (λ (p : PartSpans). p.name) in
     record {
       sections = a.sections;
-      names = mapped_same (λ (p : Place). p.name) (bytes_at file) ps ps' e ∙ a.names;
-      bytes = mapped_same (λ (p : Place). p.bytes) (bytes_at file) ps ps' f ∙ a.bytes;
+      names = mapped_same (λ (p : PartSpans). p.name) (bytes_at file) ps ps' e ∙ a.names;
+      bytes = mapped_same (λ (p : PartSpans). p.bytes) (bytes_at file) ps ps' f ∙ a.bytes;
       within = λ k d l.
           let m : k < length ps = omega arith in
           record {
-            name = subst (IsInside (length file)) (part_at (λ (p : Place). p.name) ps ps' k d e l m)
+            name = subst (IsInside (length file)) (part_at (λ (p : PartSpans). p.name) ps ps' k d e l m)
                 (a.within k d m).name;
-            bytes = subst (IsInside (length file)) (part_at (λ (p : Place). p.bytes) ps ps' k d f l m)
+            bytes = subst (IsInside (length file)) (part_at (λ (p : PartSpans). p.bytes) ps ps' k d f l m)
                 (a.within k d m).bytes;
           };
     }
 
 -- stretches that stand in places
-placed : (lists_of : List (List Relocation)) (all : List Relocation) (ps : List Place)
-    → AreRelocated lists_of all (map (λ (p : Place). p.relocations) ps) → ArePlaced lists_of all ps
+placed : (lists_of : List (List Relocation)) (all : List Relocation) (ps : List PartSpans)
+    → AreRelocated lists_of all (map (λ (p : PartSpans). p.relocations) ps) → ArePlaced lists_of all ps
 placed lists_of all ps r = record {
-  lists = sym (mapped (λ (p : Place). p.relocations) (relocations_in all) ps) ∙ r.lists;
+  lists = sym (mapped (λ (p : PartSpans). p.relocations) (relocations_in all) ps) ∙ r.lists;
   within = λ k d l.
-      let m : k < length (map (λ (p : Place). p.relocations) ps) = omega
-      (arith, length-map ps (λ (p : Place). p.relocations)) in
-      subst (IsInside (length all)) (get_or-map (λ (p : Place). p.relocations) ps k d d.relocations l)
+      let m : k < length (map (λ (p : PartSpans). p.relocations) ps) = omega
+      (arith, length-map ps (λ (p : PartSpans). p.relocations)) in
+      subst (IsInside (length all)) (get_or-map (λ (p : PartSpans). p.relocations) ps k d d.relocations l)
       (r.within k d.relocations m);
 }
 
 -- all parts, once places `old` have become `ps`
-pub parts_placed : (file : List ℕ) (ss : List Section) (read old ps ps' : List Place) (symbols : List Symbol)
+pub parts_placed : (file : List ℕ) (ss : List Section) (read old ps ps' : List PartSpans) (symbols : List Symbol)
     (names : List Span) (all : List Relocation) (spans spans' : List Span)
     → AreRead file (sections_of file) ss read → AreNamed file (symbols_of file) symbols names
     → AreRelocated (map (λ (s : LinkedSection). s.relocations) (sections_of file)) all spans
-    → old ≡ read → spans' ≡ spans → map (λ (p : Place). p.relocations) ps ≡ spans'
-    → map (λ (p : Place). p.name) ps ≡ map (λ (p : Place). p.name) old
-    → map (λ (p : Place). p.bytes) ps ≡ map (λ (p : Place). p.bytes) old → ps' ≡ ps
+    → old ≡ read → spans' ≡ spans → map (λ (p : PartSpans). p.relocations) ps ≡ spans'
+    → map (λ (p : PartSpans). p.name) ps ≡ map (λ (p : PartSpans). p.name) old
+    → map (λ (p : PartSpans). p.bytes) ps ≡ map (λ (p : PartSpans). p.bytes) old → ps' ≡ ps
     → ArePartsOf file ss ps' symbols names all
 parts_placed file ss read old ps ps' symbols names all spans spans' a n r e f g h k s = rw s (record {
-  sections_read = read_kept file (sections_of file) ss read ps (h ∙ ap (map (λ (p : Place). p.name)) e)
-      (k ∙ ap (map (λ (p : Place). p.bytes)) e) a;
+  sections_read = read_kept file (sections_of file) ss read ps (h ∙ ap (map (λ (p : PartSpans). p.name)) e)
+      (k ∙ ap (map (λ (p : PartSpans). p.bytes)) e) a;
   symbols_read = n;
   relocations_read = placed (map (λ (s : LinkedSection). s.relocations) (sections_of file)) all ps
       (subst (AreRelocated (map (λ (s : LinkedSection). s.relocations) (sections_of file)) all) (sym (g ∙ f)) r);

@@ -13,7 +13,7 @@ use Rattle.std.proofs.lemmas.List.Sorted.{All-permutation, IsPermutation-map, li
 use Rattle.elfobj_file.specs.ElfHeader.{e_shnum}
 use Rattle.elfobj_file.specs.LinkedKinds.{linked_kind}
 use Rattle.elfobj.specs.Linkable.{PassesTests}
-use Rattle.elfobj.specs.Places.{AreRelocated, relocations_in}
+use Rattle.elfobj.specs.PartSpans.{AreRelocated, relocations_in}
 use Rattle.elfobj_file.specs.Refusal.{entry_refusals, holds, is_out_of_bounds, relocation_refusals}
 use Rattle.elfobj_file.specs.RelocationEntries.{relocation_entry_at, relocation_entries_below}
 use Rattle.elfobj_file.specs.Relocations.{changes, entries_in, relocation_entries, relocation_of, relocation_section}

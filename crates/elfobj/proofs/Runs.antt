@@ -9,14 +9,14 @@ use Rattle.std.proofs.lemmas.List.{append-nil, append_assoc, drop-append-le, get
 use Rattle.std.proofs.lemmas.List.{length-append, length-drop, length-map, map-append, take-append-le, take_all}
 use Rattle.std.proofs.lemmas.List.{take_more, map_push}
 use Rattle.std.proofs.lemmas.List.Elements.{All-head, All-more, All-push, All-tail, All-weaker}
-use Rattle.elfobj.specs.Places.{AreRelocated, relocations_in}
+use Rattle.elfobj.specs.PartSpans.{AreRelocated, relocations_in}
 use Rattle.elfobj_file.specs.Spans.{IsInside}
 use Rattle.elfobj_file.specs.RelocationEntries.{relocation_entry_at, relocation_entries_below}
 use Rattle.elfobj_file.specs.Relocations.{relocation_of, relocations_at}
 use Rattle.elfobj.specs.Runs.{AreRuns, IsCovered, IsRun, IsTableOf, table_entries}
 use Rattle.elfobj_file.specs.declared.span.Span.{Span}
 use Rattle.elfobj_file.specs.declared.relocation.Relocation.{Relocation}
-use Rattle.elfobj.specs.declared.relocation_run.Run.{Run}
+use Rattle.elfobj.specs.declared.relocation_run.RelocationRun.{RelocationRun}
 use Rattle.elfobj.specs.declared.relocation_run.SectionTable.{SectionTable}
 use Rattle.elfobj_file.specs.declared.section.Section.{Section}
 use Rattle.elfobj_file.specs.declared.section.SectionKind.TheVariants.{Progbits}
@@ -78,10 +78,10 @@ part_of bytes start j n r =
     (decoded_length bytes (start + 24 * j) n)
 
 -- a part of a run: the entries of a table that the run covers
-abbrev pub no_run : Run
+abbrev pub no_run : RelocationRun
 no_run = record { low = 0; count = 0; first = 0 }
 
-run_part : (bytes : List ℕ) (tables : List SectionTable) (all : List Relocation) (class : ℕ) (run : Run)
+run_part : (bytes : List ℕ) (tables : List SectionTable) (all : List Relocation) (class : ℕ) (run : RelocationRun)
     (t : SectionTable) (s : Span) → IsRun bytes tables all class run → t.start % 24 ≡ class
     → run.low ≤ t.start / 24 → t.start / 24 + t.count ≤ run.low + run.count
     → s.start + run.low ≡ run.first + t.start / 24 → s.end ≡ s.start + t.count
@@ -101,7 +101,7 @@ run_part bytes tables all class run t s r m a b u v =
     ∙ part_of bytes (24 * run.low + class) j t.count rest
     ∙ ap (λ k. decoded bytes k t.count) begin
 
-run_inside : (bytes : List ℕ) (tables : List SectionTable) (all : List Relocation) (class : ℕ) (run : Run)
+run_inside : (bytes : List ℕ) (tables : List SectionTable) (all : List Relocation) (class : ℕ) (run : RelocationRun)
     (t : SectionTable) (s : Span) → IsRun bytes tables all class run
     → run.low ≤ t.start / 24 → t.start / 24 + t.count ≤ run.low + run.count
     → s.start + run.low ≡ run.first + t.start / 24 → s.end ≡ s.start + t.count → IsInside (length all) s
@@ -120,7 +120,7 @@ span_none bytes all t s e a b = record {
       ∙ sym (ap (λ n. map relocation_of (relocation_entries_below bytes t.start n)) e);
 }
 
-pub span_some : (bytes : List ℕ) (tables : List SectionTable) (all : List Relocation) (class : ℕ) (run : Run)
+pub span_some : (bytes : List ℕ) (tables : List SectionTable) (all : List Relocation) (class : ℕ) (run : RelocationRun)
     (t : SectionTable) (s : Span) → IsRun bytes tables all class run → t.start % 24 ≡ class
     → run.low ≤ t.start / 24 → t.start / 24 + t.count ≤ run.low + run.count
     → s.start + run.low ≡ run.first + t.start / 24 → s.end ≡ s.start + t.count → IsSpanOf bytes all t s
@@ -154,7 +154,7 @@ front_kept all rs first count h =
     ap (λ xs. take (first + count - first) xs) (drop-append-le first all rs (omega arith))
     ∙ take-append-le (first + count - first) (drop first all) rs (omega arith)
 
-run_kept : (bytes : List ℕ) (tables : List SectionTable) (all rs : List Relocation) (class : ℕ) (run : Run)
+run_kept : (bytes : List ℕ) (tables : List SectionTable) (all rs : List Relocation) (class : ℕ) (run : RelocationRun)
     → IsRun bytes tables all class run → IsRun bytes tables (all ++ rs) class run
 run_kept bytes tables all rs class run r = record {
   within = let l = length-append all rs in omega (arith, r.within);
@@ -178,7 +178,8 @@ run_new bytes tables all class low count h =
     }
 
 pub runs_more : (bytes : List ℕ) (tables : List SectionTable) (all all' : List Relocation) (n low end count first : ℕ)
-    (runs runs' : List Run) → low ≤ end → count ≡ end - low → All (IsCovered n low end) tables → first ≡ length all
+    (runs runs' : List RelocationRun) → low ≤ end → count ≡ end - low → All (IsCovered n low end) tables → first
+    ≡ length all
     → all' ≡ all ++ decoded bytes (24 * low + n) count
     → runs' ≡ runs ++ record { low = low; count = count; first = first } ∷ [] → AreRuns bytes tables all n runs
     → AreRuns bytes tables all' (n + 1) runs'

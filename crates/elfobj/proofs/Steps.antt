@@ -10,13 +10,13 @@ use Rattle.std.proofs.lemmas.Option.{none-some, same_Some}
 use Rattle.elfobj_file.specs.ElfHeader.{e_shnum}
 use Rattle.elfobj.specs.Linkable.{IsLinkable, IsPlaced, PassesTests}
 use Rattle.elfobj_file.specs.Names.{is_name}
-use Rattle.elfobj.specs.Places.{AreRead, IsFileWithin, IsWithin, name_in, bytes_in}
+use Rattle.elfobj.specs.PartSpans.{AreRead, IsFileWithin, IsWithin, name_in, bytes_in}
 use Rattle.elfobj_file.specs.Refusal.{holds, is_looked_at, is_out_of_bounds, is_outside_profile}
 use Rattle.elfobj_file.specs.SectionHeaders.{header}
 use Rattle.elfobj_file.specs.SectionKinds.{kind_of}
 use Rattle.elfobj_file.specs.LinkedKinds.{is_alloc, linked_kind}
 use Rattle.elfobj_file.specs.Sections.{LinkedSection, section_of, linked_as, sections_below, name_of}
-use Rattle.elfobj.specs.declared.place.Place.{Place}
+use Rattle.elfobj.specs.declared.part_spans.PartSpans.{PartSpans}
 use Rattle.elfobj_file.specs.declared.section.Section.{Section}
 use Rattle.elfobj_file.specs.declared.section.SectionKind.{SectionKind}
 use Rattle.elfobj_file.specs.declared.section.SectionKind.TheVariants.{Progbits, Nobits, Note, InitArray, FiniArray}
@@ -25,8 +25,8 @@ use Rattle.elfobj_file.specs.declared.section_header.SectionHeader.{SectionHeade
 use Rattle.elfobj.proofs.Passing.{none_at}
 
 -- one more section and its place
-pub read_push : (file : List ℕ) (ls : List LinkedSection) (ss : List Section) (ps : List Place) (l : LinkedSection)
-    (s : Section) (p : Place)
+pub read_push : (file : List ℕ) (ls : List LinkedSection) (ss : List Section) (ps : List PartSpans) (l : LinkedSection)
+    (s : Section) (p : PartSpans)
     → AreRead file ls ss ps → IsPlaced file l s p → AreRead file (ls ++ l ∷ []) (ss ++ s ∷ []) (ps ++ p ∷ [])
 read_push file ls ss ps l s p r h = record {
   sections = rw (map_push section_of ls l, r.sections, h.section) refl;
@@ -48,7 +48,7 @@ sections_none bytes k h e f = rw (add-one, ← e, f) (append-nil _)
 
 -- a header whose section is linked
 pub read_more : (bytes : List ℕ) (k : ℕ) (h : SectionHeader) (kind : SectionKind) (ss ss' : List Section)
-    (ps ps' : List Place) (s : Section) (p : Place)
+    (ps ps' : List PartSpans) (s : Section) (p : PartSpans)
     → h ≡ header bytes k → linked_kind h ≡ Some kind → AreRead bytes (sections_below bytes k) ss ps
     → IsPlaced bytes (linked_as bytes k h kind) s p
     → ss' ≡ ss ++ s ∷ [] → ps' ≡ ps ++ p ∷ [] → AreRead bytes (sections_below bytes (k + 1)) ss' ps'
@@ -57,7 +57,7 @@ read_more bytes k h kind ss ss' ps ps' s p e f r q a b =
     (read_push bytes (sections_below bytes k) ss ps (linked_as bytes k h kind) s p r q)
 
 -- one whose section is not
-pub read_same : (bytes : List ℕ) (k : ℕ) (h : SectionHeader) (ss : List Section) (ps : List Place)
+pub read_same : (bytes : List ℕ) (k : ℕ) (h : SectionHeader) (ss : List Section) (ps : List PartSpans)
     → h ≡ header bytes k → linked_kind h ≡ None → AreRead bytes (sections_below bytes k) ss ps
     → AreRead bytes (sections_below bytes (k + 1)) ss ps
 read_same bytes k h ss ps e f r = subst (λ ls. AreRead bytes ls ss ps) (sym (sections_none bytes k h e f)) r

@@ -8,7 +8,7 @@ use Rattle.std.proofs.lemmas.List.{length-append, take_more, map_push}
 use Rattle.std.proofs.lemmas.List.Elements.{All-push, All-nil}
 use Rattle.elfobj_file.specs.ElfHeader.{e_shnum}
 use Rattle.elfobj.specs.Linkable.{PassesTests}
-use Rattle.elfobj.specs.Places.{AreNamed}
+use Rattle.elfobj.specs.PartSpans.{AreNamed}
 use Rattle.elfobj_file.specs.Spans.{IsInside, bytes_at}
 use Rattle.elfobj_file.specs.Refusal.{holds, is_out_of_bounds, symbol_refusals}
 use Rattle.elfobj_file.specs.SectionHeaders.{file_bytes, header, headers}

@@ -12,7 +12,7 @@ pub mod Runs
 pub mod EntryTests
 pub mod FieldMarks
 pub mod Numbering
-pub mod Places
+pub mod PartSpans
 pub mod Object
 pub mod Reading
 pub mod Linkable

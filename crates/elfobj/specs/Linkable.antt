@@ -3,12 +3,13 @@ use Rattle.std.specs.Prelude.{◌≡◌, ℕ, ◌+◌, ◌≤◌, List, Bool, le
 use Rattle.std.specs.Option.{option_map_or}
 use Rattle.elfobj_file.specs.ElfHeader.{e_shstrndx}
 use Rattle.elfobj_file.specs.Names.{is_name}
-use Rattle.elfobj.specs.Places.{AreRead, AreNamed, ArePlaced, IsFileWithin, name_in, bytes_in, is_relocated, IsWithin}
+use Rattle.elfobj.specs.PartSpans.{AreRead, AreNamed, ArePlaced, IsFileWithin, name_in, bytes_in, is_relocated}
+use Rattle.elfobj.specs.PartSpans.{IsWithin}
 use Rattle.elfobj_file.specs.Refusal.{object_refusal, holds}
 use Rattle.elfobj_file.specs.SectionHeaders.{header}
 use Rattle.elfobj_file.specs.Sections.{sections_of, LinkedSection, section_of, name_of}
 use Rattle.elfobj_file.specs.Symbols.{symbols_of}
-use Rattle.elfobj.specs.declared.place.Place.{Place}
+use Rattle.elfobj.specs.declared.part_spans.PartSpans.{PartSpans}
 use Rattle.elfobj_file.specs.declared.span.Span.{Span}
 use Rattle.elfobj_file.specs.declared.relocation.Relocation.{Relocation}
 use Rattle.elfobj_file.specs.declared.refusal.ObjectRefusal.TheVariants.{SectionBounds, SectionProfile}
@@ -33,22 +34,22 @@ pub record IsNameTable (bytes : List ℕ) (names : SectionHeader) : Type 0 where
   pub within : names.sh_offset + names.sh_size ≤ length bytes
 
 -- a linked section as callers see it, and the place of its name and bytes
-pub record IsPlaced (file : List ℕ) (linked : LinkedSection) (read : Section) (place : Place) : Type 0 where
+pub record IsPlaced (file : List ℕ) (linked : LinkedSection) (read : Section) (place : PartSpans) : Type 0 where
   pub section : read ≡ section_of linked
   pub name : name_in file place ≡ linked.name
   pub bytes : bytes_in file place ≡ linked.bytes
   pub within : IsWithin (length file) place
 
 -- the parts of an object, as lists of what callers see and places in its bytes
-pub record ArePartsOf (file : List ℕ) (sections : List Section) (places : List Place) (symbols : List Symbol)
+pub record ArePartsOf (file : List ℕ) (sections : List Section) (part_spans : List PartSpans) (symbols : List Symbol)
     (names : List Span) (relocations : List Relocation) : Type 0 where
-  pub sections_read : AreRead file (sections_of file) sections places
+  pub sections_read : AreRead file (sections_of file) sections part_spans
   pub symbols_read : AreNamed file (symbols_of file) symbols names
-  pub relocations_read : ArePlaced (map (λ s. s.relocations) (sections_of file)) relocations places
+  pub relocations_read : ArePlaced (map (λ s. s.relocations) (sections_of file)) relocations part_spans
 
 -- what an object keeps: bytes that no test refuses, what was read of them, and which sections have relocations
-pub record IsObject (file : List ℕ) (sections : List Section) (places : List Place) (symbols : List Symbol)
+pub record IsObject (file : List ℕ) (sections : List Section) (part_spans : List PartSpans) (symbols : List Symbol)
     (names : List Span) (relocations : List Relocation) (relocated : List Bool) : Type 0 where
   pub refusal : object_refusal file ≡ None
-  pub read : ArePartsOf file sections places symbols names relocations
-  pub relocated_are : relocated ≡ map is_relocated places
+  pub read : ArePartsOf file sections part_spans symbols names relocations
+  pub relocated_are : relocated ≡ map is_relocated part_spans

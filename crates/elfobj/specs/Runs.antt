@@ -10,7 +10,7 @@ use Rattle.elfobj_file.specs.declared.relocation.Relocation.{Relocation}
 use Rattle.elfobj_file.specs.declared.relocation_entry.RelocationEntry.{RelocationEntry}
 use Rattle.elfobj.specs.declared.relocation_fault.EntryFault.{EntryFault}
 use Rattle.elfobj.specs.declared.relocation_fault.EntryFault.TheVariants.{Any, Symbol, Kind, Bounds}
-use Rattle.elfobj.specs.declared.relocation_run.Run.{Run}
+use Rattle.elfobj.specs.declared.relocation_run.RelocationRun.{RelocationRun}
 use Rattle.elfobj.specs.declared.relocation_run.SectionTable.{SectionTable}
 use Rattle.elfobj_file.specs.declared.section.Section.{Section}
 
@@ -43,7 +43,7 @@ IsCovered class low end t = 0 < t.count → t.start % 24 ≡ class → (low ≤ 
 
 -- entries of a class, decoded, which stand among `all`, and cover each table of the class
 pub record IsRun (bytes : List ℕ) (tables : List SectionTable) (all : List Relocation) (class : ℕ)
-    (run : Run) : Type 0 where
+    (run : RelocationRun) : Type 0 where
   pub within : run.first + run.count ≤ length all
   pub entries : slice_range all run.first (run.first + run.count) ≡ map relocation_of
       (relocation_entries_below bytes (24 * run.low + class) run.count)
@@ -51,6 +51,6 @@ pub record IsRun (bytes : List ℕ) (tables : List SectionTable) (all : List Rel
 
 -- the runs of the first n classes
 pub record AreRuns (bytes : List ℕ) (tables : List SectionTable) (all : List Relocation) (n : ℕ)
-    (runs : List Run) : Type 0 where
+    (runs : List RelocationRun) : Type 0 where
   pub count : length runs ≡ n
-  pub each : (class : ℕ) (d : Run) → class < n → IsRun bytes tables all class (get_or runs class d)
+  pub each : (class : ℕ) (d : RelocationRun) → class < n → IsRun bytes tables all class (get_or runs class d)

@@ -6,7 +6,7 @@ ghost use Rattle.std.specs.Prelude.{◌≡◌, ℕ, ◌≤◌, ◌<◌, ◌+◌,
 ghost use Rattle.std.specs.List.{All, list_any, slice_range};
 ghost use Rattle.std.specs.List.Sorted.{IsNonDecreasingBy};
 ghost use Rattle.elfobj.specs.FieldMarks.{AreBelow, IsWindow};
-ghost use Rattle.elfobj.specs.Places.{relocations_in};
+ghost use Rattle.elfobj.specs.PartSpans.{relocations_in};
 ghost use Rattle.elfobj_file.specs.Spans.{IsInside};
 ghost use Rattle.elfobj_file.specs.Relocations.{field_end, share_bytes};
 

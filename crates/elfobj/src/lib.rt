@@ -7,7 +7,7 @@
 //! - `section_table`, `symbol_table`, `relocation_table`: the tests of all headers and entries, in their order;
 //! - `relocation_fault` over `entry_test`: the tests of entries, before any is kept;
 //! - `field_marks`: whether fields share a byte;
-//! - `field`, `relocation_run`, `linked`, `place`, `span`: what an object keeps of its sections and relocations;
+//! - `field`, `relocation_run`, `linked`, `part_spans`, `span`: what an object keeps of its sections and relocations;
 //! - `meter`, `memory`: the counts of work and the error for refused memory, for all crates;
 //! - the part `file`: the tables and entries of a file. Other families name this crate alone.
 #![tactic(auto)]
@@ -20,7 +20,7 @@ pub mod memory;
 pub mod meter;
 pub mod object;
 mod ordered_table;
-mod place;
+mod part_spans;
 pub mod refusal;
 pub mod relocation;
 mod relocation_fault;

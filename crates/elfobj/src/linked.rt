@@ -2,7 +2,7 @@
 
 ghost use Rattle.std.specs.Prelude.{◌≡◌, [], ◌∷◌, ◌++◌, IfOk, IfSome, OnOk, false, length, unwrap_or};
 ghost use Rattle.elfobj.specs.Linkable.{IsLinkable, IsNameTable, IsPlaced, PassesTests};
-ghost use Rattle.elfobj.specs.Places.{AreRead, IsFileWithin};
+ghost use Rattle.elfobj.specs.PartSpans.{AreRead, IsFileWithin};
 ghost use Rattle.elfobj_file.specs.Refusal.{holds};
 ghost use Rattle.elfobj_file.specs.SectionHeaders.{headers as headers_of};
 ghost use Rattle.elfobj_file.specs.Sections.{linked_as, name_of, sections_of};
@@ -10,30 +10,30 @@ ghost use Rattle.elfobj_file.specs.SectionTable.{HasSectionTable};
 ghost use Rattle.elfobj_file.specs.Spans.{IsInside, bytes_at};
 ghost use Rattle.elfobj_file.specs.declared.refusal.ObjectRefusal.TheVariants.{SectionBounds, SectionProfile};
 
-use crate::place::{Place, place_of};
+use crate::part_spans::{PartSpans, spans_of};
 use crate::section::{Section, SectionIndex, SectionKind};
 use elfobj_file::names::StringTable;
 use elfobj_file::section_header::SectionHeader;
 use elfobj_file::span::Span;
 use std::alloc::{AllocError, Global};
 
-/// The linked sections in table order, with the places of their parts.
+/// The linked sections in table order, with the spans of their parts.
 #[derive(Drop)]
 pub struct LinkedSections {
     /// The sections.
     pub sections: Vec<Section>,
-    /// The place of each.
-    pub places: Vec<Place>,
+    /// The spans of the parts of each.
+    pub part_spans: Vec<PartSpans>,
 }
 
-/// The section of a header, with this number, kind and name, and its place.
+/// The section of a header, with this number, kind and name, and the spans of its parts.
 fn section_at(
     bytes: &[u8],
     number: u16,
     header: &SectionHeader,
     kind: SectionKind,
     name: Span,
-) -> (Section, Place)
+) -> (Section, PartSpans)
     requires within { IsInside (length bytes.now) name }
     requires name { bytes_at bytes.now name ≡ unwrap_or (name_of bytes.now header.now) [] }
     requires file { IsFileWithin (length bytes.now) header.now kind }
@@ -46,18 +46,18 @@ fn section_at(
         size: header.sh_size,
         alignment: header.sh_addralign,
     };
-    (section, place_of(name, header, kind, bytes.len()))
+    (section, spans_of(name, header, kind, bytes.len()))
 }
 
-/// The section of a header, with this number and kind and its name in this table, and its place.
+/// The section of a header, with this number and kind and its name in this table, and the spans of its parts.
 #[tactic(auto, unfolding(elfobj_file::specs::Sections::name_table))]
-fn placed_section(
+fn section_and_spans(
     bytes: &[u8],
     names: &StringTable,
     number: u16,
     header: &SectionHeader,
     kind: SectionKind,
-) -> (Section, Place)
+) -> (Section, PartSpans)
     requires names { IsNameTable bytes.now names.now.header }
     requires file { names.now.file.now ≡ bytes.now }
     requires linkable { IsLinkable bytes.now header.now kind }
@@ -71,21 +71,21 @@ impl LinkedSections {
     /// No sections, with room for `count`.
     fn with_room(alloc: Global, count: usize) -> Result<LinkedSections, AllocError>
         ensures sections { IfOk result (λ l. l.sections.items ≡ []) }
-        ensures places { IfOk result (λ l. l.places.items ≡ []) }
+        ensures part_spans { IfOk result (λ l. l.part_spans.items ≡ []) }
     {
         Ok(LinkedSections {
             sections: Vec::with_capacity(alloc, count)?,
-            places: Vec::with_capacity(alloc, count)?,
+            part_spans: Vec::with_capacity(alloc, count)?,
         })
     }
 
-    /// Adds a section and its place.
-    fn push(&mut self, section: Section, place: Place) -> Result<(), AllocError>
+    /// Adds a section and the spans of its parts.
+    fn push(&mut self, section: Section, parts: PartSpans) -> Result<(), AllocError>
         ensures sections { OnOk result (self.new.sections.items ≡ self.old.sections.items ++ section ∷ []) }
-        ensures places { OnOk result (self.new.places.items ≡ self.old.places.items ++ place ∷ []) }
+        ensures part_spans { OnOk result (self.new.part_spans.items ≡ self.old.part_spans.items ++ parts ∷ []) }
     {
         self.sections.push(section)?;
-        self.places.push(place)?;
+        self.part_spans.push(parts)?;
         Ok(())
     }
 }
@@ -108,13 +108,13 @@ pub fn linked_sections(
     requires headers { headers.now ≡ headers_of bytes.now }
     requires tests { PassesTests bytes.now }
     ensures { IfOk result
-        (λ linked. AreRead bytes.now (sections_of bytes.now) linked.sections.items linked.places.items) }
+        (λ linked. AreRead bytes.now (sections_of bytes.now) linked.sections.items linked.part_spans.items) }
 {
     let mut linked = LinkedSections::with_room(alloc, linked_count(headers))?;
     for (number, header) in headers.iter().enumerate() {
         if let Some(kind) = header.linked_kind() {
-            let (section, place) = placed_section(bytes, names, number as u16, header, kind);
-            linked.push(section, place)?;
+            let (section, parts) = section_and_spans(bytes, names, number as u16, header, kind);
+            linked.push(section, parts)?;
         }
     }
     Ok(linked)
@@ -137,7 +137,7 @@ pub fn passing_sections(
     ensures passes { IfOk result (λ found. IfSome found (λ linked. holds bytes.now SectionProfile ≡ false)) }
     ensures read { IfOk result
         (λ found. IfSome found (λ linked. AreRead bytes.now (sections_of bytes.now) linked.sections.items
-        linked.places.items)) }
+        linked.part_spans.items)) }
 {
     let mut linked = LinkedSections::with_room(alloc, linked_count(headers))?;
     let mut left = bytes.len();
@@ -151,8 +151,8 @@ pub fn passing_sections(
                 return Ok(None);
             }
             left -= length;
-            let (section, place) = section_at(bytes, number as u16, header, kind, name);
-            linked.push(section, place)?;
+            let (section, parts) = section_at(bytes, number as u16, header, kind, name);
+            linked.push(section, parts)?;
         }
     }
     Ok(Some(linked))

@@ -8,7 +8,7 @@ ghost use Rattle.elfobj.specs.declared.meter.Count.TheVariants.{Objects};
 ghost use Rattle.elfobj_file.specs.declared.refusal.ObjectRefusal.TheVariants.{NoMemory};
 
 use crate::meter::{Count, Meter};
-use crate::place::Place;
+use crate::part_spans::PartSpans;
 use crate::refusal::ObjectRefusal;
 use crate::relocation::{Relocation, SymbolIndex};
 use crate::section::{LinkedIndex, Section, SectionIndex, find_number};
@@ -25,11 +25,11 @@ use std::marker::Model;
 pub struct Object {
     bytes: Vec<u8>,
     sections: Vec<Section>,
-    places: Vec<Place>,
+    part_spans: Vec<PartSpans>,
     symbols: Vec<Symbol>,
     names: Vec<Span>,
     relocations: Vec<Relocation>,
-    /// For each section whether it has relocations: a byte, in place of a look at its place.
+    /// For each section whether it has relocations: a byte, instead of a look at its spans.
     relocated: Vec<bool>,
 }
 
@@ -41,7 +41,7 @@ impl Model for Object {
 
     ghost view = { λ object. object_of object.bytes.items };
 
-    ghost invariant = { λ object. IsObject object.bytes.items object.sections.items object.places.items
+    ghost invariant = { λ object. IsObject object.bytes.items object.sections.items object.part_spans.items
         object.symbols.items object.names.items object.relocations.items object.relocated.items };
 }
 
@@ -80,7 +80,7 @@ impl Object {
                 Ok(Object {
                     bytes,
                     sections: linked.sections,
-                    places: linked.places,
+                    part_spans: linked.part_spans,
                     symbols: symbols.symbols,
                     names: symbols.names,
                     relocations,
@@ -123,8 +123,8 @@ impl Object {
         requires { section.0 < length self.now.sections }
         ensures { slice_get (map (λ entry. entry.name) self.now.sections) section.0 ≡ Some result.now }
     {
-        let place = self.places[section.0];
-        &self.bytes[place.name.start..place.name.end]
+        let parts = self.part_spans[section.0];
+        &self.bytes[parts.name.start..parts.name.end]
     }
 
     /// The range of a section's name in the bytes that the object was read from. Sections may share it.
@@ -133,7 +133,7 @@ impl Object {
         ensures { slice_get (map (λ entry. entry.name) self.now.sections) section.0
             ≡ Some (bytes_at self.now.text result) }
     {
-        self.places[section.0].name
+        self.part_spans[section.0].name
     }
 
     /// The bytes of a section; none if it has no bytes in the file (NOBITS).
@@ -141,8 +141,8 @@ impl Object {
         requires { section.0 < length self.now.sections }
         ensures { slice_get (map (λ entry. entry.bytes) self.now.sections) section.0 ≡ Some result.now }
     {
-        let place = self.places[section.0];
-        &self.bytes[place.bytes.start..place.bytes.end]
+        let parts = self.part_spans[section.0];
+        &self.bytes[parts.bytes.start..parts.bytes.end]
     }
 
     /// The entries of its symbol table, in the table's order; none without a symbol table. The first is the null entry,
@@ -198,7 +198,7 @@ impl Object {
         ensures value { slice_get (map (λ entry. entry.relocations) self.now.sections) section.0 ≡ Some result.now }
         ensures limits { All (HasRelocationsOfProfile (length self.now.symbols)) self.now.sections }
     {
-        let span = self.places[section.0].relocations;
+        let span = self.part_spans[section.0].relocations;
         &self.relocations[span.start..span.end]
     }
 }

@@ -4,7 +4,7 @@
 ghost use Rattle.std.specs.Prelude.{◌≡◌, ◌≤◌, ◌+◌, ◌*◌, ◌++◌, IfOk, IfSome, false, length, map, true};
 ghost use Rattle.std.specs.List.{All, list_any};
 ghost use Rattle.elfobj_file.specs.Relocations.{relocation_of, relocations_at, share_bytes};
-ghost use Rattle.elfobj.specs.Places.{AreRelocated, relocations_in};
+ghost use Rattle.elfobj.specs.PartSpans.{AreRelocated, relocations_in};
 ghost use Rattle.elfobj.specs.Runs.{IsTableOf, has_refused_entry, is_refused_for, table_entries};
 ghost use Rattle.elfobj.specs.declared.relocation_fault.EntryFault.TheVariants.{Any};
 

@@ -3,7 +3,7 @@
 
 ghost use Rattle.std.specs.Prelude.{◌≡◌, ◌≤◌, ◌<◌, ◌+◌, ◌*◌, ◌/◌, ◌^◌, ◌++◌, IfOk, OnOk, length, map};
 ghost use Rattle.std.specs.List.{All};
-ghost use Rattle.elfobj.specs.Places.{AreRelocated};
+ghost use Rattle.elfobj.specs.PartSpans.{AreRelocated};
 ghost use Rattle.elfobj_file.specs.RelocationEntries.{relocation_entries_below};
 ghost use Rattle.elfobj_file.specs.Relocations.{relocation_of, relocations_at};
 ghost use Rattle.elfobj.specs.Runs.{AreRuns, IsCovered, IsTableOf, table_entries};
@@ -29,7 +29,7 @@ pub struct SectionTable {
 /// Entries that follow one another in the file, decoded. An entry has 24 bytes (`RELA_SIZE`, the size of `Elf64_Rela`);
 /// its class is its offset in the file, modulo 24. So entry number k of a class begins at 24 * k plus the class.
 #[derive(Clone, Copy)]
-pub struct Run {
+pub struct RelocationRun {
     /// The number of the first one.
     pub low: usize,
     /// The number of entries.
@@ -105,7 +105,7 @@ fn read_runs(
     alloc: Global,
     bytes: &[u8],
     tables: &[SectionTable],
-) -> Result<(Vec<Relocation>, Vec<Run>), AllocError>
+) -> Result<(Vec<Relocation>, Vec<RelocationRun>), AllocError>
     requires long { 24 ≤ length bytes.now }
     requires within { All (λ t. t.start + 24 * t.count ≤ length bytes.now) tables.now }
     ensures { IfOk result (λ r. AreRuns bytes.now tables.now r.0.items 24 r.1.items) }
@@ -117,13 +117,13 @@ fn read_runs(
         let first = all.len();
         let count = end - low;
         push_entries(bytes, RELA_SIZE * low + class, count, &mut all)?;
-        runs.push(Run { low, count, first })?;
+        runs.push(RelocationRun { low, count, first })?;
     }
     Ok((all, runs))
 }
 
 /// The range of a table's relocations among all, if this is the run of its class.
-fn span_in(run: &Run, table: &SectionTable) -> Span
+fn span_in(run: &RelocationRun, table: &SectionTable) -> Span
     requires low { run.now.low ≤ table.now.start / 24 }
     requires end { table.now.start / 24 + table.now.count ≤ run.now.low + run.now.count }
     requires fits { run.now.first + run.now.count < 2 ^ 64 }
@@ -143,7 +143,7 @@ fn find_spans(
     bytes: &[u8],
     tables: &[SectionTable],
     all: &[Relocation],
-    runs: &[Run],
+    runs: &[RelocationRun],
 ) -> Result<Vec<Span>, AllocError>
     requires runs { AreRuns bytes.now tables.now all.now 24 runs.now }
     ensures { IfOk result (λ v. AreRelocated

@@ -7,7 +7,7 @@ ghost use Rattle.std.specs.List.Sorted.{IsNonDecreasingBy, IsPermutation};
 ghost use Rattle.elfobj_file.specs.ElfHeader.{e_shnum};
 ghost use Rattle.elfobj.specs.FieldMarks.{AreBelow};
 ghost use Rattle.elfobj.specs.Linkable.{PassesTests};
-ghost use Rattle.elfobj.specs.Places.{AreRelocated, relocations_in};
+ghost use Rattle.elfobj.specs.PartSpans.{AreRelocated, relocations_in};
 ghost use Rattle.elfobj_file.specs.Spans.{IsInside};
 ghost use Rattle.elfobj.specs.Reading.{AreTables, entered, is_wrong_after};
 ghost use Rattle.elfobj_file.specs.Refusal.{entry_refusals, holds, relocation_refusals};

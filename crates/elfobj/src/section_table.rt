@@ -9,13 +9,13 @@ ghost use Rattle.elfobj_file.specs.Refusal.{holds, is_out_of_bounds, is_outside_
 ghost use Rattle.elfobj_file.specs.Refusal.{object_refusal, relocation_refusals, symbol_refusals};
 ghost use Rattle.elfobj_file.specs.SectionHeaders.{header, headers as headers_of};
 ghost use Rattle.elfobj_file.specs.SectionTable.{HasSectionTable};
-ghost use Rattle.elfobj.specs.Places.{AreRead, is_relocated};
+ghost use Rattle.elfobj.specs.PartSpans.{AreRead, is_relocated};
 ghost use Rattle.elfobj_file.specs.Sections.{sections_of};
 ghost use Rattle.elfobj_file.specs.TableOf.{table_of};
 ghost use Rattle.elfobj_file.specs.declared.refusal.ObjectRefusal.TheVariants.{NoMemory, SectionBounds, SectionProfile};
 
 use crate::linked::{LinkedSections, linked_sections, passing_sections};
-use crate::place::{place_relocations, relocated_places};
+use crate::part_spans::{relocated_sections, set_relocation_ranges};
 use crate::refusal::ObjectRefusal;
 use crate::relocation::Relocation;
 use crate::relocation_run::Relocations;
@@ -79,7 +79,7 @@ fn looked_sections(
     requires headers { headers.now ≡ headers_of bytes.now }
     requires bounds { holds bytes.now SectionBounds ≡ false }
     ensures passes { OnOk result (holds bytes.now SectionProfile ≡ false) }
-    ensures read { IfOk result (λ l. AreRead bytes.now (sections_of bytes.now) l.sections.items l.places.items) }
+    ensures read { IfOk result (λ l. AreRead bytes.now (sections_of bytes.now) l.sections.items l.part_spans.items) }
     ensures refused { IfErr result (λ e. (e ≡ NoMemory)
         ⊎ ((holds bytes.now SectionProfile ≡ true) × (e ≡ SectionProfile))) }
 {
@@ -103,7 +103,7 @@ fn read_sections(
     requires headers { headers.now ≡ headers_of bytes.now }
     requires bounds { holds bytes.now SectionBounds ≡ false }
     ensures passes { OnOk result (holds bytes.now SectionProfile ≡ false) }
-    ensures read { IfOk result (λ l. AreRead bytes.now (sections_of bytes.now) l.sections.items l.places.items) }
+    ensures read { IfOk result (λ l. AreRead bytes.now (sections_of bytes.now) l.sections.items l.part_spans.items) }
     ensures refused { IfErr result (λ e. (e ≡ NoMemory)
         ⊎ ((holds bytes.now SectionProfile ≡ true) × (e ≡ SectionProfile))) }
 {
@@ -134,14 +134,14 @@ fn read_tables(
     headers: &[SectionHeader],
 ) -> Result<Parts, ObjectRefusal>
     requires table { HasSectionTable bytes.now }
-    requires linked { AreRead bytes.now (sections_of bytes.now) linked.sections.items linked.places.items }
+    requires linked { AreRead bytes.now (sections_of bytes.now) linked.sections.items linked.part_spans.items }
     requires headers { headers.now ≡ headers_of bytes.now }
     requires tests { PassesTests bytes.now }
     ensures ok { IfOk result (λ p. find (holds bytes.now) (symbol_refusals ++ relocation_refusals) ≡ None) }
     ensures read { IfOk result
-        (λ p. ArePartsOf bytes.now p.linked.sections.items p.linked.places.items p.symbols.symbols.items
+        (λ p. ArePartsOf bytes.now p.linked.sections.items p.linked.part_spans.items p.symbols.symbols.items
         p.symbols.names.items p.relocations.items) }
-    ensures relocated { IfOk result (λ p. p.relocated.items ≡ map is_relocated p.linked.places.items) }
+    ensures relocated { IfOk result (λ p. p.relocated.items ≡ map is_relocated p.linked.part_spans.items) }
     ensures refused { IfErr result
         (λ e. (e ≡ NoMemory) ⊎ (find (holds bytes.now) (symbol_refusals ++ relocation_refusals) ≡ Some e)) }
 {
@@ -154,8 +154,8 @@ fn read_tables(
         &linked.sections,
         count,
     )?;
-    place_relocations(&mut linked.places, &spans);
-    let relocated = relocated_places(alloc, &linked.places)?;
+    set_relocation_ranges(&mut linked.part_spans, &spans);
+    let relocated = relocated_sections(alloc, &linked.part_spans)?;
     Ok(Parts {
         linked,
         symbols,
@@ -168,9 +168,10 @@ fn read_tables(
 pub fn read_parts(alloc: Global, bytes: &[u8]) -> Result<Parts, ObjectRefusal>
     ensures ok { IfOk result (λ parts. object_refusal bytes.now ≡ None) }
     ensures read { IfOk result
-        (λ parts. ArePartsOf bytes.now parts.linked.sections.items parts.linked.places.items parts.symbols.symbols.items
+        (λ parts. ArePartsOf bytes.now parts.linked.sections.items parts.linked.part_spans.items
+        parts.symbols.symbols.items
         parts.symbols.names.items parts.relocations.items) }
-    ensures relocated { IfOk result (λ parts. parts.relocated.items ≡ map is_relocated parts.linked.places.items) }
+    ensures relocated { IfOk result (λ parts. parts.relocated.items ≡ map is_relocated parts.linked.part_spans.items) }
     ensures refused { IfErr result (λ refusal. (refusal ≡ NoMemory) ⊎ (object_refusal bytes.now ≡ Some refusal)) }
     ensures memory { IfErr result (λ refusal. refusal ≡ NoMemory → find (holds bytes.now) header_refusals ≡ None) }
 {

@@ -3,7 +3,7 @@
 ghost use Rattle.std.specs.Prelude.{◌≡◌, ◌≤◌, ◌+◌, ◌⊎◌, ◌<◌, ◌++◌, ◌∷◌, [], IfErr, IfOk, OnOk, None, Some, count_by};
 ghost use Rattle.std.specs.Prelude.{drop, false, find, length, nat_lt, position};
 ghost use Rattle.std.specs.List.{list_all, list_any};
-ghost use Rattle.elfobj.specs.Places.{AreNamed};
+ghost use Rattle.elfobj.specs.PartSpans.{AreNamed};
 ghost use Rattle.elfobj_file.specs.Spans.{IsInside, bytes_at};
 ghost use Rattle.elfobj_file.specs.Refusal.{holds, symbol_refusals};
 ghost use Rattle.elfobj_file.specs.SectionHeaders.{headers as headers_of};

@@ -7,7 +7,7 @@ ghost use Rattle.std.specs.List.{list_any};
 ghost use Rattle.elfobj_file.specs.SectionHeaders.{file_bytes};
 ghost use Rattle.elfobj_file.specs.Symbols.{entries_of, null_symbol, symbols_from};
 ghost use Rattle.elfobj_file.specs.Tables.{has_misplaced_entry, is_wrong_symbol};
-ghost use Rattle.elfobj.specs.Places.{AreNamed};
+ghost use Rattle.elfobj.specs.PartSpans.{AreNamed};
 
 use crate::symbol::{Binding, Symbol, SymbolKind, SymbolPlace};
 use elfobj_file::constants::SYM_SIZE;

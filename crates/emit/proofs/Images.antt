@@ -45,7 +45,7 @@ use Rattle.emit_relocate.specs.PreviousLinkInfo.{range_of}
 use Rattle.emit_relocate.specs.Fields.{fault_at}
 use Rattle.emit_relocate.specs.KnownLink.{KnownLink}
 use Rattle.emit_relocate.proofs.Lists.{partner_in, partner_of}
-use Rattle.emit.specs.Plan.{AreWritten, ComesOf, IsKept, IsNothing, IsPlannedAt, IsWhole, Written}
+use Rattle.emit.specs.Plan.{AreWritten, ComesOf, IsAsBefore, IsNothing, IsPlannedAt, IsWhole, Written}
 use Rattle.emit.specs.Plan.{sites_there}
 use Rattle.emit.specs.InPlaceRewrites.{IsBare, IsInPlaceRewrite}
 use Rattle.emit.specs.LocatedSections.{HasLocatedSections, IsLocatedSection, sites_of}
@@ -423,7 +423,7 @@ module _ (p : Project) (l : KnownLink) (place : ObjectPlace) (o : NamedObject) (
     each_byte at low =
         let short : at < image_length p s = subst (λ n. at < n) (sym h.frame.length) low in
         ⊎_elim (of_written at)
-        (λ (k : IsKept ws (image p s) new at).
+        (λ (k : IsAsBefore ws (image p s) new at).
         k.byte ∙ image_byte p s at short ∙ same_unwritten at k.clear)
         (over.each at)
 

@@ -30,7 +30,7 @@ use Rattle.ldmodel_laws.proofs.EachOf.{zip_more}
 use Rattle.emit.proofs.Lists.{at_zip, next_zip}
 use Rattle.emit.specs.DataRuns.{AreDataOf}
 use Rattle.emit.specs.Joined.{AreJoined, IsAt}
-use Rattle.emit.specs.Output.{AreDrawn, AreDrawnOf, IsDrawn, IsOutput, IsJoinedRow, IsSectionKept}
+use Rattle.emit.specs.Output.{AreDrawn, AreDrawnOf, IsDrawn, IsOutput, IsJoinedRow, AreStayedByKey}
 use Rattle.emit.specs.Output.{in_file_at, with_bytes}
 use Rattle.emit.specs.declared.output.OutputDrawing.{OutputDrawing}
 
@@ -154,7 +154,7 @@ drawn_same p s stays qs q ys b c e f none h =
       wholes = h.wholes;
       sections = subst (λ l. AllZip (IsImageSection p s) l h.wholes) (sym same) h.sections;
       filled = h.filled;
-      kept = subst (λ l. AllZip (IsSectionKept p stays) l h.wholes) (sym same) h.kept;
+      kept = subst (λ l. AllZip (AreStayedByKey p stays) l h.wholes) (sym same) h.kept;
       joined = h.joined;
     }
 
@@ -171,8 +171,8 @@ drawn_more p s stays qs q old new y e f is pushed h =
       sections = subst (λ l. AllZip (IsImageSection p s) l (h.wholes ++ is.whole ∷ [])) (sym more)
           (zip_more (IsImageSection p s) (with_bytes s qs) h.wholes (in_file_at s q) is.whole h.sections is.section);
       filled = All-push IsSectionFilled h.wholes is.whole h.filled is.filled;
-      kept = subst (λ l. AllZip (IsSectionKept p stays) l (h.wholes ++ is.whole ∷ [])) (sym more)
-          (zip_more (IsSectionKept p stays) (with_bytes s qs) h.wholes (in_file_at s q) is.whole h.kept is.kept);
+      kept = subst (λ l. AllZip (AreStayedByKey p stays) l (h.wholes ++ is.whole ∷ [])) (sym more)
+          (zip_more (AreStayedByKey p stays) (with_bytes s qs) h.wholes (in_file_at s q) is.whole h.kept is.kept);
       joined = zip_more IsJoinedSection h.wholes old is.whole y h.joined is.joined;
     })
 
@@ -185,7 +185,7 @@ drawn_all p s stays ys named file h =
       wholes = h.wholes;
       sections = subst (λ l. AllZip (IsImageSection p s) (filter loads l) h.wholes) (sym same) h.sections;
       filled = h.filled;
-      kept = subst (λ l. AllZip (IsSectionKept p stays) (filter loads l) h.wholes) (sym same) h.kept;
+      kept = subst (λ l. AllZip (AreStayedByKey p stays) (filter loads l) h.wholes) (sym same) h.kept;
       joined = h.joined;
     }
 

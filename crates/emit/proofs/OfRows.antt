@@ -17,7 +17,7 @@ use Rattle.emit_fields.specs.Patches.{AreInOrder, patched_byte}
 use Rattle.emit_fields.specs.declared.patch.Patch.{Patch}
 use Rattle.emit_image.specs.Drawing.{IsFilled}
 use Rattle.emit_image.proofs.Joining.{stand_none}
-use Rattle.emit_image.specs.Joined.{IsKeptAt, StandFor}
+use Rattle.emit_image.specs.Joined.{IsStayedPieceAt, StandFor}
 use Rattle.emit_image.specs.OfLink.{IsImagePiece}
 use Rattle.emit_image.specs.declared.section.ImagePiece.{ImagePiece}
 use Rattle.ldmodel.specs.Edits.{AreNamesDistinct, has_name}
@@ -40,7 +40,7 @@ use Rattle.ldmodel.specs.SymbolValues.{placed_part}
 use Rattle.place.proofs.Lists.{find_at}
 use Rattle.ldmodel_laws.proofs.EachOf.{zip_more}
 use Rattle.emit.proofs.Lists.{take_next, zip_each, zip_right}
-use Rattle.emit.specs.Kept.{IsKeptBy}
+use Rattle.emit.specs.StayedPieces.{IsStayedByKey}
 use Rattle.emit.specs.Numbers.{HaveNumbers}
 use Rattle.emit.specs.Output.{IsJoinedRow, IsRow}
 use Rattle.emit.specs.Pieces.{IsDrawnPiece, IsPlacedAt, IsRowAt, IsRowPiece}
@@ -321,7 +321,7 @@ row_drawn p s stays x start w y at new h = record {
 
 -- one that stays, whose key does
 pub row_kept : (p : Project) (s : Layout) (stays : SectionKey → Bool) (x : rows.Piece) (start : ℕ) (w : PlacedPiece)
-    (y : ImagePiece) → IsPlacedAt p s (piece_in p x) start w → stays x.section ≡ true → IsKeptAt start x.size y
+    (y : ImagePiece) → IsPlacedAt p s (piece_in p x) start w → stays x.section ≡ true → IsStayedPieceAt start x.size y
     → IsRowPiece p s stays w y
 row_kept p s stays x start w y at stayed h = record {
   piece = record {
@@ -362,7 +362,7 @@ pub whole_row : (p : Project) (s : Layout) (stays : SectionKey → Bool) (q : Pl
 whole_row p s stays q ys z = record {
   pieces = zip_each (IsRowPiece p s stays) (IsImagePiece p s) q.pieces ys (λ w y c h. h.piece) z;
   filled = zip_right (IsRowPiece p s stays) IsFilled q.pieces ys (λ w y h. h.filled) z;
-  kept = zip_each (IsRowPiece p s stays) (IsKeptBy p stays) q.pieces ys (λ w y c h. h.kept) z;
+  kept = zip_each (IsRowPiece p s stays) (IsStayedByKey p stays) q.pieces ys (λ w y c h. h.kept) z;
 }
 
 member : {X : Type 0} (xs : List X) (k : ℕ) → k < length xs → (x : X) × (slice_get xs k ≡ Some x)

@@ -4,7 +4,7 @@ use Rattle.std.specs.List.{All, Contains}
 use Rattle.std.proofs.lemmas.List.Elements.{All-weaker}
 use Rattle.elfobj.specs.RelocationKinds.{width}
 use Rattle.emit_fields.specs.declared.patch.Patch.{Patch}
-use Rattle.emit_image.specs.Kept.{IsSitePatch}
+use Rattle.emit_image.specs.Redrawings.{IsSitePatch}
 use Rattle.emit_image.specs.Stretches.{EndsBy}
 use Rattle.ldmodel.specs.Relocations.{Site, site_field}
 use Rattle.ldmodel.specs.Stayed.{GoodLink, LinkedPiece, link_pieces, sites_in, stayed}

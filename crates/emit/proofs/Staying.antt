@@ -4,7 +4,7 @@ use Rattle.std.proofs.Common.{Bool, true, false, cond, not, ◌==◌, arith, get
 use Rattle.std.specs.Prelude.{IfSome, is_some}
 use Rattle.std.proofs.lemmas.Bool.{true≢false}
 use Rattle.std.specs.List.{All, AllZip, Contains}
-use Rattle.emit_image.specs.Kept.{HasStayed, IsKept, linked_in}
+use Rattle.emit_image.specs.Redrawings.{HasStayed, IsMarkedIfStayed, linked_in}
 use Rattle.emit_image.specs.OfLink.{loaded}
 use Rattle.emit_image.specs.declared.section.ImagePiece.{ImagePiece}
 use Rattle.emit_image.specs.declared.section.ImageSection.{ImageSection}
@@ -19,8 +19,8 @@ use Rattle.emit_relocate.specs.KnownLink.{KnownLink}
 use Rattle.emit_relocate.specs.declared.previous_link_info.FileRange.{FileRange}
 use Rattle.emit_relocate.specs.LinkView.{known_link}
 use Rattle.emit.proofs.Lists.{zip_each, zip_right}
-use Rattle.emit.specs.Kept.{AreKept, HaveStayed, IsKeptBy, IsKeyed, IsSound}
-use Rattle.emit.specs.Output.{IsSectionKept}
+use Rattle.emit.specs.StayedPieces.{AreAllThatStayed, HaveStayed, IsStayedByKey, IsKeyed, IsSound}
+use Rattle.emit.specs.Output.{AreStayedByKey}
 
 -- what a filter keeps was in the list
 filtered : {X : Type 0} (p : X → Bool) (xs : List X) (x : X) → Contains (filter p xs) x → Contains xs x
@@ -66,12 +66,12 @@ in_layout laws s x c =
 
 -- nothing stays where no key does
 pub none_stays : (p : Project) (s : Layout) (stays : SectionKey → Bool) (ys : List ImageSection)
-    → ((k : SectionKey) → stays k ≡ false) → AllZip (IsSectionKept p stays) (loaded s) ys
+    → ((k : SectionKey) → stays k ≡ false) → AllZip (AreStayedByKey p stays) (loaded s) ys
     → All (λ (x : ImageSection). All (λ (y : ImagePiece). y.stays ≡ false) x.pieces.now) ys
 none_stays p s stays ys none z =
-    zip_right (IsSectionKept p stays)
+    zip_right (AreStayedByKey p stays)
     (λ (x : ImageSection). All (λ (y : ImagePiece). y.stays ≡ false) x.pieces.now) (loaded s) ys
-    (λ x y h. zip_right (IsKeptBy p stays) (λ v. v.stays ≡ false) x.section.pieces y.pieces.now
+    (λ x y h. zip_right (IsStayedByKey p stays) (λ v. v.stays ≡ false) x.section.pieces y.pieces.now
     (λ w v k. k.is ∙ none k.section) h) z
 
 -- the input sections of output sections with bytes in the file, and those that are drawn, are related one by one
@@ -80,14 +80,14 @@ EachDrawn R s ys =
     AllZip (λ (x : SectionInFile) (y : ImageSection). AllZip (R x.section) x.section.pieces y.pieces.now) (loaded s) ys
 
 module _ (laws : Laws) (old new : GoodLink) (stays : SectionKey → Bool) (ys : List ImageSection)
-    (kept : AllZip (IsSectionKept new.project stays) (loaded new.layout) ys) where
+    (kept : AllZip (AreStayedByKey new.project stays) (loaded new.layout) ys) where
   by_piece : (R : PlacedOutput → PlacedPiece → ImagePiece → Type 0)
-      → ((x : SectionInFile) (w : PlacedPiece) (y : ImagePiece) (k : IsKeptBy new.project stays w y)
+      → ((x : SectionInFile) (w : PlacedPiece) (y : ImagePiece) (k : IsStayedByKey new.project stays w y)
       → IsKeyed new k.section (linked_in new x.section w) → R x.section w y) → EachDrawn R new.layout ys
   by_piece R f =
-      zip_each (IsSectionKept new.project stays) (λ x y. AllZip (R x.section) x.section.pieces y.pieces.now)
+      zip_each (AreStayedByKey new.project stays) (λ x y. AllZip (R x.section) x.section.pieces y.pieces.now)
       (loaded new.layout) ys
-      (λ x y c h. zip_each (IsKeptBy new.project stays) (R x.section) x.section.pieces y.pieces.now
+      (λ x y c h. zip_each (IsStayedByKey new.project stays) (R x.section) x.section.pieces y.pieces.now
       (λ w v m k. f x w v k (record {
         among = laws.linked new x.section w (in_layout laws new.layout x c) m;
         object = k.object;
@@ -100,9 +100,9 @@ module _ (laws : Laws) (old new : GoodLink) (stays : SectionKey → Bool) (ys : 
       by_piece (HasStayed old new) (λ x w y k is e. h k.section (linked_in new x.section w) (sym k.is ∙ e) is)
 
   -- what has stayed is kept
-  pub are_kept : AreKept old new stays → EachDrawn (IsKept old new) new.layout ys
+  pub are_kept : AreAllThatStayed old new stays → EachDrawn (IsMarkedIfStayed old new) new.layout ys
   are_kept h =
-      by_piece (IsKept old new) (λ x w y k is e. k.is ∙ h k.section (linked_in new x.section w) is e)
+      by_piece (IsMarkedIfStayed old new) (λ x w y k is e. k.is ∙ h k.section (linked_in new x.section w) is e)
 
 -- ---- what a previous link says
 
@@ -125,7 +125,7 @@ only_said old new a range sound k x said is = go (range k) said (sound k)
 
 -- what has stayed is known to have
 pub all_said : (old new : GoodLink) (a : SymbolTableState) (range : SectionKey → Option FileRange)
-    → IsComplete range old (link_at new a) → AreKept old new (λ k. is_some (range k))
+    → IsComplete range old (link_at new a) → AreAllThatStayed old new (λ k. is_some (range k))
 all_said old new a range complete k x is stayed = go (range k) refl
   where
     go : (r : Option FileRange) → range k ≡ r → is_some r ≡ true

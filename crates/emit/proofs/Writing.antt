@@ -12,7 +12,7 @@ use Rattle.ldmodel.specs.Counts.{Counts, capped}
 use Rattle.ldmodel.specs.Raised.{raised}
 use Rattle.elfobj.specs.declared.meter.Count.TheVariants.{Bytes}
 use Rattle.ldmodel_laws.proofs.Members.{first_or_later, here, none_in_nil}
-use Rattle.emit.specs.Plan.{AreWritten, ComesOf, IsKept, IsWithin, Written, count_of, written, written_all}
+use Rattle.emit.specs.Plan.{AreWritten, ComesOf, IsAsBefore, IsWithin, Written, count_of, written, written_all}
 use Rattle.emit.specs.declared.plan.PlannedSection.{PlannedSection}
 
 -- what a write changes
@@ -25,7 +25,7 @@ pub record IsStep (w : Written) (old new : List ℕ) : Type 0 where
 module _ (ws : List Written) (w : Written) (a b c : List ℕ) (h : AreWritten ws a b) (step : IsStep w b c) where
   -- a byte that the last write leaves alone
   left : (o : ℕ) → (o < w.at) ⊎ (w.at + length w.bytes ≤ o) → slice_index c o ≡ slice_index b o
-      → ComesOf (ws ++ w ∷ []) c o ⊎ IsKept (ws ++ w ∷ []) a c o
+      → ComesOf (ws ++ w ∷ []) c o ⊎ IsAsBefore (ws ++ w ∷ []) a c o
   left o out same = ⊎_elim
       (λ (k : ComesOf ws b o). inl (record {
         origin = k.origin;
@@ -34,7 +34,7 @@ module _ (ws : List Written) (w : Written) (a b c : List ℕ) (h : AreWritten ws
         below = k.below;
         byte = same ∙ k.byte;
       }))
-      (λ (k : IsKept ws a b o). inr (record {
+      (λ (k : IsAsBefore ws a b o). inr (record {
         clear = λ v d. ⊎_elim (k.clear v)
             (λ e. ⊎_elim (λ is. subst (λ (u : Written). (o < u.at) ⊎ (u.at + length u.bytes ≤ o)) is out)
             (λ f. absurd (none_in_nil v f)) (first_or_later w [] v e))

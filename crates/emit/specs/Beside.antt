@@ -3,7 +3,7 @@ use Rattle.std.specs.Prelude.{◌≡◌, ◌+◌, ℕ, Option, None, is_some, le
 use Rattle.std.specs.List.{All}
 use Rattle.elfobj.specs.Raised.{raised}
 use Rattle.elfobj.specs.declared.meter.Count.TheVariants.{Fields}
-use Rattle.emit_image.specs.Kept.{ArePatchesOf, IsSitePatch}
+use Rattle.emit_image.specs.Redrawings.{ArePatchesOf, IsSitePatch}
 use Rattle.emit_image.specs.Stretches.{EndsBy, patch_bytes}
 use Rattle.ldmodel_laws.specs.Untouched.{IsGood}
 use Rattle.ldmodel.specs.Counts.{Counts}

@@ -10,7 +10,7 @@ pub mod Beside
 pub mod DataRuns
 pub mod Drawable
 pub mod Joined
-pub mod Kept
+pub mod StayedPieces
 pub mod Numbers
 pub mod Output
 pub mod Parts

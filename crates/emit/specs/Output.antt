@@ -14,7 +14,7 @@ use Rattle.emit_image.specs.OfLink.{IsImageData, IsImagePiece, IsImageSection, l
 use Rattle.emit_image.specs.declared.section.ImagePiece.{ImagePiece}
 use Rattle.emit_image.specs.declared.section.ImageSection.{ImageSection}
 use Rattle.place.specs.Offsets.{IsOffset}
-use Rattle.emit.specs.Kept.{IsKeptBy}
+use Rattle.emit.specs.StayedPieces.{IsStayedByKey}
 use Rattle.emit.specs.declared.output.OutputDrawing.{OutputDrawing}
 
 -- the input sections of an output section, each of which stays if its key does; bytes and fields fill each
@@ -23,7 +23,7 @@ pub record IsRow (project : Project) (layout : Layout) (stays : SectionKey → B
     : Type 0 where
   pub pieces : AllZip (IsImagePiece project layout) output.pieces ys
   pub filled : All IsFilled ys
-  pub kept : AllZip (IsKeptBy project stays) output.pieces ys
+  pub kept : AllZip (IsStayedByKey project stays) output.pieces ys
 
 -- the same, where those that stay may be joined
 pub record IsJoinedRow (project : Project) (layout : Layout) (stays : SectionKey → Bool) (output : PlacedOutput)
@@ -46,8 +46,8 @@ pub record IsOutput (project : Project) (layout : Layout) (stays : SectionKey �
   pub data_commands : AllZip IsImageData output.data_commands x.data_commands.now
 
 -- each input section of an output section stays if its key does
-abbrev pub IsSectionKept : Project → (SectionKey → Bool) → SectionInFile → ImageSection → Type 0
-IsSectionKept project stays x y = AllZip (IsKeptBy project stays) x.section.pieces y.pieces.now
+abbrev pub AreStayedByKey : Project → (SectionKey → Bool) → SectionInFile → ImageSection → Type 0
+AreStayedByKey project stays x y = AllZip (IsStayedByKey project stays) x.section.pieces y.pieces.now
 
 -- an output section, and where it begins in the file
 abbrev pub in_file_at : Layout → PlacedOutput → SectionInFile
@@ -60,7 +60,7 @@ pub record IsDrawn (project : Project) (layout : Layout) (stays : SectionKey →
   pub whole : ImageSection
   pub section : IsImageSection project layout (in_file_at layout output) whole
   pub filled : IsSectionFilled whole
-  pub kept : IsSectionKept project stays (in_file_at layout output) whole
+  pub kept : AreStayedByKey project stays (in_file_at layout output) whole
   pub joined : IsJoinedSection whole y
 
 -- those of some output sections that have bytes in the file
@@ -72,7 +72,7 @@ pub record AreDrawnOf (project : Project) (layout : Layout) (stays : SectionKey 
   pub wholes : List ImageSection
   pub sections : AllZip (IsImageSection project layout) (with_bytes layout qs) wholes
   pub filled : All IsSectionFilled wholes
-  pub kept : AllZip (IsSectionKept project stays) (with_bytes layout qs) wholes
+  pub kept : AllZip (AreStayedByKey project stays) (with_bytes layout qs) wholes
   pub joined : AllZip IsJoinedSection wholes ys
 
 -- the output sections with bytes in the file, as they are drawn
@@ -81,5 +81,5 @@ pub record AreDrawn (project : Project) (layout : Layout) (stays : SectionKey �
   pub wholes : List ImageSection
   pub sections : AllZip (IsImageSection project layout) (loaded layout) wholes
   pub filled : All IsSectionFilled wholes
-  pub kept : AllZip (IsSectionKept project stays) (loaded layout) wholes
+  pub kept : AllZip (AreStayedByKey project stays) (loaded layout) wholes
   pub joined : AllZip IsJoinedSection wholes ys

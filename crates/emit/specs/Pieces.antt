@@ -19,7 +19,7 @@ use Rattle.ldmodel.specs.declared.sections.Part.TheVariants.{InTable}
 use Rattle.ldmodel.specs.declared.sections.SectionKey.{SectionKey}
 use Rattle.emit.specs.declared.relocated.Relocated.{Relocated}
 use Rattle.emit_relocate.specs.KnownLink.{KnownLink}
-use Rattle.emit.specs.Kept.{IsKeptBy}
+use Rattle.emit.specs.StayedPieces.{IsStayedByKey}
 use Rattle.place.specs.IndexedLayout.{IsIndexedLayout}
 use Rattle.place.specs.declared.indexed_layout.IndexedLayout.{IndexedLayout}
 use Rattle.emit.specs.Runs.{AreRunsUnless}
@@ -52,7 +52,7 @@ pub record IsRowPiece (project : Project) (layout : Layout) (stays : SectionKey 
     : Type 0 where
   pub piece : IsImagePiece project layout w y
   pub filled : IsFilled y
-  pub kept : IsKeptBy project stays w y
+  pub kept : IsStayedByKey project stays w y
 
 -- an entry of a row has the size of its section
 abbrev pub IsSized : Project → Piece → Type 0

@@ -124,11 +124,11 @@ pub record ComesOf (ws : List Written) (bytes : List ℕ) (o : ℕ) : Type 0 whe
   pub byte : slice_index bytes o ≡ patched_byte origin.bytes origin.run (o - origin.at)
 
 -- none of these has a byte there, and it is as it was
-pub record IsKept (ws : List Written) (old new : List ℕ) (o : ℕ) : Type 0 where
+pub record IsAsBefore (ws : List Written) (old new : List ℕ) (o : ℕ) : Type 0 where
   pub clear : (w : Written) → Contains ws w → (o < w.at) ⊎ (w.at + length w.bytes ≤ o)
   pub byte : slice_index new o ≡ slice_index old o
 
 -- these were written over the bytes of a file
 pub record AreWritten (ws : List Written) (old new : List ℕ) : Type 0 where
   pub length : length new ≡ length old
-  pub each : (o : ℕ) → ComesOf ws new o ⊎ IsKept ws old new o
+  pub each : (o : ℕ) → ComesOf ws new o ⊎ IsAsBefore ws old new o

@@ -5,7 +5,7 @@ ghost use Rattle.std.specs.Prelude.{ℕ, is_some};
 ghost use Rattle.elfobj.specs.Raised.{raised};
 ghost use Rattle.elfobj.specs.declared.meter.Count.TheVariants as counts;
 ghost use Rattle.std.specs.List.{AllZip};
-ghost use Rattle.emit_image.specs.Kept.{ArePatchesOf};
+ghost use Rattle.emit_image.specs.Redrawings.{ArePatchesOf};
 ghost use Rattle.emit_image.specs.OfLink.{IsImagePart};
 ghost use Rattle.emit_image.specs.Stretches.{EndsBy, patch_bytes};
 ghost use Rattle.ldmodel_laws.specs.Untouched.{IsGood};
@@ -20,7 +20,7 @@ ghost use Rattle.symres.specs.SymbolTable.{SymbolTableState};
 ghost use Rattle.emit_relocate.specs.PreviousLinkInfo.{IsComplete};
 ghost use Rattle.emit_relocate.specs.LinkView.{known_link};
 ghost use Rattle.emit.specs.Drawable.{AreOutputs, HasOutputs, IsDrawable, IsDrawableAt};
-ghost use Rattle.emit.specs.Kept.{AreKept, HaveStayed, IsSound};
+ghost use Rattle.emit.specs.StayedPieces.{AreAllThatStayed, HaveStayed, IsSound};
 
 use crate::output::{OutputDrawing, outputs};
 use crate::parts::drawing_parts;
@@ -43,7 +43,7 @@ use place::indexed_layout::IndexedLayout;
 use std::alloc::Global;
 
 /// A part of the tail, lent.
-fn image_part(part: &TailPart) -> ImagePart<'_>
+fn lend_part(part: &TailPart) -> ImagePart<'_>
     ensures { IsImagePart part.now result }
 {
     ImagePart {
@@ -53,15 +53,15 @@ fn image_part(part: &TailPart) -> ImagePart<'_>
 }
 
 /// The parts of the tail, lent in their order.
-fn image_parts(tail: &TailParts) -> [ImagePart<'_>; 4]
+fn lend_parts(tail: &TailParts) -> [ImagePart<'_>; 4]
     ensures { AllZip IsImagePart (tail.now.symbols ∷ tail.now.symbol_names ∷ tail.now.header_names ∷ tail.now.headers
         ∷ []) result }
 {
     [
-        image_part(&tail.symbols),
-        image_part(&tail.symbol_names),
-        image_part(&tail.header_names),
-        image_part(&tail.headers),
+        lend_part(&tail.symbols),
+        lend_part(&tail.symbol_names),
+        lend_part(&tail.header_names),
+        lend_part(&tail.headers),
     ]
 }
 
@@ -90,12 +90,12 @@ fn draw_outputs(
         → canvas.new.bytes ≡ definition.image new.project new.layout) }
     ensures work { OnOk result ((old new : GoodLink) (stays : SectionKey → Bool) → new.project ≡ project.now
         → AreOutputs project.now indexed_layout.now values.now new.layout stays outputs.now → IsGood new
-        → AreKept old new stays → patch_bytes patches.now ≤ retargeted_bytes old new
+        → AreAllThatStayed old new stays → patch_bytes patches.now ≤ retargeted_bytes old new
         → meter.new.bytes + bytes_stayed old new
         ≤ meter.old.bytes + (image_length new.project new.layout + retargeted_bytes old new)) }
     ensures spent { OnOk result ((old new : GoodLink) (stays : SectionKey → Bool) → new.project ≡ project.now
         → AreOutputs project.now indexed_layout.now values.now new.layout stays outputs.now → IsGood new
-        → AreKept old new stays → HaveStayed old new stays → meter.new ≡ raised meter.old counts.Bytes
+        → AreAllThatStayed old new stays → HaveStayed old new stays → meter.new ≡ raised meter.old counts.Bytes
         (patch_bytes patches.now + (image_length new.project new.layout - bytes_stayed old new))) }
     ensures counted { OnOk result ((n : ℕ) × (meter.new ≡ raised meter.old counts.Bytes n)) }
     ensures unchanged { OnErr result (canvas.new.bytes ≡ canvas.old.bytes) }
@@ -108,7 +108,7 @@ fn draw_outputs(
     stayed_in_both();
     sections_in_file();
     let parts = drawing_parts(alloc, project, indexed_layout, values, outputs)?;
-    let tail = image_parts(&parts.tail);
+    let tail = lend_parts(&parts.tail);
     let drawing = Drawing {
         headers: &parts.headers,
         sections: &parts.sections,

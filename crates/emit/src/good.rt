@@ -15,7 +15,7 @@ use place::numbered::are_numbered;
 
 /// A law: a link whose image is not too long and whose relocations have no faults is good. The call visits each object
 /// once, and changes nothing.
-pub fn is_good(project: &ProjectView<'_>, link_layout: &LinkLayout)
+pub fn faultless_link_is_good(project: &ProjectView<'_>, link_layout: &LinkLayout)
     ensures { (layout : Layout) → IsLinkLayout project.now layout link_layout.now → image_length project.now layout
         ≤ max_image_length
         → relocation_faults project.now layout ≡ [] → IsGood (record { project = project.now; layout = layout }) }

@@ -25,7 +25,7 @@ fn as_read(object: &Object)
     let _relocations = object.relocations(LinkedIndex(0));
 }
 
-/// The keys of all objects: their places.
+/// The keys of all objects: in a link the key of an object is its place.
 ///
 /// # Errors
 ///

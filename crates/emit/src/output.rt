@@ -56,8 +56,7 @@ fn fill_of(section: &OutputSection) -> &[u8]
     }
 }
 
-/// The output section of a number at this place in memory, made of the entries of these lists under that number; `None`
-/// if a list is too short.
+/// Entry `number` of each list, put together as an output section; `None` if a list is too short.
 fn output_at<'a>(
     number: usize,
     placed: &Placed,

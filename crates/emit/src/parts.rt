@@ -57,7 +57,7 @@ fn table_sections<'a>(
 }
 
 /// An output section as it is drawn. Fails where it begins past any file.
-fn image_section<'a>(output: &OutputDrawing<'a>) -> Result<ImageSection<'a>, NoMemory>
+fn lend_section<'a>(output: &OutputDrawing<'a>) -> Result<ImageSection<'a>, NoMemory>
     ensures { IfOk result (λ y. (project : Project) (layout : Layout) (stays : SectionKey → Bool) (q : PlacedOutput)
         → IsOutput project layout stays q output.now → IsDrawn project layout stays q y) }
 {
@@ -88,13 +88,13 @@ fn add_section<'a>(
     if output.placed.size == 0 || !output.placed.has_file_bytes {
         return Ok(());
     }
-    let section = image_section(output)?;
+    let section = lend_section(output)?;
     sections.push(section)?;
     Ok(())
 }
 
 /// The output sections with bytes in the file, as they are drawn. Fails if memory runs out.
-fn image_sections<'a>(
+fn lend_sections<'a>(
     alloc: Global,
     outputs: &[OutputDrawing<'a>],
 ) -> Result<Vec<ImageSection<'a>>, NoMemory>
@@ -146,7 +146,7 @@ pub(crate) fn drawing_parts<'a>(
     let entry = values.entry.number_or_0();
     let table = tail.headers.offset();
     let headers = headers(alloc, entry, segments, table, headings.len())?;
-    let sections = image_sections(alloc, outputs)?;
+    let sections = lend_sections(alloc, outputs)?;
     Ok(ImageParts {
         headers,
         sections,

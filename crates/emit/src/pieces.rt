@@ -28,7 +28,7 @@ use crate::relocated::Relocated;
 use crate::section_fields::fields_of;
 use elfobj::Object;
 use elfobj::section::{LinkedIndex, Section, SectionIndex, SectionKind};
-use emit_image::row::{add_drawn, add_kept};
+use emit_image::row::{add_drawn, add_stayed};
 use emit_image::section::ImagePiece;
 use emit_relocate::previous_link_info::PreviousLinkInfo;
 use ldmodel::memory::NoMemory;
@@ -73,22 +73,22 @@ fn section_at(object: &Object, index: LinkedIndex) -> Section
 }
 
 /// The index of the section of an object with this number, looked for at one index before all others.
-fn section_near(object: &Object, number: SectionIndex, likely: usize) -> Option<LinkedIndex>
+fn section_near(object: &Object, number: SectionIndex, hint: usize) -> Option<LinkedIndex>
     ensures found { IfSome result (λ i. IsNumberedAt (map section_of object.now.sections) number i.0) }
     ensures absent { IfNone result
         (All (λ section. section.number.0 ≢ number.0) (map section_of object.now.sections)) }
 {
-    let Some(section) = object.sections().get(likely) else {
+    let Some(section) = object.sections().get(hint) else {
         return object.section_at(number);
     };
     if section.number.0 == number.0 {
-        return Some(LinkedIndex(likely));
+        return Some(LinkedIndex(hint));
     }
     object.section_at(number)
 }
 
 /// A section of the object of a key, as an input section of this number of bytes at an address; all zeros if it is
-/// NOBITS, or if there is no list of its fields, as in no link.
+/// NOBITS, or if there is no list of its fields, which no link lacks.
 fn section_piece<'a>(
     relocated: &'a Relocated,
     indexed_layout: &IndexedLayout,
@@ -128,15 +128,15 @@ fn section_piece<'a>(
     }
 }
 
-/// What is drawn of an entry: the bytes of its section, or zeros if it belongs to no object. `likely` is where to look
-/// for its section, and is updated for the next entry: the sections of an object mostly stand in a row one after the
-/// other, as in the object.
+/// What is drawn of an entry: the bytes of its section, or zeros if it belongs to no object. `hint` is where its section
+/// is looked for first, and is updated for the next entry: the sections of an object mostly stand in a row one after
+/// the other, as in the object.
 fn drawn_piece<'a>(
     project: &'a ProjectView<'_>,
     relocated: &'a Relocated,
     indexed_layout: &IndexedLayout,
     at: PieceAt<'_>,
-    likely: &mut usize,
+    hint: &mut usize,
 ) -> ImagePiece<'a>
     ensures { (link : KnownLink) (stays : KeyOf → Bool) (w : PlacedPiece)
         → link.project ≡ project.now → AreSources link stays indexed_layout.now relocated.now
@@ -153,10 +153,10 @@ fn drawn_piece<'a>(
         Part::InCommon(_) => zeros(piece.size, start),
         Part::InTable(number) => match project.object(key) {
             None => zeros(piece.size, start),
-            Some(object) => match section_near(object, number, *likely) {
+            Some(object) => match section_near(object, number, *hint) {
                 None => zeros(piece.size, start),
                 Some(index) => {
-                    *likely = index.0.wrapping_add(1);
+                    *hint = index.0.wrapping_add(1);
                     // for the prover: brings in the invariant of `object`, of its sections
                     let _sections = object.sections();
                     section_piece(
@@ -195,7 +195,7 @@ fn has_stayed<E: PreviousLinkInfo>(previous: &E, piece: &Piece) -> bool
 }
 
 /// Adds an entry of a row at an address: one that stays is joined to the one before it, where that stays too and no gap
-/// lies between. `likely` is as in `drawn_piece`. Fails if memory runs out.
+/// lies between. `hint` is as in `drawn_piece`. Fails if memory runs out.
 fn add_entry<'a, E: PreviousLinkInfo>(
     pieces: &mut Vec<ImagePiece<'a>>,
     project: &'a ProjectView<'_>,
@@ -203,7 +203,7 @@ fn add_entry<'a, E: PreviousLinkInfo>(
     indexed_layout: &IndexedLayout,
     previous: &E,
     at: PieceAt<'_>,
-    likely: &mut usize,
+    hint: &mut usize,
 ) -> Result<(), NoMemory>
     ensures { OnOk result ((link : KnownLink) (w : PlacedPiece) (whole : List Drawn) → link.project ≡ project.now
         → AreSources link (λ k. is_some (E.range previous.now k)) indexed_layout.now relocated.now
@@ -213,9 +213,9 @@ fn add_entry<'a, E: PreviousLinkInfo>(
         × StandFor (whole ++ y ∷ []) pieces.new.items) }
 {
     if has_stayed(previous, at.piece) {
-        return add_kept(pieces, at.piece.size, at.start);
+        return add_stayed(pieces, at.piece.size, at.start);
     }
-    let drawn = drawn_piece(project, relocated, indexed_layout, at, likely);
+    let drawn = drawn_piece(project, relocated, indexed_layout, at, hint);
     add_drawn(pieces, drawn)
 }
 
@@ -228,7 +228,7 @@ fn add_unless_empty<'a, E: PreviousLinkInfo>(
     indexed_layout: &IndexedLayout,
     previous: &E,
     at: PieceAt<'_>,
-    likely: &mut usize,
+    hint: &mut usize,
 ) -> Result<(), NoMemory>
     ensures { OnOk result ((link : KnownLink) (w : PlacedPiece) (whole : List Drawn) → link.project ≡ project.now
         → AreSources link (λ k. is_some (E.range previous.now k)) indexed_layout.now relocated.now
@@ -248,7 +248,7 @@ fn add_unless_empty<'a, E: PreviousLinkInfo>(
         indexed_layout,
         previous,
         at,
-        likely,
+        hint,
     )
 }
 
@@ -279,7 +279,7 @@ fn image_row<'a, E: PreviousLinkInfo>(
         → IsJoinedRow link.project link.layout (λ k. is_some (E.range previous.now k)) output v.items) }
 {
     let mut pieces = Vec::with_capacity(alloc, row.len())?;
-    let mut likely: usize = 0;
+    let mut hint: usize = 0;
     for (k, piece) in row.iter().enumerate() {
         let start = start_at(starts, k);
         add_unless_empty(
@@ -289,7 +289,7 @@ fn image_row<'a, E: PreviousLinkInfo>(
             indexed_layout,
             previous,
             PieceAt { piece, start },
-            &mut likely,
+            &mut hint,
         )?;
     }
     Ok(pieces)

@@ -203,8 +203,8 @@ fn plan_section<'a>(
     }
 }
 
-/// What is written of the sections of an object, onto a canvas of length `limit`; `None` exactly if a relocation has a
-/// fault. Each relocation whose symbol has a value counts as one.
+/// Plans the writes of an object's sections onto a canvas of length `limit`; `None` exactly if a relocation has a fault.
+/// Each relocation whose symbol has a value counts as one.
 ///
 /// # Errors
 ///

@@ -18,7 +18,7 @@ use Rattle.ldmodel.specs.Image.{covers}
 use Rattle.ldmodel.specs.declared.placed.PlacedData.{PlacedData}
 use Rattle.emit_image.specs.Drawing.{AreApart, ArePieces, IsFilled, covers_piece, data_end, is_full, last_end}
 use Rattle.emit_image.specs.Drawing.{piece_end}
-use Rattle.emit_image.specs.Joined.{IsBare, IsKeptAt, StandFor, piece_ends, piece_spot, spot_in}
+use Rattle.emit_image.specs.Joined.{IsBare, IsStayedPieceAt, StandFor, piece_ends, piece_spot, spot_in}
 use Rattle.emit_image.specs.Stretches.{Spot}
 use Rattle.emit_image.specs.declared.section.ImagePiece.{ImagePiece}
 use Rattle.emit_image.proofs.Found.{covered, not_covered}
@@ -179,13 +179,13 @@ kept_spot = record { byte = 0; stays = true }
 bare_byte : (bytes : List ℕ) (fields : List Patch) (i : ℕ) → bytes ≡ [] → fields ≡ [] → patched_byte bytes fields i ≡ 0
 bare_byte bytes fields i e f = ap (λ b. patched_byte b fields i) e ∙ ap (λ r. patched_byte [] r i) f
 
-spot_of : (at start size : ℕ) (x : ImagePiece) → IsKeptAt start size x → piece_spot at x ≡ kept_spot
+spot_of : (at start size : ℕ) (x : ImagePiece) → IsStayedPieceAt start size x → piece_spot at x ≡ kept_spot
 spot_of at start size x h =
     let spot : ℕ → Bool → Spot = λ n b. record { byte = n; stays = b } in
     ap (λ n. spot n x.stays) (bare_byte x.bytes.now x.fields.now (at - x.start) h.bytes h.fields)
     ∙ ap (spot 0) h.stays
 
-one_spot : (at start size : ℕ) (x : ImagePiece) → IsKeptAt start size x → spot_in (x ∷ []) at
+one_spot : (at start size : ℕ) (x : ImagePiece) → IsStayedPieceAt start size x → spot_in (x ∷ []) at
     ≡ cond (covers start size at) (Some kept_spot) None
 one_spot at start size x h =
     go (covers x.start x.size at)
@@ -240,7 +240,7 @@ abbrev end_step : ℕ → ℕ → ℕ → ℕ → ℕ
 end_step at n start size =
     cond (not (size == 0)) (cond (nat_le (start + size) at) (max n (start + size)) n) n
 
-one_end : (at n start size : ℕ) (x : ImagePiece) → IsKeptAt start size x → last_end at n (piece_ends (x ∷ []))
+one_end : (at n start size : ℕ) (x : ImagePiece) → IsStayedPieceAt start size x → last_end at n (piece_ends (x ∷ []))
     ≡ end_step at n start size
 one_end at n start size x h =
     go (is_full x) ∙ ap (λ k. end_step at n k x.size) h.start_is ∙ ap (end_step at n start) h.size_is
@@ -302,7 +302,7 @@ ends_joined at n s a b e = elim (uncovered (s + a) b at e) [
     ]
 
 module _ (whole ys : List ImagePiece) (y x z : ImagePiece) (s a b : ℕ) (h : StandFor whole (ys ++ y ∷ []))
-    (last : IsKeptAt s a y) (next : IsKeptAt (s + a) b x) (both : IsKeptAt s (a + b) z) where
+    (last : IsStayedPieceAt s a y) (next : IsStayedPieceAt (s + a) b x) (both : IsStayedPieceAt s (a + b) z) where
   spots_joined : (at : ℕ) → spot_in (ys ++ z ∷ []) at ≡ spot_in (whole ++ x ∷ []) at
   spots_joined at =
       let one : spot_in (z ∷ []) at ≡ option_or (spot_in (y ∷ []) at) (spot_in (x ∷ []) at) =
@@ -415,7 +415,7 @@ set_last (x ∷ xs) (suc k) z l = ap (λ r. x ∷ r) (set_last xs k z (omega (ar
 
 -- the last of a list, joined with one that stays after it
 pub joined_last : (whole items : List ImagePiece) (k : ℕ) (y x z : ImagePiece) → StandFor whole items
-    → length items ≡ k + 1 → get_or items k y ≡ y → y.stays ≡ true → IsKeptAt (y.start + y.size) x.size x
+    → length items ≡ k + 1 → get_or items k y ≡ y → y.stays ≡ true → IsStayedPieceAt (y.start + y.size) x.size x
     → z.start ≡ y.start → z.size ≡ y.size + x.size → z.bytes.now ≡ y.bytes.now → z.fields.now ≡ y.fields.now
     → z.stays ≡ y.stays → StandFor (whole ++ x ∷ []) (slice_set items k z)
 joined_last whole items k y x z h long at stays next start size bytes fields same =

@@ -26,7 +26,8 @@ use Rattle.ldmodel_laws.specs.Spread as spread
 use Rattle.ldmodel_laws.specs.Untouched.{HasField, IsGood, IsOutside}
 use Rattle.emit_image.specs.Drawing.{covers_data, covers_part, covers_piece, covers_section, drawing_end, drawing_spot}
 use Rattle.emit_image.specs.Drawing.{section_spot, spot_among, spot_past_headers}
-use Rattle.emit_image.specs.Kept.{ArePatchesOf, EachPiece, HasStayed, IsRedrawing, IsSitePatch, file_patch, linked_in}
+use Rattle.emit_image.specs.Redrawings.{ArePatchesOf, EachPiece, HasStayed, IsRedrawing, IsSitePatch, file_patch}
+use Rattle.emit_image.specs.Redrawings.{linked_in}
 use Rattle.emit_image.specs.OfLink.{IsDrawingOf, IsImagePiece, IsImageSection, loaded}
 use Rattle.emit_image.specs.Drawn.{IsDrawnFor}
 use Rattle.emit_image.specs.Stretches.{EndsBy, IsPatchOf, is_patched}

@@ -24,7 +24,7 @@ use Rattle.ldmodel_laws.specs.Untouched.{IsGood}
 use Rattle.emit_image.specs.Drawing.{AreParts, ArePieces, AreSections, IsDrawing, IsOrderly, covers_data, covers_piece}
 use Rattle.emit_image.specs.Drawing.{covers_section, drawing_end, drawing_spot, end_of_parts, end_of_sections, part_end}
 use Rattle.emit_image.specs.Drawing.{piece_end, section_spot, spot_among}
-use Rattle.emit_image.specs.Kept.{EachPiece, IsKept, linked_in}
+use Rattle.emit_image.specs.Redrawings.{EachPiece, IsMarkedIfStayed, linked_in}
 use Rattle.emit_image.specs.OfLink.{IsDrawingOf, IsImagePiece, IsImageSection, loaded}
 use Rattle.emit_image.specs.Drawn.{count_unstayed}
 use Rattle.emit_image.specs.Reached.{section_image}
@@ -377,7 +377,7 @@ module _ (old new : GoodLink) where
         (λ x e. no_bytes x.section e) (in_file gs))
 
     piece_kept : (q : PlacedOutput) (u : PlacedPiece) (v : ImagePiece)
-        → IsImagePiece new.project s u v × IsKept old new q u v → counted (linked_in new q u) ≤ kept_size v
+        → IsImagePiece new.project s u v × IsMarkedIfStayed old new q u v → counted (linked_in new q u) ≤ kept_size v
     piece_kept q u v h = go (has_stayed old (linked_in new q u)) refl
       where
         go : (b : Bool) → has_stayed old (linked_in new q u) ≡ b → cond b (range_in gs q u).length 0 ≤ kept_size v
@@ -388,23 +388,27 @@ module _ (old new : GoodLink) where
             omega (arith, short, full, h.0.size)
 
     section_kept : (x : SectionInFile) (y : ImageSection)
-        → IsImageSection new.project s x y × AllZip (IsKept old new x.section) x.section.pieces y.pieces.now
+        → IsImageSection new.project s x y × AllZip (IsMarkedIfStayed old new x.section) x.section.pieces y.pieces.now
         → stayed_in x.section ≤ kept_bytes y
     section_kept x y h =
-        sum_zip (λ u v. IsImagePiece new.project s u v × IsKept old new x.section u v) (λ u.
+        sum_zip (λ u v. IsImagePiece new.project s u v × IsMarkedIfStayed old new x.section u v) (λ u.
         counted (linked_in new x.section u)) kept_size (piece_kept x.section) x.section.pieces y.pieces.now
-        (zip_both (IsImagePiece new.project s) (IsKept old new x.section) x.section.pieces y.pieces.now h.0.pieces h.1)
+        (zip_both (IsImagePiece new.project s)
+        (IsMarkedIfStayed old new x.section) x.section.pieces y.pieces.now h.0.pieces h.1)
 
     -- what is written, and what stayed, are no more than the image
-    pub all_spared : (d : Drawing) → IsDrawing d → IsDrawingOf new.project s d → EachPiece (IsKept old new) s d
+    pub all_spared : (d : Drawing) → IsDrawing d → IsDrawingOf new.project s d
+        → EachPiece (IsMarkedIfStayed old new) s d
         → count_unstayed (drawing_spot d) (drawing_end d) + bytes_stayed old new ≤ image_length new.project s
     all_spared d h is kept =
         let drawn = drawing_spared d h in
         let end = end-same new.project s d is in
         let most = sum_zip (λ x y.
-        IsImageSection new.project s x y × AllZip (IsKept old new x.section) x.section.pieces y.pieces.now) (λ (x
+        IsImageSection new.project s x y × AllZip (IsMarkedIfStayed old new x.section) x.section.pieces y.pieces.now)
+        (λ (x
         : SectionInFile). stayed_in x.section) kept_bytes section_kept (loaded s) d.sections.now
         (zip_both (IsImageSection new.project s) (λ x y.
-        AllZip (IsKept old new x.section) x.section.pieces y.pieces.now) (loaded s) d.sections.now is.sections kept) in
+        AllZip (IsMarkedIfStayed old new x.section) x.section.pieces y.pieces.now)
+        (loaded s) d.sections.now is.sections kept) in
         let all = by_loaded in
         omega (arith, drawn, end, most, all)

@@ -15,7 +15,7 @@ use Rattle.ldmodel.specs.WorkBound.{bytes_stayed}
 use Rattle.std.specs.Prelude.{map}
 use Rattle.emit_image.specs.Drawing.{IsDrawing, covers_data, covers_part, covers_piece, covers_section, drawing_end}
 use Rattle.emit_image.specs.Drawing.{drawing_spot, section_spot, spot_among, spot_past_headers}
-use Rattle.emit_image.specs.Kept.{EachPiece, HasStayed, IsKept, linked_in}
+use Rattle.emit_image.specs.Redrawings.{EachPiece, HasStayed, IsMarkedIfStayed, linked_in}
 use Rattle.emit_image.specs.OfLink.{IsDrawingOf, IsImagePiece, IsImageSection, loaded}
 use Rattle.emit_image.specs.Drawn.{count_unstayed}
 use Rattle.emit_image.specs.Stretches.{Spot}
@@ -300,7 +300,7 @@ module _ (old new : GoodLink) (all_in_file : (sections : List PlacedOutput)
       h.1.0.pieces h.1.1)
 
   pub unstayed_is : (d : Drawing) → IsDrawing d → IsDrawingOf new.project new.layout d
-      → EachPiece (IsKept old new) new.layout d → EachPiece (HasStayed old new) new.layout d
+      → EachPiece (IsMarkedIfStayed old new) new.layout d → EachPiece (HasStayed old new) new.layout d
       → count_unstayed (drawing_spot d) (drawing_end d)
       ≡ image_length new.project new.layout - bytes_stayed old new
   unstayed_is d h is kept stayed =

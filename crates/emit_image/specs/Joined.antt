@@ -29,7 +29,7 @@ abbrev pub IsBare : ImagePiece → Type 0
 IsBare y = y.stays ≡ true → (y.bytes.now ≡ []) × (y.fields.now ≡ [])
 
 -- an input section of this number of bytes at an address, which stays
-pub record IsKeptAt (start size : ℕ) (y : ImagePiece) : Type 0 where
+pub record IsStayedPieceAt (start size : ℕ) (y : ImagePiece) : Type 0 where
   pub start_is : y.start ≡ start
   pub size_is : y.size ≡ size
   pub bytes : y.bytes.now ≡ []

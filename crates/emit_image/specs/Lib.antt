@@ -5,7 +5,7 @@ pub mod Tables
 pub mod Drawing
 pub mod Painted
 pub mod InMemory
-pub mod Kept
+pub mod Redrawings
 pub mod OfLink
 pub mod Drawn
 pub mod Reached

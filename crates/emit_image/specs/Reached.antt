@@ -41,8 +41,8 @@ DataFrom x j at =
     → at ≤ (slice_index_or x.data_commands.now i d).start
 
 -- where an address of an output section lies in the file
-abbrev pub place_of : ImageSection → ℕ → ℕ
-place_of x at = x.offset + (at - x.start)
+abbrev pub file_offset_of : ImageSection → ℕ → ℕ
+file_offset_of x at = x.offset + (at - x.start)
 
 -- what lies at an offset of the file in an output section
 abbrev pub section_image : ImageSection → ℕ → Spot

@@ -20,7 +20,7 @@ ghost use Rattle.ldscript.specs.statements.declared.statement.Statement.{Stateme
 ghost use Rattle.emit_image.specs.Drawing.{IsDrawing, drawing_end, drawing_spot};
 ghost use Rattle.emit_image.specs.InMemory.{AreFilled, IsInMemory};
 ghost use Rattle.emit_image.specs.Joined.{AreAlike, IsJoined};
-ghost use Rattle.emit_image.specs.Kept.{ArePatchesOf, EachPiece, HasStayed, IsKept, IsRedrawing};
+ghost use Rattle.emit_image.specs.Redrawings.{ArePatchesOf, EachPiece, HasStayed, IsMarkedIfStayed, IsRedrawing};
 ghost use Rattle.emit_image.specs.OfLink.{AreUnstayed, IsDrawingOf};
 ghost use Rattle.emit_image.specs.Drawn.{IsDrawnFor, count_unstayed};
 ghost use Rattle.emit_image.specs.Stretches.{EndsBy, patch_bytes};
@@ -96,7 +96,8 @@ pub fn kept_is_image()
 pub fn kept_is_not_drawn()
     ensures { (old new : GoodLink) (drawing : Drawing) → IsGood new → IsDrawing drawing
         → IsDrawingOf new.project new.layout drawing
-        → EachPiece (IsKept old new) new.layout drawing → count_unstayed (drawing_spot drawing) (drawing_end drawing)
+        → EachPiece (IsMarkedIfStayed old new) new.layout drawing
+        → count_unstayed (drawing_spot drawing) (drawing_end drawing)
         + bytes_stayed old new ≤ image_length new.project new.layout }
 {
     sections_in_file();
@@ -106,7 +107,7 @@ pub fn kept_is_not_drawn()
 pub fn kept_is_what_stayed()
     ensures { (old new : GoodLink) (drawing : Drawing) → IsGood new → IsDrawing drawing
         → IsDrawingOf new.project new.layout drawing
-        → EachPiece (IsKept old new) new.layout drawing → EachPiece (HasStayed old new) new.layout drawing
+        → EachPiece (IsMarkedIfStayed old new) new.layout drawing → EachPiece (HasStayed old new) new.layout drawing
         → count_unstayed (drawing_spot drawing) (drawing_end drawing)
         ≡ image_length new.project new.layout - bytes_stayed old new }
 {

@@ -5,7 +5,7 @@ ghost use Rattle.std.specs.Prelude.{◌≡◌, ◌≤◌, ◌<◌, ◌+◌, leng
 ghost use Rattle.ldmodel.specs.declared.placed.PlacedData.{PlacedData};
 ghost use Rattle.emit_image.specs.Drawing.{IsOrderly};
 ghost use Rattle.emit_image.specs.Painted.{IsPainted, IsReady};
-ghost use Rattle.emit_image.specs.Reached.{DataFrom, IsReached, PiecesFrom, place_of, section_image};
+ghost use Rattle.emit_image.specs.Reached.{DataFrom, IsReached, PiecesFrom, file_offset_of, section_image};
 ghost use Rattle.emit_image.specs.declared.section.ImagePiece.{ImagePiece};
 
 use crate::paint::{paint_data, paint_fill, paint_gap, paint_piece};
@@ -38,11 +38,11 @@ fn copy_of(cursor: SectionCursor) -> SectionCursor
 }
 
 /// Where an address of an output section lies in the file.
-fn place(x: &ImageSection<'_>, at: u64) -> usize
+fn file_offset(x: &ImageSection<'_>, at: u64) -> usize
     requires orderly { IsOrderly x.now }
     requires low { x.now.start ≤ at }
     requires high { at ≤ x.now.start + x.now.size }
-    ensures { result ≡ place_of x.now at }
+    ensures { result ≡ file_offset_of x.now at }
 {
     (x.offset + (at - x.start)) as usize
 }
@@ -70,14 +70,21 @@ fn paint_next_data(
     ensures data_commands { result.data_commands ≡ cursor.data_commands + 1 }
     ensures up { cursor.at ≤ result.at }
     ensures ready { IsReady limit canvas.new }
-    ensures painted { IsPainted canvas.old.bytes canvas.new.bytes meter.old meter.new (place_of x.now cursor.at)
-        (place_of x.now result.at) (section_image x.now) }
+    ensures painted { IsPainted canvas.old.bytes canvas.new.bytes meter.old meter.new (file_offset_of x.now cursor.at)
+        (file_offset_of x.now result.at) (section_image x.now) }
 {
     let d = &x.data_commands[cursor.data_commands];
     let end = d.start + u64::from(d.width.byte_count());
-    let from = place(x, d.start);
-    paint_fill(canvas, limit, place(x, cursor.at), from, x.fill, meter);
-    paint_data(canvas, limit, from, place(x, end), d, meter);
+    let from = file_offset(x, d.start);
+    paint_fill(
+        canvas,
+        limit,
+        file_offset(x, cursor.at),
+        from,
+        x.fill,
+        meter,
+    );
+    paint_data(canvas, limit, from, file_offset(x, end), d, meter);
     SectionCursor {
         pieces: cursor.pieces,
         data_commands: cursor.data_commands + 1,
@@ -105,8 +112,8 @@ fn paint_some_data(
     ensures data_commands { DataFrom x.now result.data_commands below }
     ensures up { cursor.at ≤ result.at }
     ensures ready { IsReady limit canvas.new }
-    ensures painted { IsPainted canvas.old.bytes canvas.new.bytes meter.old meter.new (place_of x.now cursor.at)
-        (place_of x.now result.at) (section_image x.now) }
+    ensures painted { IsPainted canvas.old.bytes canvas.new.bytes meter.old meter.new (file_offset_of x.now cursor.at)
+        (file_offset_of x.now result.at) (section_image x.now) }
 {
     let mut now = cursor;
     for _k in cursor.data_commands..x.data_commands.len() {
@@ -138,8 +145,8 @@ fn paint_data_apart(
     ensures data_commands { DataFrom x.now result.data_commands below }
     ensures up { cursor.at ≤ result.at }
     ensures ready { IsReady limit canvas.new }
-    ensures painted { IsPainted canvas.old.bytes canvas.new.bytes meter.old meter.new (place_of x.now cursor.at)
-        (place_of x.now result.at) (section_image x.now) }
+    ensures painted { IsPainted canvas.old.bytes canvas.new.bytes meter.old meter.new (file_offset_of x.now cursor.at)
+        (file_offset_of x.now result.at) (section_image x.now) }
 {
     let now = paint_some_data(canvas, limit, x, copy_of(cursor), below, meter);
     copy_of(now)
@@ -165,8 +172,8 @@ fn paint_data_before(
     ensures data_commands { DataFrom x.now result.data_commands below }
     ensures up { cursor.at ≤ result.at }
     ensures ready { IsReady limit canvas.new }
-    ensures painted { IsPainted canvas.old.bytes canvas.new.bytes meter.old meter.new (place_of x.now cursor.at)
-        (place_of x.now result.at) (section_image x.now) }
+    ensures painted { IsPainted canvas.old.bytes canvas.new.bytes meter.old meter.new (file_offset_of x.now cursor.at)
+        (file_offset_of x.now result.at) (section_image x.now) }
 {
     if cursor.data_commands == x.data_commands.len() {
         return cursor;
@@ -193,15 +200,23 @@ fn paint_full_piece(
     ensures pieces { result.pieces ≡ cursor.pieces + 1 }
     ensures up { cursor.at ≤ result.at }
     ensures ready { IsReady limit canvas.new }
-    ensures painted { IsPainted canvas.old.bytes canvas.new.bytes meter.old meter.new (place_of x.now cursor.at)
-        (place_of x.now result.at) (section_image x.now) }
+    ensures painted { IsPainted canvas.old.bytes canvas.new.bytes meter.old meter.new (file_offset_of x.now cursor.at)
+        (file_offset_of x.now result.at) (section_image x.now) }
 {
     let piece = &x.pieces[cursor.pieces];
     let now = paint_data_before(canvas, limit, x, cursor, piece.start, meter);
     let end = piece.start + piece.size;
-    let from = place(x, piece.start);
-    let reach = place(x, end);
-    paint_gap(canvas, limit, place(x, now.at), from, reach, x.fill, meter);
+    let from = file_offset(x, piece.start);
+    let reach = file_offset(x, end);
+    paint_gap(
+        canvas,
+        limit,
+        file_offset(x, now.at),
+        from,
+        reach,
+        x.fill,
+        meter,
+    );
     paint_piece(canvas, desk, from, piece, meter);
     SectionCursor {
         pieces: cursor.pieces + 1,
@@ -228,8 +243,8 @@ fn paint_next_piece(
     ensures pieces { result.pieces ≡ cursor.pieces + 1 }
     ensures up { cursor.at ≤ result.at }
     ensures ready { IsReady limit canvas.new }
-    ensures painted { IsPainted canvas.old.bytes canvas.new.bytes meter.old meter.new (place_of x.now cursor.at)
-        (place_of x.now result.at) (section_image x.now) }
+    ensures painted { IsPainted canvas.old.bytes canvas.new.bytes meter.old meter.new (file_offset_of x.now cursor.at)
+        (file_offset_of x.now result.at) (section_image x.now) }
 {
     if x.pieces[cursor.pieces].size == 0 {
         return SectionCursor {
@@ -270,8 +285,8 @@ pub(crate) fn paint_section(
     paint_fill(
         canvas,
         limit,
-        place(x, last.at),
-        place(x, end),
+        file_offset(x, last.at),
+        file_offset(x, end),
         x.fill,
         meter,
     );

@@ -12,7 +12,7 @@ ghost use Rattle.ldmodel.specs.Stayed.{GoodLink};
 ghost use Rattle.ldmodel.specs.WorkBound.{bytes_stayed, retargeted_bytes};
 ghost use Rattle.emit_image.specs.Drawing.{IsDrawing, drawing_end, drawing_spot};
 ghost use Rattle.emit_image.specs.Joined.{AreAlike};
-ghost use Rattle.emit_image.specs.Kept.{EachPiece, HasStayed, IsKept, IsRedrawing};
+ghost use Rattle.emit_image.specs.Redrawings.{EachPiece, HasStayed, IsMarkedIfStayed, IsRedrawing};
 ghost use Rattle.emit_image.specs.OfLink.{AreUnstayed, IsDrawingOf};
 ghost use Rattle.emit_image.specs.Drawn.{count_unstayed};
 ghost use Rattle.emit_image.specs.Stretches.{EndsBy, patch_bytes};
@@ -56,8 +56,8 @@ fn make_room(canvas: &mut Canvas, length: usize) -> Result<(), NoMemory>
 /// at their offsets in the file. Room for all of it is taken before anything is written, so that this can be the last
 /// call of an edit that may fail.
 ///
-/// In a drawing, neighbours that stay may be joined into one entry. `whole` is the same drawing with nothing joined,
-/// about which the clauses speak.
+/// In a drawing, neighbours that stay may be joined into one entry. The clauses speak about `whole`, the same drawing
+/// with nothing joined.
 ///
 /// If nothing stays, the canvas may hold anything before. Else it must hold the image of the old link, only input
 /// sections that stayed may be kept, and the patches must be the fields in them whose symbol has another value: then
@@ -82,12 +82,12 @@ pub fn redraw(
         → canvas.old.bytes ≡ image old.project old.layout → canvas.new.bytes ≡ image new.project new.layout) }
     ensures work { OnOk result ((old new : GoodLink) (whole : DrawingOf) → AreAlike whole drawing.now
         → IsDrawing whole → IsGood new → IsDrawingOf new.project new.layout whole
-        → EachPiece (IsKept old new) new.layout whole → patch_bytes patches.now ≤ retargeted_bytes old new
+        → EachPiece (IsMarkedIfStayed old new) new.layout whole → patch_bytes patches.now ≤ retargeted_bytes old new
         → meter.new.bytes + bytes_stayed old new
         ≤ meter.old.bytes + (image_length new.project new.layout + retargeted_bytes old new)) }
     ensures spent { OnOk result ((old new : GoodLink) (whole : DrawingOf) → AreAlike whole drawing.now
         → IsDrawing whole → IsGood new → IsDrawingOf new.project new.layout whole
-        → EachPiece (IsKept old new) new.layout whole → EachPiece (HasStayed old new) new.layout whole
+        → EachPiece (IsMarkedIfStayed old new) new.layout whole → EachPiece (HasStayed old new) new.layout whole
         → meter.new ≡ raised meter.old counts.Bytes
         (patch_bytes patches.now + (image_length new.project new.layout - bytes_stayed old new))) }
     ensures counted { OnOk result (meter.new ≡ raised meter.old counts.Bytes

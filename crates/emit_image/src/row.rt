@@ -2,15 +2,15 @@
 //! that stays too and no gap lies between: so what stayed together is drawn as one.
 
 ghost use Rattle.std.specs.Prelude.{◌≡◌, ◌+◌, ◌++◌, ◌∷◌, [], IfSome, List, OnOk, false, true};
-ghost use Rattle.emit_image.specs.Joined.{IsKeptAt, StandFor};
+ghost use Rattle.emit_image.specs.Joined.{IsStayedPieceAt, StandFor};
 ghost use Rattle.emit_image.specs.declared.section.ImagePiece.{ImagePiece as PieceOf};
 
 use crate::section::ImagePiece;
 use ldmodel::memory::NoMemory;
 
 /// An input section that stays, of `size` bytes at `start`.
-fn kept<'a>(size: u64, start: u64) -> ImagePiece<'a>
-    ensures { IsKeptAt start size result }
+fn stayed_piece<'a>(size: u64, start: u64) -> ImagePiece<'a>
+    ensures { IsStayedPieceAt start size result }
 {
     ImagePiece {
         start,
@@ -54,9 +54,9 @@ fn add<'a>(row: &mut Vec<ImagePiece<'a>>, piece: ImagePiece<'a>) -> Result<(), N
 /// # Errors
 ///
 /// If memory runs out.
-pub fn add_kept<'a>(row: &mut Vec<ImagePiece<'a>>, size: u64, start: u64) -> Result<(), NoMemory>
+pub fn add_stayed<'a>(row: &mut Vec<ImagePiece<'a>>, size: u64, start: u64) -> Result<(), NoMemory>
     ensures { OnOk result ((whole : List PieceOf) → StandFor whole row.old.items
-        → (x : PieceOf) × IsKeptAt start size x × StandFor (whole ++ x ∷ []) row.new.items) }
+        → (x : PieceOf) × IsStayedPieceAt start size x × StandFor (whole ++ x ∷ []) row.new.items) }
 {
     let count = row.len();
     if count > 0 {
@@ -66,7 +66,7 @@ pub fn add_kept<'a>(row: &mut Vec<ImagePiece<'a>>, size: u64, start: u64) -> Res
             return Ok(());
         }
     }
-    add(row, kept(size, start))?;
+    add(row, stayed_piece(size, start))?;
     Ok(())
 }
 

@@ -14,7 +14,7 @@ pub struct ImagePiece<'a> {
     pub bytes: &'a [u8],
     /// The fields over these bytes, in the order of their offsets; none if the input section stays.
     pub fields: &'a [Patch],
-    /// Whether its bytes are on the canvas already, but for the patches of the plan.
+    /// Whether its bytes are on the canvas already, but for the patches that `redraw` is given.
     pub stays: bool,
 }
 

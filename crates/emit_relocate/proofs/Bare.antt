@@ -17,7 +17,7 @@ use Rattle.ldmodel.specs.declared.names.ObjectPlace.{ObjectPlace}
 use Rattle.ldmodel.specs.declared.sections.Part.TheVariants.{InTable}
 use Rattle.ldmodel.specs.declared.sections.SectionKey.{SectionKey}
 use Rattle.emit_relocate.specs.Changes.{Adds, Evaluated, IsEvaluatedAt, IsEvaluatedOf, Results, own_sites, section_key}
-use Rattle.emit_relocate.specs.PreviousLinkInfo.{has_moved}
+use Rattle.emit_relocate.specs.PreviousLinkInfo.{has_new_value}
 use Rattle.emit_relocate.specs.Fields.{field_at, sites_among}
 use Rattle.emit_relocate.specs.Filled.{IsRunAt, IsRunOf, ObjectSection}
 use Rattle.emit_relocate.specs.KnownLink.{KnownLink, named_object}
@@ -75,7 +75,7 @@ module _ (old : GoodLink) (l : KnownLink) (s : ObjectSection) (bare : s.section.
     stayed = λ t d. absurd (none_in_nil t (subst (λ ts. Contains ts t) no_sites d));
     run = refl;
     patches = refl;
-    sites = ap (filter (has_moved old l)) (sym no_sites);
+    sites = ap (filter (has_new_value old l)) (sym no_sites);
   }
 
   pub bare_added : (range : SectionKey → Option FileRange) (place : ObjectPlace) → named_object l place ≡ Some s.object

@@ -17,13 +17,14 @@ use Rattle.ldmodel.specs.Relocations.{Site}
 use Rattle.ldmodel.specs.Stayed.{GoodLink}
 use Rattle.ldmodel.specs.declared.names.ObjectPlace.{ObjectPlace}
 use Rattle.ldmodel.specs.declared.sections.SectionKey.{SectionKey}
-use Rattle.emit_relocate.specs.Changes.{Adds, AreChanged, Evaluated, IsEvaluatedAt, IsEvaluatedOf, IsMoved, IsRetained}
+use Rattle.emit_relocate.specs.Changes.{Adds, AreChanged, Evaluated, IsEvaluatedAt, IsEvaluatedOf, AreRetargetedFiled}
+use Rattle.emit_relocate.specs.Changes.{HasRetargetedFields}
 use Rattle.emit_relocate.specs.Changes.{Results, file_patch_at, own_sites, section_key}
-use Rattle.emit_relocate.specs.PreviousLinkInfo.{HasStayedAt, IsKept, IsKnownAt, has_moved}
+use Rattle.emit_relocate.specs.PreviousLinkInfo.{HasStayedAt, HasSomeStayed, IsFoundStayed, has_new_value}
 use Rattle.emit_relocate.specs.Fields.{IsCounted, faults_of}
 use Rattle.emit_relocate.specs.Filled.{IsOrder, ObjectSection, ends_of, sections_in, sections_of}
 use Rattle.emit_relocate.specs.KnownLink.{KnownLink, named_object}
-use Rattle.emit_relocate.specs.Links.{IsKeptAt}
+use Rattle.emit_relocate.specs.Links.{IsFoundStayedAt}
 use Rattle.emit_relocate.specs.declared.previous_link_info.FileRange.{FileRange}
 use Rattle.emit_relocate.proofs.Added.{counted_more, raise_none}
 use Rattle.emit_relocate.proofs.Filling.{as_many}
@@ -44,7 +45,7 @@ flat_runs (c ∷ cs) = ap (λ r. c.run ++ r) (flat_runs cs)
 
 -- a section that is known to have stayed is one of its object
 pub kept_by : (range : SectionKey → Option FileRange) (key : SectionKey) (r : FileRange) → Some r ≡ range key
-    → IsKept range key.object
+    → HasSomeStayed range key.object
 kept_by range key r e = (key.part, ap is_some (sym e))
 
 pub not_some : (known : Option FileRange) → is_some known ≡ false → None ≡ known
@@ -55,10 +56,10 @@ module _ (old : GoodLink) (l : KnownLink) (range : SectionKey → Option FileRan
   -- those sites of a section that stayed were evaluated whose symbol has another value
   pub retained : (s : ObjectSection) (key : SectionKey) (r : FileRange) (a b : Results) → HasStayedAt old l key r
       → b.fields ≡ a.fields → b.ends ≡ a.ends
-      → IsMoved old l r (own_sites l s) a.patches b.patches a.faults b.faults a.counts b.counts
-      → Adds l (IsRetained old l key r s) a b
+      → AreRetargetedFiled old l r (own_sites l s) a.patches b.patches a.faults b.faults a.counts b.counts
+      → Adds l (HasRetargetedFields old l key r s) a b
   retained s key r a b stays fields ends h =
-      let ts : List Site = filter (has_moved old l) (own_sites l s) in
+      let ts : List Site = filter (has_new_value old l) (own_sites l s) in
       record {
         evaluated = record { run = []; patches = filter_map (file_patch_at l r) ts; sites = ts };
         is_done = record { stayed = λ t d. stays; run = refl; patches = refl; sites = refl };
@@ -87,9 +88,9 @@ module _ (old : GoodLink) (l : KnownLink) (range : SectionKey → Option FileRan
 
   -- beside what is known to have stayed
   pub retained_as : (s : ObjectSection) (place : ObjectPlace) → named_object l place ≡ Some s.object
-      → IsKnownAt old l range (section_key place s) → (a b : Results)
-      → ((r : FileRange) → IsKeptAt old l range (section_key place s) r
-      → Adds l (IsRetained old l (section_key place s) r s) a b)
+      → IsFoundStayed old l range (section_key place s) → (a b : Results)
+      → ((r : FileRange) → IsFoundStayedAt old l range (section_key place s) r
+      → Adds l (HasRetargetedFields old l (section_key place s) r s) a b)
       → Adds l (IsEvaluatedOf old l range s) a b
   retained_as s place named h a b each = go (range (section_key place s)) refl h.known h.stayed
     where

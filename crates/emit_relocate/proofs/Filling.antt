@@ -13,7 +13,7 @@ use Rattle.ldmodel.specs.Relocations.{Site, sites_at}
 use Rattle.ldmodel.specs.SymbolValues.{placed_part}
 use Rattle.ldmodel.specs.declared.names.ObjectPlace.{ObjectPlace}
 use Rattle.ldmodel.specs.declared.sections.Part.TheVariants.{InTable}
-use Rattle.emit_relocate.specs.Changes.{Adds, IsRenewed, Results, own_sites, section_key}
+use Rattle.emit_relocate.specs.Changes.{Adds, HasAllFields, Results, own_sites, section_key}
 use Rattle.emit_relocate.specs.Fields.{IsAdded, IsCounted, IsRun}
 use Rattle.emit_relocate.specs.Filled.{EndBelow, IsOrder, IsRunAt, ObjectSection}
 use Rattle.emit_relocate.specs.KnownLink.{KnownLink, named_object, object_of, start_of}
@@ -47,7 +47,7 @@ module _ (l : KnownLink) (s : ObjectSection) where
   run_sites a = option_map_or (λ (y : PlacedPiece). sites_at s.object s.section y.start) a []
 
   -- it is not in the output: it has no fields
-  pub renewed_none : IsPlaceOf l s None → (a : Results) → a.counts.fields < 2 ^ 64 → Adds l (IsRenewed l s) a a
+  pub renewed_none : IsPlaceOf l s None → (a : Results) → a.counts.fields < 2 ^ 64 → Adds l (HasAllFields l s) a a
   renewed_none gone a h = record {
     evaluated = record { run = []; patches = []; sites = own_sites l s };
     is_done = record { run = subst (λ p. IsRunAt l s p []) (sym gone) refl; patches = refl; sites = refl };
@@ -61,7 +61,7 @@ module _ (l : KnownLink) (s : ObjectSection) where
   pub renewed_some : (m : PlacedInput) → IsPlacedAt l s m → (a b : Results) → b.ends ≡ a.ends
       → b.patches ≡ a.patches
       → IsAdded l s.object s.section m.start a.fields b.fields a.faults b.faults a.counts b.counts
-      → Adds l (IsRenewed l s) a b
+      → Adds l (HasAllFields l s) a b
   renewed_some m p a b ends patches h = record {
     evaluated = record { run = h.run; patches = []; sites = own_sites l s };
     is_done = record {

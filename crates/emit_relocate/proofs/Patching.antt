@@ -19,7 +19,8 @@ use Rattle.ldmodel.specs.Layout.{Layout, PlacedPiece, PlacedOutput}
 use Rattle.ldmodel.specs.Project.{NamedObject, Project}
 use Rattle.ldmodel.specs.Relocations.{Site, patch_of, site_field, sites}
 use Rattle.ldmodel.specs.Segments.{file_offset, segments}
-use Rattle.ldmodel.specs.Stayed.{FileRange as FileBytes, GoodLink, LinkedPiece, has_stayed, is_moved, linked_piece}
+use Rattle.ldmodel.specs.Stayed.{FileRange as FileBytes, GoodLink, LinkedPiece, has_stayed, has_other_value}
+use Rattle.ldmodel.specs.Stayed.{linked_piece}
 use Rattle.ldmodel.specs.Stayed.{linked_pieces, link_pieces, retargeted, sites_in, stayed, site_value_in}
 use Rattle.ldmodel.specs.SymbolValues.{number_or_0}
 use Rattle.ldmodel.specs.declared.sections.SectionKey.{SectionKey}
@@ -27,7 +28,7 @@ use Rattle.ldmodel_laws.specs.StayedSites.{has_part_stayed}
 use Rattle.ldmodel_laws.specs.Untouched.{HasField}
 use Rattle.emit_relocate.specs.Changes.{AreChanged, Evaluated, IsEvaluatedAt, IsEvaluatedOf, Results, file_patch_at}
 use Rattle.emit_relocate.specs.Changes.{in_file, own_sites, section_key}
-use Rattle.emit_relocate.specs.PreviousLinkInfo.{IsComplete, good_link, has_moved, range_of}
+use Rattle.emit_relocate.specs.PreviousLinkInfo.{IsComplete, good_link, has_new_value, range_of}
 use Rattle.emit_relocate.specs.Filled.{ObjectSection, sections_in}
 use Rattle.emit_relocate.specs.KnownLink.{KnownLink}
 use Rattle.emit_relocate.specs.Patched.{AreAllPatched, AreInFile, AreOfProfile, AreOneEach, AreSized}
@@ -134,7 +135,7 @@ module _ (old : GoodLink) (l : KnownLink) (range : SectionKey → Option FileRan
   patch_at s c (Some r) h k among q d =
       let given = in_filter_map (file_patch_at l r) c.sites q (subst (λ qs. Contains qs q) k.patches d) in
       let t : Site = given.origin in
-      let kept = in_filter (has_moved old l) (own_sites l s) t (subst (λ ts. Contains ts t) k.sites given.among) in
+      let kept = in_filter (has_new_value old l) (own_sites l s) t (subst (λ ts. Contains ts t) k.sites given.among) in
       let at : Home old l t = home old l by_piece t (inside s t among kept.0) in
       let stays = k.stayed t kept.0 at.piece (keyed old l s h.key h.named t kept.0 at) in
       let p = patched l r t q given.gives in
@@ -190,20 +191,21 @@ range_whole p s x c some =
     whole q z false e f = absurd (omega (arith, some, e))
 
 -- a site whose symbol has another number has another value
-moved_of : (old : GoodLink) (l : KnownLink) (t : Site) → is_moved old (good_link l) t ≡ true → has_moved old l t ≡ true
-moved_of old l t e = go (has_moved old l t) refl
+moved_of : (old : GoodLink) (l : KnownLink) (t : Site) → has_other_value old (good_link l) t ≡ true
+    → has_new_value old l t ≡ true
+moved_of old l t e = go (has_new_value old l t) refl
   where
-    go : (b : Bool) → has_moved old l t ≡ b → b ≡ true
+    go : (b : Bool) → has_new_value old l t ≡ b → b ≡ true
     go true k = refl
     go false k =
         let same : site_value_in old t ≡ site_value_in (good_link l) t = ap number_or_0 ((same_where old l t).0 k) in
-        let none : is_moved old (good_link l) t ≡ false =
+        let none : has_other_value old (good_link l) t ≡ false =
         ap not (eq-eqb (site_value_in old t) (site_value_in (good_link l) t) same) in
         cc
 
-among_moved : (old new : GoodLink) (t : Site) → Contains (retargeted old new) t → is_moved old new t ≡ true
+among_moved : (old new : GoodLink) (t : Site) → Contains (retargeted old new) t → has_other_value old new t ≡ true
 unfolding retargeted
-among_moved old new t c = (in_filter (is_moved old new) (flat_map (sites_in new.project) (stayed old new)) t c).1
+among_moved old new t c = (in_filter (has_other_value old new) (flat_map (sites_in new.project) (stayed old new)) t c).1
 
 abbrev pub HasWidth : Site → Patch → Type 0
 HasWidth t q = length q.field ≡ width t.relocation.kind
@@ -217,7 +219,7 @@ module _ (old : GoodLink) (l : KnownLink) (range : SectionKey → Option FileRan
       → Contains (link_pieces (good_link l)) x × (has_stayed old x ≡ true)) (profile : AreOfProfile l.project)
       (sized : AreSized (good_link l)) where
     module _ (x : LinkedPiece) (t : Site) (f : List ℕ) (stays : Contains (stayed old (good_link l)) x)
-        (some : 0 < x.range.length) (within : Contains (sites_in l.project x) t) (moved : has_moved old l t ≡ true)
+        (some : 0 < x.range.length) (within : Contains (sites_in l.project x) t) (moved : has_new_value old l t ≡ true)
         (is : site_field l.project l.layout t ≡ Ok f) where
       abbrev home_is : Home old l t
       home_is = record {
@@ -245,7 +247,7 @@ module _ (old : GoodLink) (l : KnownLink) (range : SectionKey → Option FileRan
           omega (arith, end, wide x t f within is, long, whole, size) in
           subst (λ qs. Contains qs (file_patch x t f)) (sym k.patches)
           (filter_map_in (file_patch_at l r) c.sites t (file_patch x t f)
-          (subst (λ ts. Contains ts t) (sym k.sites) (filter_in (has_moved old l) (own_sites l s) t d moved))
+          (subst (λ ts. Contains ts t) (sym k.sites) (filter_in (has_new_value old l) (own_sites l s) t d moved))
           (gives l x t f r is at.1 fits))
 
     pub all_patches : (a b : Results) → a.patches ≡ [] → AreChanged old l range (sections_in l.project.objects) a b
@@ -272,7 +274,7 @@ module _ (old : GoodLink) (l : KnownLink) (range : SectionKey → Option FileRan
   module _ (by_part : (x : LinkedPiece) → Contains (link_pieces (good_link l)) x
       → has_part_stayed old (good_link l) x.object x.part ≡ has_stayed old x) where
     abbrev both : Site → Bool
-    both t = lies old l t && has_moved old l t
+    both t = lies old l t && has_new_value old l t
 
     -- where each section with sites has its bytes in the file
     module _ (profile : AreOfProfile l.project) (filed : AreInFile (good_link l))
@@ -289,21 +291,21 @@ module _ (old : GoodLink) (l : KnownLink) (range : SectionKey → Option FileRan
           let at : Home old l t = home old l by_piece t (inside t d) in
           let out : lies old l t ≡ false = lies_as old l range complete by_piece by_part t at
           ∙ complete (section_key h.key s) at.piece e (keyed old l s h.key h.named t d at) in
-          ap (λ b. b && has_moved old l t) out) in
+          ap (λ b. b && has_new_value old l t) out) in
           subst (λ ts. AllZip HasWidth ts c.patches) (sym (none ∙ filter_nothing (own_sites l s)))
           (subst (AllZip HasWidth []) (sym k.patches) tt)
       one_at s c (Some r) h e k among inside =
           let same : c.sites ≡ filter both (own_sites l s) =
           k.sites
-          ∙ filter_where (has_moved old l) both (own_sites l s) (λ t d.
+          ∙ filter_where (has_new_value old l) both (own_sites l s) (λ t d.
           let at : Home old l t = home old l by_piece t (inside t d) in
           let here : lies old l t ≡ true = lies_as old l range complete by_piece by_part t at
           ∙ (k.stayed t d at.piece (keyed old l s h.key h.named t d at)).0 in
-          sym (ap (λ b. b && has_moved old l t) here)) in
+          sym (ap (λ b. b && has_new_value old l t) here)) in
           subst (λ ts. AllZip HasWidth ts c.patches) same
           (subst (AllZip HasWidth c.sites) (sym k.patches)
           (all_given HasWidth (file_patch_at l r) c.sites (λ t d.
-          let kept = in_filter (has_moved old l) (own_sites l s) t (subst (λ ts. Contains ts t) k.sites d) in
+          let kept = in_filter (has_new_value old l) (own_sites l s) t (subst (λ ts. Contains ts t) k.sites d) in
           let at : Home old l t = home old l by_piece t (inside t kept.0) in
           let stays = k.stayed t kept.0 at.piece (keyed old l s h.key h.named t kept.0 at) in
           let field = found at.piece at.among t at.within in

@@ -3,7 +3,7 @@ use Rattle.std.proofs.Common.{◌≡◌, List, [], ◌∷◌, ◌++◌, map, fla
 use Rattle.std.specs.List.{AllZip}
 use Rattle.ldmodel.specs.Stayed.{GoodLink}
 use Rattle.ldmodel.specs.declared.sections.SectionKey.{SectionKey}
-use Rattle.emit_relocate.specs.Changes.{AreChanged, AreFilled, Evaluated, IsEvaluatedAt, IsEvaluatedOf, IsRenewed}
+use Rattle.emit_relocate.specs.Changes.{AreChanged, AreFilled, Evaluated, IsEvaluatedAt, IsEvaluatedOf, HasAllFields}
 use Rattle.emit_relocate.specs.Changes.{Results}
 use Rattle.emit_relocate.specs.Changes.{own_sites, section_key}
 use Rattle.emit_relocate.specs.Fields.{IsCounted}
@@ -15,7 +15,7 @@ use Rattle.emit_relocate.proofs.Settling.{all_sites}
 
 module _ (old : GoodLink) (l : KnownLink) (range : SectionKey → Option FileRange)
     (nothing : (key : SectionKey) → range key ≡ None) where
-  renewed : (s : ObjectSection) (c : Evaluated) → IsEvaluatedOf old l range s c → IsRenewed l s c
+  renewed : (s : ObjectSection) (c : Evaluated) → IsEvaluatedOf old l range s c → HasAllFields l s c
   renewed s c h =
       subst (λ r. IsEvaluatedAt old l (section_key h.key s) r s c) (nothing (section_key h.key s)) h.outcome
 

@@ -13,26 +13,11 @@ use Rattle.elfobj.specs.RelocationKinds.{width}
 use Rattle.elfobj.specs.Relocations as of
 use Rattle.elfobj.specs.Relocations.{field_end}
 use Rattle.elfobj.specs.declared.relocation.Relocation.{Relocation}
-use Rattle.elfobj.specs.declared.relocation.RelocationKind.{RelocationKind}
-use Rattle.elfobj.specs.declared.relocation.RelocationKind.TheVariants as kind
 use Rattle.emit_fields.specs.Patches.{IsWithin, patches_meet}
 use Rattle.emit_fields.specs.declared.patch.Patch.{Patch}
-use Rattle.ldmodel.specs.Relocations.{is_evaluated}
+use Rattle.ldmodel_laws.proofs.Apart.{some_width}
 use Rattle.emit_relocate.specs.Fields.{AreAdded, AreFieldsOf, IsAmong, IsNext}
 use Rattle.emit_relocate.specs.Sites.{IsFieldOf}
-
-some_width : (k : RelocationKind) → is_evaluated k ≡ true → 0 < width k
-some_width kind.None e = cc
-some_width kind.Abs64 e = omega arith
-some_width kind.Pc32 e = omega arith
-some_width kind.Plt32 e = omega arith
-some_width kind.Abs32 e = omega arith
-some_width kind.Abs32Signed e = omega arith
-some_width kind.Abs16 e = omega arith
-some_width kind.Pc16 e = omega arith
-some_width kind.Abs8 e = omega arith
-some_width kind.Pc8 e = omega arith
-some_width kind.Pc64 e = omega arith
 
 -- what holds of the items of a list and of one more
 module _ {X : Type 0} (xs : List X) (x : X) where

@@ -10,19 +10,19 @@ use Rattle.ldmodel.specs.declared.sections.SectionKey.{SectionKey}
 use Rattle.emit_relocate.specs.Changes.{Adds, IsEvaluatedOf, Results, section_key}
 use Rattle.emit_relocate.specs.Filled.{ObjectSection}
 use Rattle.emit_relocate.specs.KnownLink.{KnownLink}
-use Rattle.emit_relocate.specs.Links.{IsSettled}
-use Rattle.emit_relocate.specs.PreviousLinkInfo.{IsAbsentAt, IsKnownAt}
+use Rattle.emit_relocate.specs.Links.{NeedsNoEvaluation}
+use Rattle.emit_relocate.specs.PreviousLinkInfo.{IsAbsentAt, IsFoundStayed}
 use Rattle.emit_relocate.specs.declared.previous_link_info.FileRange.{FileRange}
 use Rattle.emit_relocate.proofs.Changing.{known_as, retained, retained_as}
 use Rattle.emit_relocate.proofs.Filling.{none_in, renewed_none, start_is}
 use Rattle.emit_relocate.proofs.Moving.{moved_in_none}
 
 pub settled_added : (old : GoodLink) (l : KnownLink) (range : SectionKey → Option FileRange) (s : ObjectSection)
-    → IsSettled old l range s.object → (a : Results) → a.counts.fields < 2 ^ 64
+    → NeedsNoEvaluation old l range s.object → (a : Results) → a.counts.fields < 2 ^ 64
     → Adds l (IsEvaluatedOf old l range s) a a
-settled_added old l range s is a h = ⊎_elim stayed out (is.still s.section.number)
+settled_added old l range s is a h = ⊎_elim stayed out (is.wholly_stayed s.section.number)
   where
-    stayed : IsKnownAt old l range (section_key is.place s) → Adds l (IsEvaluatedOf old l range s) a a
+    stayed : IsFoundStayed old l range (section_key is.place s) → Adds l (IsEvaluatedOf old l range s) a a
     stayed known =
         retained_as old l range s is.place is.named known a a (λ r kept.
         retained old l range s (section_key is.place s) r a a kept.stayed refl refl

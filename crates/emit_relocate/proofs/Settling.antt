@@ -29,7 +29,7 @@ use Rattle.ldmodel.specs.declared.sections.SectionKey.{SectionKey}
 use Rattle.ldmodel_laws.specs.StayedSites.{has_part_stayed, lies_in_stayed}
 use Rattle.ldmodel_laws.specs.Untouched.{HasField, HasSameValue}
 use Rattle.emit_relocate.specs.Changes.{Evaluated, IsEvaluatedAt, IsEvaluatedOf, own_sites, section_key}
-use Rattle.emit_relocate.specs.PreviousLinkInfo.{IsComplete, IsPieceOf, good_link, has_moved, is_same_value}
+use Rattle.emit_relocate.specs.PreviousLinkInfo.{IsComplete, IsPieceOf, good_link, has_new_value, is_same_value}
 use Rattle.emit_relocate.specs.Fields.{fault_at}
 use Rattle.emit_relocate.specs.Filled.{ObjectSection, sections_in, sections_of}
 use Rattle.emit_relocate.specs.KnownLink.{KnownLink, named_object}
@@ -133,7 +133,7 @@ no_fault : (l : KnownLink) (t : Site) → HasField (good_link l) t → fault_at 
 no_fault l t h = ap result_err h.1
 
 module _ (old : GoodLink) (l : KnownLink) where
-  pub same_where : (t : Site) → (has_moved old l t ≡ false) ↔ HasSameValue old (good_link l) t
+  pub same_where : (t : Site) → (has_new_value old l t ≡ false) ↔ HasSameValue old (good_link l) t
   same_where t = (λ e. same_value _ _ (not_false _ e), λ e. unmoved old l t e)
 
   -- the input section of a site, of an object and a section
@@ -208,7 +208,7 @@ module _ (old : GoodLink) (l : KnownLink) where
     faults_at key s c None named h inside = ap (filter_map (fault_at l)) h.sites
     faults_at key s c (Some r) named h inside =
         ap (filter_map (fault_at l)) h.sites
-        ∙ filter_map_kept (has_moved old l) (fault_at l) (own_sites l s) (λ t d e.
+        ∙ filter_map_kept (has_new_value old l) (fault_at l) (own_sites l s) (λ t d e.
         let at : Home t = home by_piece t (inside t d) in
         no_fault l t (settled at.piece t at.among ((h.stayed t d at.piece (keyed s key named t d at)).0) at.within
         ((same_where t).0 e)))
@@ -241,7 +241,7 @@ module _ (old : GoodLink) (l : KnownLink) where
   lies t = lies_in_stayed old (good_link l) t
 
   abbrev pub is_due : Site → Bool
-  is_due t = not (lies t) || has_moved old l t
+  is_due t = not (lies t) || has_new_value old l t
 
   module _ (range : SectionKey → Option FileRange) (complete : IsComplete range old l)
       (by_piece : IsPermutation (sites l.project l.layout)
@@ -264,13 +264,13 @@ module _ (old : GoodLink) (l : KnownLink) where
         ∙ filter_whole is_due (own_sites l s) (λ t d.
         let at : Home t = home by_piece t (inside t d) in
         let out : lies t ≡ false = lies_as t at ∙ complete (section_key key s) at.piece is (keyed s key named t d at) in
-        ap (λ b. not b || has_moved old l t) out)
+        ap (λ b. not b || has_new_value old l t) out)
     due_at key s c (Some r) named is h inside =
         h.sites
-        ∙ filter_where (has_moved old l) is_due (own_sites l s) (λ t d.
+        ∙ filter_where (has_new_value old l) is_due (own_sites l s) (λ t d.
         let at : Home t = home by_piece t (inside t d) in
         let here : lies t ≡ true = lies_as t at ∙ (h.stayed t d at.piece (keyed s key named t d at)).0 in
-        sym (ap (λ b. not b || has_moved old l t) here))
+        sym (ap (λ b. not b || has_new_value old l t) here))
 
     due_of_some : (ss : List ObjectSection) (cs : List Evaluated) → AllZip (IsEvaluatedOf old l range) ss cs
         → ((s : ObjectSection) (t : Site) → Contains ss s → Contains (own_sites l s) t
@@ -297,5 +297,5 @@ module _ (old : GoodLink) (l : KnownLink) where
     pub how_many : (cs : List Evaluated) → AllZip (IsEvaluatedOf old l range) (sections_in l.project.objects) cs
         → length (flat_map sites_of cs)
         ≡ length (filter (λ t. not (lies t)) (sites l.project l.layout))
-        + length (filter (λ t. lies t && has_moved old l t) (sites l.project l.layout))
-    how_many cs h = ap length (due_of_all cs h) ∙ count_either lies (has_moved old l) (sites l.project l.layout)
+        + length (filter (λ t. lies t && has_new_value old l t) (sites l.project l.layout))
+    how_many cs h = ap length (due_of_all cs h) ∙ count_either lies (has_new_value old l) (sites l.project l.layout)

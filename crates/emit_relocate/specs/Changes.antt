@@ -13,7 +13,7 @@ use Rattle.ldmodel.specs.declared.fault.Fault as code
 use Rattle.ldmodel.specs.declared.names.ObjectPlace.{ObjectPlace}
 use Rattle.ldmodel.specs.declared.sections.Part.TheVariants.{InTable}
 use Rattle.ldmodel.specs.declared.sections.SectionKey.{SectionKey}
-use Rattle.emit_relocate.specs.PreviousLinkInfo.{HasStayedAt, has_moved}
+use Rattle.emit_relocate.specs.PreviousLinkInfo.{HasStayedAt, has_new_value}
 use Rattle.emit_relocate.specs.Fields.{IsCounted, field_at}
 use Rattle.emit_relocate.specs.Filled.{IsRunOf, ObjectSection, ends_of, sections_in}
 use Rattle.emit_relocate.specs.KnownLink.{KnownLink, named_object}
@@ -36,11 +36,11 @@ pub record IsFiled (link : KnownLink) (r : FileRange) (ts : List Site) (old_patc
 
 -- those of these sites whose symbol has another value were evaluated: their fields were added, in their places in the
 -- file, and their faults, and each counted
-pub record IsMoved (old : GoodLink) (link : KnownLink) (r : FileRange) (ts : List Site)
+pub record AreRetargetedFiled (old : GoodLink) (link : KnownLink) (r : FileRange) (ts : List Site)
     (old_patches new_patches : List Patch) (old_faults new_faults : List code.Fault) (before after : Counts)
     : Type 0 where
-  pub patches : new_patches ≡ old_patches ++ filter_map (file_patch_at link r) (filter (has_moved old link) ts)
-  pub counts : IsCounted link (filter (has_moved old link) ts) old_faults new_faults before after
+  pub patches : new_patches ≡ old_patches ++ filter_map (file_patch_at link r) (filter (has_new_value old link) ts)
+  pub counts : IsCounted link (filter (has_new_value old link) ts) old_faults new_faults before after
 
 -- what was evaluated of an input section: its fields; patches in the file; and the sites
 pub record Evaluated : Type 0 where
@@ -52,23 +52,24 @@ abbrev pub own_sites : KnownLink → ObjectSection → List Site
 own_sites link s = sites_of_section link.layout s.object s.section
 
 -- the section did not stay, as far as is known: all its fields
-pub record IsRenewed (link : KnownLink) (s : ObjectSection) (c : Evaluated) : Type 0 where
+pub record HasAllFields (link : KnownLink) (s : ObjectSection) (c : Evaluated) : Type 0 where
   pub run : IsRunOf link s c.run
   pub patches : c.patches ≡ []
   pub sites : c.sites ≡ own_sites link s
 
 -- it stayed, with its bytes in a range of the file, if it has sites: no fields, and patches of the sites whose symbol
 -- has another value
-pub record IsRetained (old : GoodLink) (link : KnownLink) (key : SectionKey) (r : FileRange) (s : ObjectSection)
+pub record HasRetargetedFields (old : GoodLink) (link : KnownLink) (key : SectionKey) (r : FileRange)
+    (s : ObjectSection)
     (c : Evaluated) : Type 0 where
   pub stayed : (site : Site) → Contains (own_sites link s) site → HasStayedAt old link key r
   pub run : c.run ≡ []
   pub patches : c.patches ≡ filter_map (file_patch_at link r) c.sites
-  pub sites : c.sites ≡ filter (has_moved old link) (own_sites link s)
+  pub sites : c.sites ≡ filter (has_new_value old link) (own_sites link s)
 
 abbrev pub IsEvaluatedAt : GoodLink → KnownLink → SectionKey → Option FileRange → ObjectSection → Evaluated → Type 0
-IsEvaluatedAt old link key None s c = IsRenewed link s c
-IsEvaluatedAt old link key (Some r) s c = IsRetained old link key r s c
+IsEvaluatedAt old link key None s c = HasAllFields link s c
+IsEvaluatedAt old link key (Some r) s c = HasRetargetedFields old link key r s c
 
 abbrev pub section_key : ObjectPlace → ObjectSection → SectionKey
 section_key key s = record { object = key; part = InTable s.section.number }

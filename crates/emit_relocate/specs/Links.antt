@@ -10,7 +10,7 @@ use Rattle.ldmodel.specs.SymbolValues.{placed_part}
 use Rattle.ldmodel.specs.declared.names.ObjectPlace.{ObjectPlace}
 use Rattle.ldmodel.specs.declared.sections.Part.TheVariants.{InTable}
 use Rattle.ldmodel.specs.declared.sections.SectionKey.{SectionKey}
-use Rattle.emit_relocate.specs.PreviousLinkInfo.{HasSameValues, HasStayedAt, IsKept, IsStill}
+use Rattle.emit_relocate.specs.PreviousLinkInfo.{HasSameValues, HasStayedAt, HasSomeStayed, HasWhollyStayed}
 use Rattle.emit_relocate.specs.Fields.{sites_among}
 use Rattle.emit_relocate.specs.Filled.{EndBelow, ObjectSection}
 use Rattle.emit_relocate.specs.KnownLink.{KnownLink, named_object}
@@ -69,7 +69,8 @@ abbrev pub sites_at_hand : PlacedInput → ObjectSection → List Relocation →
 sites_at_hand m s rs = sites_among s.object s.section m.start rs
 
 -- the input section of a key stayed, as is known, with its bytes in this range of the file
-pub record IsKeptAt (old : GoodLink) (link : KnownLink) (range : SectionKey → Option FileRange) (key : SectionKey)
+pub record IsFoundStayedAt (old : GoodLink) (link : KnownLink) (range : SectionKey → Option FileRange)
+    (key : SectionKey)
     (r : FileRange) : Type 0 where
   -- what is known
   pub known : Some r ≡ range key
@@ -78,12 +79,13 @@ pub record IsKeptAt (old : GoodLink) (link : KnownLink) (range : SectionKey → 
 
 -- nothing is to be evaluated of an object: its sections stayed, as is known and is so, or are not in the output, and no
 -- symbol of it has another value, if one stayed
-pub record IsSettled (old : GoodLink) (link : KnownLink) (range : SectionKey → Option FileRange) (object : NamedObject)
+pub record NeedsNoEvaluation (old : GoodLink) (link : KnownLink) (range : SectionKey → Option FileRange)
+    (object : NamedObject)
     : Type 0 where
   pub place : ObjectPlace
   pub named : named_object link place ≡ Some object
-  pub still : IsStill old link range place
-  pub values : IsKept range place → HasSameValues old link place
+  pub wholly_stayed : HasWhollyStayed old link range place
+  pub values : HasSomeStayed range place → HasSameValues old link place
 
 -- an input section is that at hand, with the values that the symbols of its object had in the previous link
 pub record IsStayedAt (m : StayedSection) (old : GoodLink) (link : KnownLink) (s : ObjectSection) : Type 0 where

@@ -5,7 +5,7 @@ use Rattle.elfobj.specs.Symbols.{NamedSymbol}
 use Rattle.elfobj.specs.declared.section.SectionIndex.{SectionIndex}
 use Rattle.ldmodel.specs.Live.{symbol_at}
 use Rattle.ldmodel.specs.Project.{Project}
-use Rattle.place.specs.IndexedLayout.{place_in, table_key}
+use Rattle.place.specs.IndexedLayout.{address_in, table_key}
 use Rattle.place.specs.declared.indexed_layout.IndexedLayout.{IndexedLayout}
 use Rattle.emit_relocate.specs.declared.object_parts.ObjectParts.{ObjectParts}
 
@@ -18,4 +18,5 @@ AreSymbols project x =
 -- the addresses are those of its sections
 abbrev pub AreAddresses : IndexedLayout → ObjectParts → Type 0
 AreAddresses layout x =
-    (number : SectionIndex) → slice_index_or x.addresses.now number.0 None ≡ place_in layout (table_key x.place number)
+    (number : SectionIndex) → slice_index_or x.addresses.now number.0 None
+    ≡ address_in layout (table_key x.place number)

@@ -31,7 +31,7 @@ HasStayedAt old link key r =
     (piece : LinkedPiece) → IsPieceOf link key piece → (has_stayed old piece ≡ true) × (piece.range ≡ range_of r)
 
 -- the input section of a key stayed, as is known and is so
-pub record IsKnownAt (old : GoodLink) (link : KnownLink) (range : SectionKey → Option FileRange) (key : SectionKey)
+pub record IsFoundStayed (old : GoodLink) (link : KnownLink) (range : SectionKey → Option FileRange) (key : SectionKey)
     : Type 0 where
   -- what is known
   pub known : IsSome (range key)
@@ -44,14 +44,14 @@ pub record IsAbsentAt (link : KnownLink) (range : SectionKey → Option FileRang
   pub absent : start_of link key ≡ None
 
 -- each section of an object stayed, as is known and is so, or is not in the output
-abbrev pub IsStill : GoodLink → KnownLink → (SectionKey → Option FileRange) → ObjectPlace → Type 0
-IsStill old link range place =
-    (number : SectionIndex) → IsKnownAt old link range (record { object = place; part = InTable number })
+abbrev pub HasWhollyStayed : GoodLink → KnownLink → (SectionKey → Option FileRange) → ObjectPlace → Type 0
+HasWhollyStayed old link range place =
+    (number : SectionIndex) → IsFoundStayed old link range (record { object = place; part = InTable number })
     ⊎ IsAbsentAt link range (record { object = place; part = InTable number })
 
 -- some section of an object is known to have stayed
-abbrev pub IsKept : (SectionKey → Option FileRange) → ObjectPlace → Type 0
-IsKept range key = (part : Part) × IsSome (range (record { object = key; part = part }))
+abbrev pub HasSomeStayed : (SectionKey → Option FileRange) → ObjectPlace → Type 0
+HasSomeStayed range key = (part : Part) × IsSome (range (record { object = key; part = part }))
 
 -- no symbol that a relocation of the object could name has another value
 abbrev pub HasSameValues : GoodLink → KnownLink → ObjectPlace → Type 0
@@ -78,6 +78,6 @@ is_same_value NotInOutput NotDefined = false
 is_same_value NotInOutput NotInOutput = true
 
 -- the site's symbol has another value
-abbrev pub has_moved : GoodLink → KnownLink → Site → Bool
-has_moved old link site =
+abbrev pub has_new_value : GoodLink → KnownLink → Site → Bool
+has_new_value old link site =
     not (is_same_value (site_value old.project old.layout site) (site_value link.project link.layout site))

@@ -4,12 +4,13 @@
 ghost use Rattle.std.specs.Prelude.{◌≡◌, IfOk, OnOk, Some, [], ◌∷◌, true};
 ghost use Rattle.ldmodel.specs.Project.{NamedObject};
 ghost use Rattle.ldmodel.specs.Stayed.{GoodLink};
-ghost use Rattle.emit_relocate.specs.Changes.{Adds, AreChanged, IsEvaluatedOf, IsRenewed, IsRetained, no_results};
+ghost use Rattle.emit_relocate.specs.Changes.{Adds, AreChanged, IsEvaluatedOf, HasAllFields, HasRetargetedFields};
+ghost use Rattle.emit_relocate.specs.Changes.{no_results};
 ghost use Rattle.emit_relocate.specs.Changes.{results_of, section_key};
 ghost use Rattle.emit_relocate.specs.Filled.{EndBelow, IsOrder, ObjectSection, sections_in, sections_of};
 ghost use Rattle.emit_relocate.specs.KnownLink.{KnownLink, named_object};
-ghost use Rattle.emit_relocate.specs.Links.{AreLinks, IsAtHand, IsKeptAt, IsSettled};
-ghost use Rattle.emit_relocate.specs.PreviousLinkInfo.{HasSameValues, IsKnownAt};
+ghost use Rattle.emit_relocate.specs.Links.{AreLinks, IsAtHand, IsFoundStayedAt, NeedsNoEvaluation};
+ghost use Rattle.emit_relocate.specs.PreviousLinkInfo.{HasSameValues, IsFoundStayed};
 ghost use Rattle.emit_relocate.specs.SymbolValues.{HasSymbolValues};
 
 use crate::fields::add_fields;
@@ -54,7 +55,7 @@ struct Links<'a, L, E> {
 
 impl<'a, L: LinkInfo, E: PreviousLinkInfo> Links<'a, L, E> {
     /// Adds the fields of a section that did not stay; there are none if it is not in the output.
-    fn add_renewed(
+    fn add_all_fields(
         &self,
         alloc: Global,
         section: &InputSection<'_>,
@@ -63,7 +64,7 @@ impl<'a, L: LinkInfo, E: PreviousLinkInfo> Links<'a, L, E> {
     ) -> Result<(), NoMemory>
         ensures { OnOk result ((old : GoodLink) (link : KnownLink) (s : ObjectSection)
             → AreLinks L.knows E.knows self.now old link → IsAtHand link section.now s
-            → Adds link (IsRenewed link s) (results_of fields.old meter.old) (results_of fields.new meter.new)) }
+            → Adds link (HasAllFields link s) (results_of fields.old meter.old) (results_of fields.new meter.new)) }
     {
         // for the prover: brings in that the count of fields fits a u64
         let _fields = meter.fields();
@@ -83,7 +84,7 @@ impl<'a, L: LinkInfo, E: PreviousLinkInfo> Links<'a, L, E> {
     }
 
     /// Adds, of the fields of a section that stayed, those whose symbol has another value.
-    fn add_moved(
+    fn add_retargeted(
         &self,
         section: &InputSection<'_>,
         range: FileRange,
@@ -92,8 +93,8 @@ impl<'a, L: LinkInfo, E: PreviousLinkInfo> Links<'a, L, E> {
     ) -> Result<(), NoMemory>
         ensures { OnOk result ((old : GoodLink) (link : KnownLink) (s : ObjectSection)
             → AreLinks L.knows E.knows self.now old link → IsAtHand link section.now s
-            → IsKeptAt old link (E.range self.now.previous.now) (section_key section.now.place s) range
-            → Adds link (IsRetained old link (section_key section.now.place s) range s)
+            → IsFoundStayedAt old link (E.range self.now.previous.now) (section_key section.now.place s) range
+            → Adds link (HasRetargetedFields old link (section_key section.now.place s) range s)
             (results_of fields.old meter.old) (results_of fields.new meter.new)) }
     {
         // for the prover: brings in that the count of fields fits a u64
@@ -107,17 +108,17 @@ impl<'a, L: LinkInfo, E: PreviousLinkInfo> Links<'a, L, E> {
                     section,
                     range,
                 };
-                section.add_moved(&mut fields.retargeted, &mut fields.faults, meter)?;
+                section.add_retargeted(&mut fields.retargeted, &mut fields.faults, meter)?;
                 Ok(())
             }
         }
     }
 
     /// Whether a section is known to have stayed, and no symbol of its object has another value.
-    fn is_unchanged(&self, section: &InputSection<'_>) -> bool
+    fn has_same_fields(&self, section: &InputSection<'_>) -> bool
         ensures { result ≡ true → (old : GoodLink) (link : KnownLink) (s : ObjectSection)
             → AreLinks L.knows E.knows self.now old link → IsAtHand link section.now s
-            → IsKnownAt old link (E.range self.now.previous.now) (section_key section.now.place s)
+            → IsFoundStayed old link (E.range self.now.previous.now) (section_key section.now.place s)
             × HasSameValues old link section.now.place }
     {
         if self.previous.is_dirty(section.place) {
@@ -128,73 +129,73 @@ impl<'a, L: LinkInfo, E: PreviousLinkInfo> Links<'a, L, E> {
 
     /// Whether there is nothing to evaluate of an object: each section of it that is in the output stayed, and none of
     /// its symbols has another value.
-    fn is_settled(&self, place: ObjectPlace) -> bool
+    fn needs_no_evaluation(&self, place: ObjectPlace) -> bool
         ensures { result ≡ true → (old : GoodLink) (link : KnownLink) (object : NamedObject)
             → AreLinks L.knows E.knows self.now old link → named_object link place ≡ Some object
-            → IsSettled old link (E.range self.now.previous.now) object }
+            → NeedsNoEvaluation old link (E.range self.now.previous.now) object }
     {
         if self.previous.is_dirty(place) {
             return false;
         }
-        self.previous.is_still(place)
+        self.previous.has_wholly_stayed(place)
     }
 
-    /// Adds what there is to evaluate of a section: nothing if its object is settled, if it has no relocations, or if
+    /// Adds what there is to evaluate of a section: nothing if its object needs none, if it has no relocations, or if
     /// it stayed and no symbol of its object has another value; if it stayed, the fields whose symbol has another
     /// value; else all.
     fn add_evaluated(
         &self,
         alloc: Global,
         section: &InputSection<'_>,
-        settled: bool,
+        needs_none: bool,
         fields: &mut ChangedFields,
         meter: &mut Meter,
     ) -> Result<(), NoMemory>
         ensures { OnOk result ((old : GoodLink) (link : KnownLink) (s : ObjectSection)
             → AreLinks L.knows E.knows self.now old link → IsAtHand link section.now s
-            → (settled ≡ true → IsSettled old link (E.range self.now.previous.now) s.object)
+            → (needs_none ≡ true → NeedsNoEvaluation old link (E.range self.now.previous.now) s.object)
             → Adds link (IsEvaluatedOf old link (E.range self.now.previous.now) s) (results_of fields.old meter.old)
             (results_of fields.new meter.new)) }
     {
         // for the prover: brings in that the count of fields fits a u64
         let _fields = meter.fields();
-        if settled {
+        if needs_none {
             return Ok(());
         }
         if !section.object.has_relocations(section.index) {
             return Ok(());
         }
-        if self.is_unchanged(section) {
+        if self.has_same_fields(section) {
             return Ok(());
         }
         match self.previous.stayed(section.section_key()) {
             None => {
-                self.add_renewed(alloc, section, fields, meter)?;
+                self.add_all_fields(alloc, section, fields, meter)?;
                 Ok(())
             }
             Some(range) => {
-                self.add_moved(section, range, fields, meter)?;
+                self.add_retargeted(section, range, fields, meter)?;
                 Ok(())
             }
         }
     }
 
-    /// Adds what there is to evaluate of a section, and the end of its fields. `settled` says that there is nothing.
+    /// Adds what there is to evaluate of a section, and the end of its fields. `needs_none` says that there is nothing.
     fn add_section(
         &self,
         alloc: Global,
         section: &InputSection<'_>,
-        settled: bool,
+        needs_none: bool,
         fields: &mut ChangedFields,
         meter: &mut Meter,
     ) -> Result<(), NoMemory>
         ensures { OnOk result ((old : GoodLink) (link : KnownLink) (s : ObjectSection)
             → AreLinks L.knows E.knows self.now old link → IsAtHand link section.now s
-            → (settled ≡ true → IsSettled old link (E.range self.now.previous.now) s.object)
+            → (needs_none ≡ true → NeedsNoEvaluation old link (E.range self.now.previous.now) s.object)
             → AreChanged old link (E.range self.now.previous.now) (s ∷ []) (results_of fields.old meter.old)
             (results_of fields.new meter.new)) }
     {
-        self.add_evaluated(alloc, section, settled, fields, meter)?;
+        self.add_evaluated(alloc, section, needs_none, fields, meter)?;
         let end = fields.patches.len();
         fields.ends.push(end)?;
         Ok(())
@@ -216,11 +217,11 @@ impl<'a, L: LinkInfo, E: PreviousLinkInfo> Links<'a, L, E> {
     {
         // for the prover: brings in that the count of fields fits a u64
         let _fields = meter.fields();
-        let settled = self.is_settled(place);
-        let values = self.symbols.row(place, object.symbols().len());
+        let needs_none = self.needs_no_evaluation(place);
+        let values = self.symbols.slice(place, object.symbols().len());
         for index in 0..object.sections().len() {
             let section = InputSection::new(place, object, LinkedIndex(index), values);
-            self.add_section(alloc, &section, settled, fields, meter)?;
+            self.add_section(alloc, &section, needs_none, fields, meter)?;
         }
         Ok(())
     }
@@ -270,7 +271,7 @@ fn expected_fields<L: LinkInfo, E: PreviousLinkInfo>(
         if previous.is_dirty(*place) {
             if let Some(object) = link.object(*place) {
                 let count = object.count_relocations();
-                if previous.is_still(*place) {
+                if previous.has_wholly_stayed(*place) {
                     retargeted = retargeted.saturating_add(count);
                 } else {
                     renewed = renewed.saturating_add(count);

@@ -4,7 +4,7 @@ ghost use Rattle.std.specs.Prelude.{◌≡◌, Option, IfSome, Some, false, is_s
 ghost use Rattle.ldmodel.specs.Project.{NamedObject};
 ghost use Rattle.ldmodel.specs.Stayed.{GoodLink};
 ghost use Rattle.ldmodel.specs.declared.sections.SectionKey.{SectionKey};
-ghost use Rattle.emit_relocate.specs.PreviousLinkInfo.{HasSameValues, HasStayedAt, IsKept, IsStill};
+ghost use Rattle.emit_relocate.specs.PreviousLinkInfo.{HasSameValues, HasStayedAt, HasSomeStayed, HasWhollyStayed};
 ghost use Rattle.emit_relocate.specs.KnownLink.{KnownLink, named_object};
 ghost use Rattle.emit_relocate.specs.SymbolValues.{AreValuesOf};
 ghost use Rattle.emit_relocate.specs.declared.previous_link_info.FileRange.{FileRange};
@@ -45,20 +45,20 @@ pub trait PreviousLinkInfo {
             → IfSome (range self.now section) (HasStayedAt old link section) };
 
     /// Whether each section of an object that is in the output stayed, as far as is known.
-    fn is_still(&self, object: ObjectPlace) -> bool
+    fn has_wholly_stayed(&self, object: ObjectPlace) -> bool
         ensures { (old : GoodLink) (link : KnownLink) → knows self.now old link → result ≡ true
-            → IsStill old link (range self.now) object };
+            → HasWhollyStayed old link (range self.now) object };
 
     /// Whether a symbol of this object, of which a section stayed, may have another value than in the previous link. If
     /// the answer is no, none has.
     fn is_dirty(&self, object: ObjectPlace) -> bool
-        ensures { (old : GoodLink) (link : KnownLink) → knows self.now old link → IsKept (range self.now) object
+        ensures { (old : GoodLink) (link : KnownLink) → knows self.now old link → HasSomeStayed (range self.now) object
             → result ≡ false → HasSameValues old link object };
 
     /// The values that the symbols of this object, of which a section stayed, had in the previous link to relocations
     /// of the object, by their numbers. The object has `count` symbols.
     fn values(&self, object: ObjectPlace, count: usize) -> &[SymbolValue]
         ensures { (old : GoodLink) (link : KnownLink) (named : NamedObject) → knows self.now old link
-            → IsKept (range self.now) object → named_object link object ≡ Some named
+            → HasSomeStayed (range self.now) object → named_object link object ≡ Some named
             → length named.object.symbols ≡ count → AreValuesOf old.project old.layout named result.now };
 }

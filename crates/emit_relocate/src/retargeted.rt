@@ -7,8 +7,8 @@ ghost use Rattle.elfobj.specs.declared.relocation.Relocation.{Relocation as Relo
 ghost use Rattle.emit_fields.specs.Patches.{patch_end};
 ghost use Rattle.ldmodel.specs.Relocations.{is_evaluated};
 ghost use Rattle.ldmodel.specs.Stayed.{GoodLink};
-ghost use Rattle.emit_relocate.specs.Changes.{IsFiled, IsMoved, in_file};
-ghost use Rattle.emit_relocate.specs.PreviousLinkInfo.{has_moved, is_same_value};
+ghost use Rattle.emit_relocate.specs.Changes.{IsFiled, AreRetargetedFiled, in_file};
+ghost use Rattle.emit_relocate.specs.PreviousLinkInfo.{has_new_value, is_same_value};
 ghost use Rattle.emit_relocate.specs.Filled.{ObjectSection};
 ghost use Rattle.emit_relocate.specs.KnownLink.{KnownLink};
 ghost use Rattle.emit_relocate.specs.Links.{IsStayedAt, site_at_hand, sites_at_hand};
@@ -91,10 +91,10 @@ impl<'a> StayedSection<'a> {
     }
 
     /// Whether the symbol that a relocation of the section names has another value than it had.
-    fn has_moved(&self, symbol: SymbolIndex) -> bool
+    fn has_new_value(&self, symbol: SymbolIndex) -> bool
         ensures { (old : GoodLink) (link : KnownLink) (s : ObjectSection) (r : RelocationOf)
             → IsStayedAt self.now old link s → r.symbol ≡ symbol
-            → result ≡ has_moved old link (site_at_hand self.now.section s r) }
+            → result ≡ has_new_value old link (site_at_hand self.now.section s r) }
     {
         !is_same_value(self.value_before(symbol), site_value(&self.section, symbol))
     }
@@ -133,7 +133,7 @@ impl<'a> StayedSection<'a> {
     /// Evaluates the relocation of number `entry`, if its symbol has another value: adds its field in its place in the
     /// file, or its fault.
     #[inline(always)]
-    fn add_moved_site(
+    fn add_retargeted_site(
         &self,
         entry: usize,
         relocation: &Relocation,
@@ -145,7 +145,7 @@ impl<'a> StayedSection<'a> {
         requires below { self.now.section.start + relocation.now.offset < 2 ^ 64 }
         ensures { OnOk result ((old : GoodLink) (link : KnownLink) (s : ObjectSection)
             → IsStayedAt self.now old link s
-            → IsMoved old link self.now.range
+            → AreRetargetedFiled old link self.now.range
             (sites_at_hand self.now.section s (relocation.now ∷ [])) patches.old.items
             patches.new.items faults.old.items faults.new.items meter.old meter.new) }
     {
@@ -154,7 +154,7 @@ impl<'a> StayedSection<'a> {
         if !is_evaluated(relocation.kind) {
             return Ok(());
         }
-        if !self.has_moved(relocation.symbol) {
+        if !self.has_new_value(relocation.symbol) {
             return Ok(());
         }
         self.add_site_in_file(entry, relocation, patches, faults, meter)?;
@@ -168,7 +168,7 @@ impl<'a> StayedSection<'a> {
     ///
     /// If memory runs out; a table of 2^32 relocations or more, which no object has whose length is within the limit,
     /// counts as that.
-    pub fn add_moved(
+    pub fn add_retargeted(
         &self,
         patches: &mut Vec<Patch>,
         faults: &mut Vec<Fault>,
@@ -178,7 +178,7 @@ impl<'a> StayedSection<'a> {
             self.now.section.relocations.now }
         ensures { OnOk result ((old : GoodLink) (link : KnownLink) (section : ObjectSection)
             → IsStayedAt self.now old link section
-            → IsMoved old link self.now.range
+            → AreRetargetedFiled old link self.now.range
             (sites_at_hand self.now.section section self.now.section.relocations.now) patches.old.items
             patches.new.items faults.old.items faults.new.items meter.old meter.new) }
     {
@@ -186,7 +186,7 @@ impl<'a> StayedSection<'a> {
         let _fields = meter.fields();
         for entry in 0..self.section.relocations.len() {
             let relocation = &self.section.relocations[entry];
-            self.add_moved_site(entry, relocation, patches, faults, meter)?;
+            self.add_retargeted_site(entry, relocation, patches, faults, meter)?;
         }
         Ok(())
     }

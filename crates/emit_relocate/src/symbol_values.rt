@@ -48,7 +48,7 @@ impl SymbolValues {
     }
 
     /// The values of the symbols of the object at a place, by their numbers. The object has `count` symbols.
-    pub fn row(&self, object: ObjectPlace, count: usize) -> &[SymbolValue]
+    pub fn slice(&self, object: ObjectPlace, count: usize) -> &[SymbolValue]
         ensures is { result.now ≡ row_at self.now object.0 count }
         ensures values { (project : Project) (layout : Layout) (named : NamedObject)
             → AreSymbolValues project layout self.now → slice_get project.objects object.0 ≡ Some named

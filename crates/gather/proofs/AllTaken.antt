@@ -31,7 +31,7 @@ use Rattle.gather.specs.Taking.{IsTaken, Takes, TakesFacts, kept_of}
 use Rattle.gather.specs.declared.blocks.CommonBlock.{CommonBlock}
 use Rattle.gather.specs.declared.gathered_section.GatheredSection.{GatheredSection}
 use Rattle.gather.specs.declared.matches.Matches.{Matches}
-use Rattle.gather.specs.declared.runs.Run.{Run}
+use Rattle.gather.specs.declared.runs.TakenRun.{TakenRun}
 use Rattle.gather.specs.declared.taking.Taken.{Taken}
 use Rattle.std.specs.Option.{option_map}
 use Rattle.gather.proofs.GatheredLists.{out_are}
@@ -229,7 +229,7 @@ module _ (st : List InputStatementAt) (or : Orphans) where
         }
 
   -- one run more
-  pub part_taken : (key : ObjectPlace) (ss own later : List Section) (rs : List Run) (k : ℕ) (d : Run)
+  pub part_taken : (key : ObjectPlace) (ss own later : List Section) (rs : List TakenRun) (k : ℕ) (d : TakenRun)
       (old now new : Taken) (all : List GatheredSection) → k < length rs
       → own ≡ take (get_or rs k d).count ss → later ≡ drop (get_or rs k d).count ss
       → Takes st or now new (map (gathered key (get_or rs k d).statement) own)
@@ -244,7 +244,7 @@ module _ (st : List InputStatementAt) (or : Orphans) where
             (gathered_by key later (drop (k + 1) rs)) all refl (run_cut key ss own later rs k d low front back) h.rest;
       }
 
-  pub whole_taken : (key : ObjectPlace) (ss : List Section) (rs : List Run) (k : ℕ) (old now : Taken)
+  pub whole_taken : (key : ObjectPlace) (ss : List Section) (rs : List TakenRun) (k : ℕ) (old now : Taken)
       (all : List GatheredSection) → length rs ≤ k → TakesPart old now (gathered_by key ss (drop k rs)) all
       → Takes st or old now all
   whole_taken key ss rs k old now all past h =

@@ -22,7 +22,7 @@ use Rattle.gather.specs.Matches.{matches_of, number_of}
 use Rattle.gather.specs.RowPieces.{AreBuckets, of_statement}
 use Rattle.gather.specs.Runs.{gathered, gathered_by, linked_piece, numbers_in, numbers_of}
 use Rattle.gather.specs.declared.gathered_section.GatheredSection.{GatheredSection}
-use Rattle.gather.specs.declared.runs.Run.{Run}
+use Rattle.gather.specs.declared.runs.TakenRun.{TakenRun}
 
 -- ---- runs of statements
 
@@ -70,10 +70,10 @@ module _ (p : Project) (key : ObjectPlace) (o : NamedObject) where
   none_wanted [] h = refl
   none_wanted (s ∷ ss) h = absurd (cc)
 
-  abbrev ShownAs : List Run → List LinkedSection → Type 0
+  abbrev ShownAs : List TakenRun → List LinkedSection → Type 0
   ShownAs rs ss = map shown_facts (gathered_by key (map section_of ss) rs) ≡ wanted ss
 
-  run_then : (n : Option InputIndex) (rs : List Run)
+  run_then : (n : Option InputIndex) (rs : List TakenRun)
       → ((ss : List LinkedSection) → numbers_of rs ≡ matches_of p.script o.name ss → ShownAs rs ss)
       → (c : ℕ) (ss : List LinkedSection)
       → replicate c (number_of n) ++ numbers_of rs ≡ matches_of p.script o.name ss
@@ -91,19 +91,20 @@ module _ (p : Project) (key : ObjectPlace) (o : NamedObject) where
       ∙ ap (λ l. facts p (linked_input key.0 o s) ∷ l) (run_then n rs rest c ss tail)
 
   -- the runs are those of the statements that take the sections
-  pub gathered_are : (rs : List Run) (ss : List LinkedSection) → numbers_of rs ≡ matches_of p.script o.name ss
+  pub gathered_are : (rs : List TakenRun) (ss : List LinkedSection) → numbers_of rs ≡ matches_of p.script o.name ss
       → ShownAs rs ss
   gathered_are [] ss h = none_wanted ss h
   gathered_are (r ∷ rs) ss h =
       run_then r.statement rs (gathered_are rs) r.count ss (sym (flat_map-cons numbers_in r rs) ∙ h)
 
 -- the sections of one run, and then the rest
-pub run_cut : (key : ObjectPlace) (ss own later : List Section) (rs : List Run) (k : ℕ) (d : Run) → k < length rs
+pub run_cut : (key : ObjectPlace) (ss own later : List Section) (rs : List TakenRun) (k : ℕ) (d : TakenRun) → k
+    < length rs
     → own ≡ take (get_or rs k d).count ss → later ≡ drop (get_or rs k d).count ss
     → gathered_by key ss (drop k rs)
     ≡ map (gathered key (get_or rs k d).statement) own ++ gathered_by key later (drop (k + 1) rs)
 run_cut key ss own later rs k d low front back =
-    let r : Run = get_or rs k d in
+    let r : TakenRun = get_or rs k d in
     ap (gathered_by key ss) (drop_more rs k d low)
     ∙ (ap (λ l. map (gathered key r.statement) l ++ gathered_by key (drop r.count ss) (drop (k + 1) rs)) (sym front)
     ∙ ap (λ l. map (gathered key r.statement) own ++ gathered_by key l (drop (k + 1) rs)) (sym back))
@@ -115,7 +116,7 @@ run_added now new run left left' all pushed cut h =
     ap (λ l. l ++ left') pushed ∙ (append_assoc now run left' ∙ (ap (λ l. now ++ l) (sym cut) ∙ h))
 
 -- no run is left
-pub none_left : (key : ObjectPlace) (ss : List Section) (rs : List Run) (k : ℕ) (now all : List GatheredSection)
+pub none_left : (key : ObjectPlace) (ss : List Section) (rs : List TakenRun) (k : ℕ) (now all : List GatheredSection)
     → length rs ≤ k → now ++ gathered_by key ss (drop k rs) ≡ all → now ≡ all
 none_left key ss rs k now all past h =
     sym (append-nil now) ∙ (ap (λ l. now ++ gathered_by key ss l) (sym (drop_all k rs past)) ∙ h)

@@ -8,13 +8,13 @@ use Rattle.ldmodel.specs.declared.sections.Part.TheVariants.{InTable}
 use Rattle.gather.specs.GatheredSections.{as_piece}
 use Rattle.gather.specs.Matches.{number_of}
 use Rattle.gather.specs.declared.gathered_section.GatheredSection.{GatheredSection}
-use Rattle.gather.specs.declared.runs.Run.{Run}
+use Rattle.gather.specs.declared.runs.TakenRun.{TakenRun}
 
 -- of each section of a run the number of the statement that takes it
-abbrev pub numbers_in : Run → List (Option ℕ)
+abbrev pub numbers_in : TakenRun → List (Option ℕ)
 numbers_in run = replicate run.count (number_of run.statement)
 
-abbrev pub numbers_of : List Run → List (Option ℕ)
+abbrev pub numbers_of : List TakenRun → List (Option ℕ)
 numbers_of runs = flat_map numbers_in runs
 
 -- linked section s of an object, where this statement takes it
@@ -33,7 +33,7 @@ abbrev pub linked_piece : ObjectPlace → InputIndex → Section → Piece
 linked_piece key statement s = as_piece (gathered key (Some statement) s) statement
 
 -- those of an object, one run after the other
-abbrev pub gathered_by : ObjectPlace → List Section → List Run → List GatheredSection
+abbrev pub gathered_by : ObjectPlace → List Section → List TakenRun → List GatheredSection
 gathered_by key sections [] = []
 gathered_by key sections (run ∷ runs) =
     map (gathered key run.statement) (take run.count sections) ++ gathered_by key (drop run.count sections) runs

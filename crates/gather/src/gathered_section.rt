@@ -15,7 +15,7 @@ ghost use Rattle.ldmodel_project.specs.Inputs.{shown_input};
 
 use crate::blocks::CommonBlock;
 use crate::matches::Matches;
-use crate::runs::{Run, split_run};
+use crate::runs::{TakenRun, split_run};
 use elfobj::file::constants::{SHF_ALLOC, SHF_WRITE};
 use elfobj::section::{Section, SectionKind};
 use ldmodel::memory::NoMemory;
@@ -101,7 +101,7 @@ fn add_linked(
     sections: &mut Vec<GatheredSection>,
     key: ObjectPlace,
     linked: &[Section],
-    runs: &[Run],
+    runs: &[TakenRun],
 ) -> Result<(), NoMemory>
     ensures { OnOk result (sections.new.items ≡ sections.old.items ++ gathered_by key linked.now runs.now) }
 {

@@ -5,7 +5,7 @@ ghost use Rattle.gather.specs.ProjectMatches.{AreMatched, IsMatched};
 
 use crate::blocks::common_symbols;
 use crate::matcher::Matcher;
-use crate::runs::{Run, runs_of};
+use crate::runs::{TakenRun, runs_of};
 use elfobj::Object;
 use ldmodel::memory::NoMemory;
 use ldmodel::rows::InputIndex;
@@ -18,7 +18,7 @@ use std::ops::Range;
 #[derive(Drop)]
 pub struct Matches {
     /// The statements that take its linked sections, by runs of these in their order.
-    pub linked: Vec<Run>,
+    pub linked: Vec<TakenRun>,
     /// The statement that takes its common blocks.
     pub common: Option<InputIndex>,
     /// The numbers of its symbols from the first common one to the last; none if it has no common symbol.

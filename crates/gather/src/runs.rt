@@ -11,7 +11,7 @@ use std::alloc::Global;
 
 /// Linked sections of an object, one after another, that the same statement takes, or that none does.
 #[derive(Clone, Copy, Debug, PartialEq, Eq)]
-pub struct Run {
+pub struct TakenRun {
     /// The statement that takes them.
     pub statement: Option<InputIndex>,
     /// How many they are.
@@ -26,7 +26,7 @@ fn is_same(one: Option<InputIndex>, other: Option<InputIndex>) -> bool
 }
 
 /// Whether a section that this statement takes can come to a run.
-fn goes_on(run: Run, statement: Option<InputIndex>) -> bool
+fn goes_on(run: TakenRun, statement: Option<InputIndex>) -> bool
     ensures same { IsTrue result → run.statement ≡ statement }
     ensures room { IsTrue result → run.count + 1 < 2 ^ 32 }
 {
@@ -34,7 +34,7 @@ fn goes_on(run: Run, statement: Option<InputIndex>) -> bool
 }
 
 /// Adds a run, unless it is empty.
-fn add_run(runs: &mut Vec<Run>, run: Run) -> Result<(), NoMemory>
+fn add_run(runs: &mut Vec<TakenRun>, run: TakenRun) -> Result<(), NoMemory>
     ensures { OnOk result (numbers_of runs.new.items ≡ numbers_of runs.old.items ++ numbers_in run) }
 {
     if run.count > 0 {
@@ -51,11 +51,11 @@ fn add_run(runs: &mut Vec<Run>, run: Run) -> Result<(), NoMemory>
 pub(crate) fn runs_of(
     alloc: Global,
     statements: &[Option<InputIndex>],
-) -> Result<Vec<Run>, NoMemory>
+) -> Result<Vec<TakenRun>, NoMemory>
     ensures { IfOk result (λ runs. numbers_of runs.items ≡ map number_of statements.now) }
 {
     let mut runs = Vec::new(alloc);
-    let mut run = Run {
+    let mut run = TakenRun {
         statement: None,
         count: 0,
     };
@@ -64,7 +64,7 @@ pub(crate) fn runs_of(
             run.count += 1;
         } else {
             add_run(&mut runs, run)?;
-            run = Run {
+            run = TakenRun {
                 statement: *statement,
                 count: 1,
             };
@@ -75,7 +75,7 @@ pub(crate) fn runs_of(
 }
 
 /// Of these sections those of a run, which comes first, and those after it.
-pub(crate) fn split_run(sections: &[Section], run: Run) -> (&[Section], &[Section])
+pub(crate) fn split_run(sections: &[Section], run: TakenRun) -> (&[Section], &[Section])
     ensures own { result.0.now ≡ take run.count sections.now }
     ensures later { result.1.now ≡ drop run.count sections.now }
 {

@@ -22,7 +22,7 @@ use crate::gathered_section::{GatheredSection, block, linked};
 use crate::matches::Matches;
 use crate::rooms::buckets_for;
 use crate::rows::{add_run, add_section};
-use crate::runs::{Run, split_run};
+use crate::runs::{TakenRun, split_run};
 use elfobj::section::Section;
 use ldmodel::memory::NoMemory;
 use ldmodel::names::ObjectPlace;
@@ -137,7 +137,7 @@ fn take_linked(
     orphans: Orphans,
     key: ObjectPlace,
     linked: &[Section],
-    runs: &[Run],
+    runs: &[TakenRun],
 ) -> Result<(), NoMemory>
     ensures { OnOk result (Takes (shown_inputs statements.now) orphans taken.old taken.new
         (gathered_by key linked.now runs.now)) }

@@ -6,7 +6,7 @@ ghost use Rattle.ldmodel.specs.LinkCommand.{link_status};
 ghost use Rattle.ldi_files.specs.Fault.{IsOutputFault};
 ghost use Rattle.ldi.specs.Fault.{IsFaultAmong, inputs, outputs};
 
-use crate::{DEVICE, NO_MEMORY, REFUSED};
+use crate::{NO_MEMORY, REFUSED, SYSTEM_FAILED};
 use ldi_files::clash::{Clash, Outputs, Role};
 use ldi_files::fault::FileFault;
 use ldi_files::reading::FileReader;
@@ -94,11 +94,11 @@ impl CommandFault<'_> {
             }
             CommandFault::File(fault) => {
                 let _ = eprintln!(rt; "device\n{fault}");
-                DEVICE
+                SYSTEM_FAILED
             }
             CommandFault::Seed(error) => {
                 let _ = eprintln!(rt; "device\nrandom bytes: {error}");
-                DEVICE
+                SYSTEM_FAILED
             }
             CommandFault::Clash(clash) => {
                 clash.report(rt);

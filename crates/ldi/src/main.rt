@@ -31,7 +31,7 @@ mod session_command;
 /// The arguments are refused.
 const REFUSED: u8 = 2;
 /// The system gives no seed, or a file cannot be read or written.
-const DEVICE: u8 = 3;
+const SYSTEM_FAILED: u8 = 3;
 /// Memory ran out.
 const NO_MEMORY: u8 = 4;
 
@@ -54,7 +54,7 @@ fn arguments(rt: &HostRuntime) -> io::Result<Vec<String>> {
 /// Answers the commands of standard input on standard output, and returns the exit status.
 fn answer_commands(rt: &HostRuntime, options: Options) -> u8 {
     let Ok(seed) = RandomState::new(rt) else {
-        return DEVICE;
+        return SYSTEM_FAILED;
     };
     match session_command::session(rt.alloc(), seed, rt.reader(), io::writer(rt), options) {
         Ok(ended) => exit_status(ended.outcome),
@@ -65,7 +65,7 @@ fn answer_commands(rt: &HostRuntime, options: Options) -> u8 {
 /// Answers the commands of a deferred session on standard input, and returns the exit status.
 fn answer_deferred_commands(rt: &HostRuntime, options: Options) -> u8 {
     let Ok(seed) = RandomState::new(rt) else {
-        return DEVICE;
+        return SYSTEM_FAILED;
     };
     match deferred_command::deferred_session(
         rt.alloc(),
@@ -105,7 +105,7 @@ fn report(rt: &HostRuntime, args: &[String], fault: &WordsFault) -> u8 {
 }
 
 /// Makes the call that the arguments ask for, and returns the exit status.
-fn run_words(rt: &HostRuntime, args: &[String]) -> u8 {
+fn run_call(rt: &HostRuntime, args: &[String]) -> u8 {
     match words(rt.alloc(), args) {
         Ok(Call::Session(options)) => answer_commands(rt, options),
         Ok(Call::DeferredSession(options)) => answer_deferred_commands(rt, options),
@@ -132,7 +132,7 @@ fn run_words(rt: &HostRuntime, args: &[String]) -> u8 {
 
 fn main(rt: HostRuntime) -> ExitCode {
     let status = match arguments(&rt) {
-        Ok(args) => run_words(&rt, args.as_slice()),
+        Ok(args) => run_call(&rt, args.as_slice()),
         Err(error) => {
             if error.kind() == io::ErrorKind::OutOfMemory {
                 NO_MEMORY

@@ -28,7 +28,7 @@ pub struct SessionEnd<R: Read + Drop, W: Write + Drop> {
     pub sink: AnswerWriter<W>,
 }
 
-/// Answers the commands of `reader` in `writer` by a linker, from the project that it holds on.
+/// Answers the commands of `reader` in `writer` by a linker, starting with the project that it holds.
 ///
 /// # Errors
 ///

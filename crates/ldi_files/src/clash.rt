@@ -1,6 +1,6 @@
 //! An output that another argument of the command line names too.
 
-use crate::place::{FileId, Place};
+use crate::destination::{Destination, FileId};
 use std::alloc::{AllocError, Global};
 use std::rt::Files;
 
@@ -49,8 +49,8 @@ impl Clash {
 /// The files that a link writes.
 #[derive(Debug, Drop)]
 pub struct Outputs {
-    image: Place,
-    map: Option<Place>,
+    image: Destination,
+    map: Option<Destination>,
 }
 
 impl Outputs {
@@ -65,9 +65,9 @@ impl Outputs {
         map: Option<&str>,
     ) -> Result<Outputs, AllocError> {
         Ok(Outputs {
-            image: Place::of(rt, image)?,
+            image: Destination::of(rt, image)?,
             map: match map {
-                Some(map) => Some(Place::of(rt, map)?),
+                Some(map) => Some(Destination::of(rt, map)?),
                 None => None,
             },
         })

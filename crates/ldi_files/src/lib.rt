@@ -1,7 +1,7 @@
 //! Reads and writes the files of a link, and finds out which names lead to one file.
 //!
 //! - `reading`: the bytes of a file;
-//! - `place`: which file a name leads to;
+//! - `destination`: which file a name leads to;
 //! - `clash`: an output that another argument of the command line names too;
 //! - `writing`: the outputs, each put in its place once all are written;
 //! - `fault`: which file cannot be read or written, and why;
@@ -15,8 +15,8 @@
 mod argument;
 pub mod argument_fault;
 pub mod clash;
+pub mod destination;
 pub mod fault;
 pub mod named_file;
-pub mod place;
 pub mod reading;
 pub mod writing;

@@ -4,8 +4,8 @@ ghost use Rattle.std.specs.Prelude.{◌≡◌, ◌≤◌, ◌⊎◌, ◌++◌, �
 ghost use Rattle.std.specs.Io.KnownBytes.{Consumes};
 ghost use Rattle.ldi_files.specs.Fault.{IsInputFault};
 
+use crate::destination::FileId;
 use crate::fault::{Action, FileFault};
-use crate::place::FileId;
 use std::alloc::{AllocError, Global};
 use std::fs::{File, OpenFile};
 use std::io;

@@ -30,12 +30,12 @@ struct Beside {
     /// Its path now.
     temporary: PathBuf,
     /// Its final path.
-    place: PathBuf,
+    final_path: PathBuf,
 }
 
 /// The path of the regular file that a name leads to, or of a new file of this name; `None` if it must be written in
 /// place: a device, a pipe, or a symbolic link that leads to no file.
-fn place_beside<R: Files + AllocGlobal>(rt: &R, name: &str) -> io::Result<Option<PathBuf>> {
+fn path_to_replace<R: Files + AllocGlobal>(rt: &R, name: &str) -> io::Result<Option<PathBuf>> {
     let is_link = match fs::symlink_metadata(rt, name) {
         Ok(found) if found.is_file() => false,
         Ok(found) if found.is_symlink() => true,
@@ -61,9 +61,12 @@ fn unused_name<R: RandomSource + AllocGlobal>(rt: &R) -> io::Result<String> {
 }
 
 /// The path beside its place under which a file is written.
-fn temporary_path<R: RandomSource + AllocGlobal>(rt: &R, place: &PathBuf) -> io::Result<PathBuf> {
+fn temporary_path<R: RandomSource + AllocGlobal>(
+    rt: &R,
+    final_path: &PathBuf,
+) -> io::Result<PathBuf> {
     let name = unused_name(rt)?;
-    Ok(place.with_file_name(rt.alloc(), name.as_str())?)
+    Ok(final_path.with_file_name(rt.alloc(), name.as_str())?)
 }
 
 /// Writes a file beside its place; `None` if it must be written in place: a device, or a file in a folder where no new
@@ -75,10 +78,10 @@ fn write_beside<'a, R: Files + RandomSource + AllocGlobal>(
     ensures { IfErr result (IsOutputFault (name_of file.now ∷ [])) }
 {
     let not_opened = |error| FileFault::of(Action::Open, file.name, error);
-    let Some(place) = place_beside(rt, file.name).map_err(not_opened)? else {
+    let Some(final_path) = path_to_replace(rt, file.name).map_err(not_opened)? else {
         return Ok(None);
     };
-    let temporary = temporary_path(rt, &place).map_err(not_opened)?;
+    let temporary = temporary_path(rt, &final_path).map_err(not_opened)?;
     let opened = OpenOptions::new()
         .write(true)
         .create_new(true)
@@ -93,7 +96,10 @@ fn write_beside<'a, R: Files + RandomSource + AllocGlobal>(
         let _ = fs::remove_file(rt, temporary.as_path());
         return Err(FileFault::of(Action::Write, file.name, error));
     }
-    Ok(Some(Beside { temporary, place }))
+    Ok(Some(Beside {
+        temporary,
+        final_path,
+    }))
 }
 
 /// Overwrites a file. If a write fails, the file is left empty.
@@ -120,7 +126,7 @@ fn write_in_place<'a, R: Files>(rt: &R, file: &NewFile<'a, '_>) -> Result<(), Fi
 fn put<'a, R: Files>(rt: &R, file: &NewFile<'a, '_>, beside: &Beside) -> Result<(), FileFault<'a>>
     ensures { IfErr result (IsOutputFault (name_of file.now ∷ [])) }
 {
-    match fs::rename(rt, beside.temporary.as_path(), beside.place.as_path()) {
+    match fs::rename(rt, beside.temporary.as_path(), beside.final_path.as_path()) {
         Ok(()) => Ok(()),
         Err(error) => match error.kind() {
             ErrorKind::PermissionDenied | ErrorKind::ResourceBusy | ErrorKind::CrossesDevices => {

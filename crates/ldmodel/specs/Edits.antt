@@ -15,6 +15,7 @@ use Rattle.ldscript.specs.Script.{IsScript, IsRefusal}
 use Rattle.ldscript.specs.declared.refusal.ScriptRefusal.{ScriptRefusal}
 use Rattle.ldscript.specs.declared.refusal.ScriptRefusal.TheVariants as reader
 use Rattle.ldscript.specs.statements.declared.statement.Statement.{Statement}
+use Rattle.ldmodel.specs.declared.edit.TheConstants.{MAX_OBJECTS, MAX_OBJECT_NAME, MAX_PAYLOAD}
 use Rattle.ldmodel.specs.Project.{Project, NamedObject}
 
 -- an edit, apart from where its bytes lie: an object is added before a place, from 0 to the number of objects; the
@@ -69,17 +70,17 @@ is_in_use objects name = list_any (has_name name) objects
 abbrev pub AreNamesDistinct : List NamedObject → Type 0
 AreNamesDistinct objects = (name : List ℕ) → count_by (has_name name) objects ≤ 1
 
--- 1 to 255 bytes from `!` to `~`
+-- 1 to MAX_OBJECT_NAME bytes from `!` to `~`
 unfoldable pub is_object_name : List ℕ → Bool
-is_object_name name = nat_le 1 (length name) && nat_le (length name) 255 && list_all is_graphic name
+is_object_name name = nat_le 1 (length name) && nat_le (length name) MAX_OBJECT_NAME && list_all is_graphic name
 
--- more than 2^26 bytes of an object or a script
+-- more bytes of an object or a script than MAX_PAYLOAD
 unfoldable pub is_too_long : List ℕ → Bool
-is_too_long bytes = nat_lt (2 ^ 26) (length bytes)
+is_too_long bytes = nat_lt MAX_PAYLOAD (length bytes)
 
--- 4,096 objects: no more may be added
+-- MAX_OBJECTS objects: no more may be added
 unfoldable pub is_full : List NamedObject → Bool
-is_full objects = nat_le 4096 (length objects)
+is_full objects = nat_le MAX_OBJECTS (length objects)
 
 -- the refusals for which neither the object nor the script is looked at, in the order name in use, name unknown,
 -- position past the end, limit

@@ -100,9 +100,9 @@ abbrev pub site_value_in : GoodLink → Site → ℕ
 site_value_in link site = number_or_0 (site_value link.project link.layout site)
 
 -- the site's symbol has another value
-abbrev pub is_moved : GoodLink → GoodLink → Site → Bool
-is_moved old new site = not (site_value_in old site == site_value_in new site)
+abbrev pub has_other_value : GoodLink → GoodLink → Site → Bool
+has_other_value old new site = not (site_value_in old site == site_value_in new site)
 
 -- the sites in input sections that stayed whose symbol has another value
 unfoldable pub retargeted : GoodLink → GoodLink → List Site
-retargeted old new = filter (is_moved old new) (flat_map (sites_in new.project) (stayed old new))
+retargeted old new = filter (has_other_value old new) (flat_map (sites_in new.project) (stayed old new))

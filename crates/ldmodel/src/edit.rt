@@ -11,6 +11,8 @@ use ldscript::ScriptRefusal;
 pub const MAX_PAYLOAD: usize = 0x400_0000;
 /// The greatest number of bytes of an object's name.
 pub const MAX_OBJECT_NAME: usize = 255;
+/// The greatest number of objects of a project.
+pub const MAX_OBJECTS: usize = 4096;
 
 /// A change of the project.
 #[derive(Drop)]

@@ -18,7 +18,8 @@ use Rattle.ldmodel.specs.Project.{NamedObject, Project}
 use Rattle.ldmodel.specs.Relocations.{Site, site_field_with, is_evaluated, site_field, site_symbol, site_value, sites}
 use Rattle.ldmodel.specs.Sections.{is_same_part}
 use Rattle.ldmodel.specs.Segments.{segments}
-use Rattle.ldmodel.specs.Stayed.{GoodLink, LinkedPiece, has_stayed, is_moved, linked_piece, linked_pieces, link_pieces}
+use Rattle.ldmodel.specs.Stayed.{GoodLink, LinkedPiece, has_stayed, has_other_value, linked_piece, linked_pieces}
+use Rattle.ldmodel.specs.Stayed.{link_pieces}
 use Rattle.ldmodel.specs.Stayed.{retargeted, sites_in, stayed}
 use Rattle.ldmodel.specs.SymbolValues.{NotDefined, placed_pieces}
 use Rattle.ldmodel.specs.Targets.{Target, referenced_value, target_of}
@@ -155,17 +156,18 @@ module _ (old new : GoodLink) (h : IsPlacedOnce new.project new.layout) where
       (k.origin, (stayed_both old new k.origin).1 (k.among, stays), k.gives)
 
   pub retargeted_in_order : IsPermutation
-      (filter (λ t. lies_in_stayed old new t && is_moved old new t) (sites new.project new.layout))
+      (filter (λ t. lies_in_stayed old new t && has_other_value old new t) (sites new.project new.layout))
       (retargeted old new)
   unfolding retargeted stayed
   retargeted_in_order =
       let all = flat_map (sites_in new.project) (link_pieces new) in
       subst (IsPermutation
-      (filter (λ t. lies_in_stayed old new t && is_moved old new t) (sites new.project new.layout)))
-      (filter_both (lies_in_stayed old new) (is_moved old new) all
-      ∙ ap (filter (is_moved old new)) (filter_parts (lies_in_stayed old new) (has_stayed old) (sites_in new.project)
+      (filter (λ t. lies_in_stayed old new t && has_other_value old new t) (sites new.project new.layout)))
+      (filter_both (lies_in_stayed old new) (has_other_value old new) all
+      ∙ ap (filter (has_other_value old new))
+      (filter_parts (lies_in_stayed old new) (has_stayed old) (sites_in new.project)
       (link_pieces new) site_stays))
-      (kept_of_layout new.project new.layout (λ t. lies_in_stayed old new t && is_moved old new t) h)
+      (kept_of_layout new.project new.layout (λ t. lies_in_stayed old new t && has_other_value old new t) h)
 
   -- by a test of the values
   pub valued_in_order : IsGood old → IsGood new → (test : Site → Bool)
@@ -175,11 +177,12 @@ module _ (old new : GoodLink) (h : IsPlacedOnce new.project new.layout) where
       (retargeted old new)
   valued_in_order g k test decides =
       subst (λ l. IsPermutation l (retargeted old new))
-      (same_filters (λ t. lies_in_stayed old new t && is_moved old new t) (λ t. lies_in_stayed old new t && test t)
+      (same_filters (λ t. lies_in_stayed old new t && has_other_value old new t) (λ t. lies_in_stayed old new t
+      && test t)
       (sites new.project new.layout) (λ t c. go t c (lies_in_stayed old new t) refl)) retargeted_in_order
     where
       go : (t : Site) → Contains (sites new.project new.layout) t → (b : Bool) → lies_in_stayed old new t ≡ b
-          → ((b && is_moved old new t) ≡ false) ↔ ((b && test t) ≡ false)
+          → ((b && has_other_value old new t) ≡ false) ↔ ((b && test t) ≡ false)
       go t c false e = (λ f. refl, λ f. refl)
       go t c true e =
           let x = site_in t c e in
@@ -214,7 +217,7 @@ retargeted_in_index old new g h once index has t c = go (site_symbol t) refl
   where
     comes : ComesOf (sites_in new.project) (stayed old new) t
     comes = in_flat_map (sites_in new.project) (stayed old new) t
-        (in_filter (is_moved old new) (flat_map (sites_in new.project) (stayed old new)) t c).0
+        (in_filter (has_other_value old new) (flat_map (sites_in new.project) (stayed old new)) t c).0
 
     field : HasField old t
     field = in_old old new g h.read comes.origin comes.among t comes.gives

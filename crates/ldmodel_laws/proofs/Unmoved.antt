@@ -4,7 +4,7 @@ use Rattle.std.proofs.Common.{sym, ap, ◌∙◌}
 use Rattle.std.specs.List.{Contains}
 use Rattle.std.proofs.lemmas.Bool.{eq-eqb}
 use Rattle.ldmodel.specs.Relocations.{Site, site_field_with, site_field, site_value}
-use Rattle.ldmodel.specs.Stayed.{GoodLink, LinkedPiece, is_moved, retargeted, sites_in, stayed, site_value_in}
+use Rattle.ldmodel.specs.Stayed.{GoodLink, LinkedPiece, has_other_value, retargeted, sites_in, stayed, site_value_in}
 use Rattle.ldmodel.specs.SymbolValues.{Number, number_or_0}
 use Rattle.ldmodel_laws.specs.Untouched.{AreRead, HasField, HasSameValue, IsGood}
 use Rattle.ldmodel_laws.proofs.Finding.{in_flat_map}
@@ -27,7 +27,7 @@ field_stays old new g read x t stays c e =
 
 pub by_value : (old new : GoodLink) → IsGood old → IsGood new → (x : LinkedPiece) (t : Site)
     → Contains (stayed old new) x → Contains (sites_in new.project x) t
-    → HasSameValue old new t ↔ (is_moved old new t ≡ false)
+    → HasSameValue old new t ↔ (has_other_value old new t ≡ false)
 unfolding site_field
 by_value old new g h x t stays c = (
   λ e. ap not (eq-eqb (site_value_in old t) (site_value_in new t) (ap number_or_0 e)),
@@ -58,7 +58,7 @@ pub kept_by_test : (old new : GoodLink) → IsGood old → IsGood new → (test 
     → filter test (flat_map (sites_in new.project) (stayed old new)) ≡ retargeted old new
 unfolding retargeted
 kept_by_test old new g h test decides =
-    same_filters test (is_moved old new) (flat_map (sites_in new.project) (stayed old new)) (λ t c.
+    same_filters test (has_other_value old new) (flat_map (sites_in new.project) (stayed old new)) (λ t c.
     let k = in_flat_map (sites_in new.project) (stayed old new) t c in
     let moved = by_value old new g h k.origin t k.among k.gives in
     let tested = decides t c in

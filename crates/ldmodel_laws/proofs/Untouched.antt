@@ -24,7 +24,8 @@ use Rattle.ldmodel.specs.Project.{NamedObject, Project}
 use Rattle.ldmodel.specs.Relocations.{Site, site_field_with, is_evaluated, patch_of, site_field, site_symbol}
 use Rattle.ldmodel.specs.Relocations.{site_value, sites_at}
 use Rattle.ldmodel.specs.Segments.{Segment, file_offset, segments}
-use Rattle.ldmodel.specs.Stayed.{FileRange, GoodLink, LinkedPiece, has_stayed, is_moved, linked_piece, linked_pieces}
+use Rattle.ldmodel.specs.Stayed.{FileRange, GoodLink, LinkedPiece, has_stayed, has_other_value, linked_piece}
+use Rattle.ldmodel.specs.Stayed.{linked_pieces}
 use Rattle.ldmodel.specs.Stayed.{link_pieces, range_in, retargeted, same_piece, sites_in, sites_in_part}
 use Rattle.ldmodel.specs.Stayed.{sites_in_section, stayed, text_of, site_value_in}
 use Rattle.ldmodel.specs.SymbolValues.{SymbolValue, Number, NotDefined, NotInOutput, number_or_0}
@@ -412,11 +413,11 @@ module _ (old new : GoodLink) (g : IsGood old) (read : AreRead new.project) (x :
     pub in_new : (t : Site) → Contains (sites_in new.project x) t → HasField new t
     in_new t c = member_of (HasField new) (sites_in new.project x) t (h.fields x in_both.0) c
 
-    is_retargeted : (t : Site) → Contains (sites_in new.project x) t → is_moved old new t ≡ true
+    is_retargeted : (t : Site) → Contains (sites_in new.project x) t → has_other_value old new t ≡ true
         → Contains (retargeted old new) t
     unfolding retargeted
     is_retargeted t c e =
-        filter_in (is_moved old new) (flat_map (sites_in new.project) (stayed old new)) t
+        filter_in (has_other_value old new) (flat_map (sites_in new.project) (stayed old new)) t
         (flat_map_in (sites_in new.project) (stayed old new) x t stays c) e
 
     module _ (i : ℕ) (clear : (t : Site) → Contains (retargeted old new) t → Contains (sites_in new.project x) t
@@ -426,7 +427,7 @@ module _ (old new : GoodLink) (g : IsGood old) (read : AreRead new.project) (x :
           → Contains (filter (λ (w : Relocation). is_evaluated w.kind) z.relocations) r
           → Agree old.project new.project old.layout new.layout o z x.start x.start i r
       unfolding site_field
-      agree o z all_old all_new r c = go (is_moved old new t) refl
+      agree o z all_old all_new r c = go (has_other_value old new t) refl
         where
           t : Site
           t = site_of o z x.start r
@@ -444,7 +445,7 @@ module _ (old new : GoodLink) (g : IsGood old) (read : AreRead new.project) (x :
           is : is_evaluated r.kind ≡ true
           is = (in_filter (λ (w : Relocation). is_evaluated w.kind) z.relocations r c).1
 
-          go : (b : Bool) → is_moved old new t ≡ b
+          go : (b : Bool) → has_other_value old new t ≡ b
               → Agree old.project new.project old.layout new.layout o z x.start x.start i r
           go true e = record {
             first = first.0;
@@ -503,7 +504,7 @@ pub other_target : (old new : GoodLink) → IsGood old → IsGood new → (t : S
     (target_of t.object a)
 unfolding retargeted site_field
 other_target old new g h t a c e same_number =
-    let both = in_filter (is_moved old new) (flat_map (sites_in new.project) (stayed old new)) t c in
+    let both = in_filter (has_other_value old new) (flat_map (sites_in new.project) (stayed old new)) t c in
     let k = in_flat_map (sites_in new.project) (stayed old new) t both.0 in
     let first : HasField old t = in_old old new g h.read k.origin k.among t k.gives in
     let second : HasField new t = in_new old new g h.read k.origin k.among h t k.gives in

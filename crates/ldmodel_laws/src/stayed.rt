@@ -12,7 +12,7 @@ ghost use Rattle.ldmodel.specs.Project.{Project};
 ghost use Rattle.ldmodel.specs.Relocations.{Site, site_field, site_symbol, sites};
 ghost use Rattle.ldmodel.specs.SectionHeaders.{image_length};
 ghost use Rattle.ldmodel.specs.Segments.{segments};
-ghost use Rattle.ldmodel.specs.Stayed.{GoodLink, LinkedPiece, has_stayed, is_moved, linked_piece, linked_pieces};
+ghost use Rattle.ldmodel.specs.Stayed.{GoodLink, LinkedPiece, has_stayed, has_other_value, linked_piece, linked_pieces};
 ghost use Rattle.ldmodel.specs.Stayed.{link_pieces, retargeted, sites_in, stayed};
 ghost use Rattle.ldmodel.specs.Targets.{Target, target_number, target_of};
 ghost use Rattle.ldmodel.specs.WorkBound.{bytes_stayed, sites_outside};
@@ -98,7 +98,7 @@ pub fn unmoved_sites()
 pub fn moved_by_value()
     ensures one { (old new : GoodLink) → IsGood old → IsGood new → (piece : LinkedPiece) (site : Site)
         → Contains (stayed old new) piece → Contains (sites_in new.project piece) site
-        → HasSameValue old new site ↔ (is_moved old new site ≡ false) }
+        → HasSameValue old new site ↔ (has_other_value old new site ≡ false) }
     ensures all { (old new : GoodLink) → IsGood old → IsGood new → (test : Site → Bool)
         → ((site : Site) → Contains (flat_map (sites_in new.project) (stayed old new)) site
         → (test site ≡ false) ↔ HasSameValue old new site)
@@ -129,7 +129,7 @@ pub fn stayed_by_part()
         → Contains (sites new.project new.layout) site → lies_in_stayed old new site ≡ true
         → (piece : LinkedPiece) × Contains (stayed old new) piece × Contains (sites_in new.project piece) site }
     ensures moved { (old new : GoodLink) → IsPlacedOnce new.project new.layout
-        → IsPermutation (filter (λ site. lies_in_stayed old new site && is_moved old new site)
+        → IsPermutation (filter (λ site. lies_in_stayed old new site && has_other_value old new site)
         (sites new.project new.layout)) (retargeted old new) }
     ensures valued { (old new : GoodLink) → IsPlacedOnce new.project new.layout → IsGood old → IsGood new
         → (test : Site → Bool) → ((site : Site) → Contains (sites new.project new.layout) site

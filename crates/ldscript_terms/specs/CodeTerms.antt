@@ -42,11 +42,11 @@ part_of word (part.Byte b) = Byte b
 part_of word (part.OneOf start end) = OneOf (ranges_of (slice_range word start end))
 
 -- its bytes lie inside a word of this length
-abbrev pub IsPlace : ℕ → CodePart → Type 0
-IsPlace len part.AnyRun = Unit {0}
-IsPlace len part.AnyByte = Unit {0}
-IsPlace len (part.Byte b) = Unit {0}
-IsPlace len (part.OneOf start end) = (start ≤ end) × (end ≤ len)
+abbrev pub IsInText : ℕ → CodePart → Type 0
+IsInText len part.AnyRun = Unit {0}
+IsInText len part.AnyByte = Unit {0}
+IsInText len (part.Byte b) = Unit {0}
+IsInText len (part.OneOf start end) = (start ≤ end) × (end ≤ len)
 
 -- it takes one byte
 abbrev pub IsSingle : CodePart → Type 0

@@ -2,7 +2,7 @@
 use Rattle.std.specs.Prelude.{ℕ, ◌+◌, ◌≤◌, ◌<◌, ◌&&◌, ◌==◌, nat_lt, List, length, drop, take_while, slice_index}
 use Rattle.std.specs.Prelude.{slice_range, Option, Some, None, if◌then◌else◌}
 use Rattle.ldscript_terms.specs.Parts.{Part, AnyRun, AnyByte, Byte, OneOf, ranges_of}
-use Rattle.ldscript_terms.specs.CodeTerms.{part_of, IsPlace}
+use Rattle.ldscript_terms.specs.CodeTerms.{part_of, IsInText}
 use Rattle.ldscript_terms.specs.Spelling.{is_plain, is_set_byte}
 use Rattle.ldscript_tokens.specs.Bytes.{is_escapable}
 use Rattle.ldscript_terms.specs.declared.front.Spelled.{Spelled}
@@ -48,4 +48,4 @@ front_of word (Some s) = front_part (part_of word s.part) s.count
 -- it takes a byte or more of this number of bytes
 abbrev pub IsWithin : ℕ → Option Spelled → Type 0
 IsWithin room None = Unit {0}
-IsWithin room (Some s) = (0 < s.count) × (s.count ≤ room) × IsPlace room s.part
+IsWithin room (Some s) = (0 < s.count) × (s.count ≤ room) × IsInText room s.part

@@ -2,7 +2,7 @@ pub mod Operators
 pub mod Expressions
 pub mod DotForms
 pub mod Grammar
-pub mod Heads
+pub mod Openings
 pub mod Parts
 pub mod Spelling
 pub mod Front

@@ -1,7 +1,7 @@
 //! The parts of a pattern.
 
 ghost use Rattle.std.specs.Prelude.{◌≡◌, ◌↔◌, ◌∷◌, [], IsTrue, MatchBool, length};
-ghost use Rattle.ldscript_terms.specs.CodeTerms.{IsPlace, IsSingle, code_byte, part_of};
+ghost use Rattle.ldscript_terms.specs.CodeTerms.{IsInText, IsSingle, code_byte, part_of};
 ghost use Rattle.ldscript_terms.specs.Matching.{Meets};
 
 use crate::set::set_has;
@@ -29,7 +29,7 @@ impl CodePart {
 
     /// Whether a part other than `*` matches this byte.
     pub fn is_met_by(self, word: &[u8], byte: u8) -> bool
-        requires { IsPlace (length word.now) self }
+        requires { IsInText (length word.now) self }
         ensures { IsTrue result ↔ Meets (part_of word.now self) (byte ∷ []) }
     {
         match self {

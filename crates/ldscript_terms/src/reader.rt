@@ -7,7 +7,9 @@ ghost use Rattle.ldscript_terms.specs.Reading.{Reads};
 ghost use Rattle.ldscript_terms.specs.Grammar.{Primary, Arguments, Within, Whole};
 
 use crate::expression::{Branches, Expr};
-use crate::head::{Head, after, binary_ahead, name_in_parentheses, read_head, unary_ahead};
+use crate::opening::{
+    Opening, after, binary_ahead, name_in_parentheses, read_opening, unary_ahead,
+};
 use ldscript_tokens::cursor::Cursor;
 use ldscript_tokens::name::ScriptName;
 use ldscript_tokens::token::Mark;
@@ -25,32 +27,32 @@ const LOOSEST: u8 = 9;
 fn primary<'a>(alloc: Global, tokens: Cursor<'a>) -> Parsed<'a, Expr>
     ensures { Reads Primary tokens.entry (λ x. expr_of x.0) (λ x. x.1) result }
 {
-    let Some((head, rest)) = read_head(&tokens) else {
+    let Some((opening, rest)) = read_opening(&tokens) else {
         return Ok(None);
     };
-    match head {
-        Head::Number(value) => Ok(Some((Expr::Number(value), rest))),
-        Head::Dot => Ok(Some((Expr::Dot, rest))),
-        Head::Name(name) => {
+    match opening {
+        Opening::Number(value) => Ok(Some((Expr::Number(value), rest))),
+        Opening::Dot => Ok(Some((Expr::Dot, rest))),
+        Opening::Name(name) => {
             let name = ScriptName::new(alloc, name)?;
             Ok(Some((Expr::Name(name), rest)))
         }
-        Head::OfRegion(query) => {
+        Opening::OfRegion(query) => {
             let Some((name, rest)) = name_in_parentheses(&rest) else {
                 return Ok(None);
             };
             let name = ScriptName::new(alloc, name)?;
             Ok(Some((Expr::OfRegion(query, name), rest)))
         }
-        Head::OfSection(query) => {
+        Opening::OfSection(query) => {
             let Some((name, rest)) = name_in_parentheses(&rest) else {
                 return Ok(None);
             };
             let name = ScriptName::new(alloc, name)?;
             Ok(Some((Expr::OfSection(query, name), rest)))
         }
-        Head::Align => arguments(alloc, rest),
-        Head::Group => {
+        Opening::Align => arguments(alloc, rest),
+        Opening::Group => {
             let Some((tree, rest)) = whole(alloc, rest)? else {
                 return Ok(None);
             };

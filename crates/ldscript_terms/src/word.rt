@@ -2,7 +2,7 @@
 
 ghost use Rattle.std.specs.Prelude.{◌≡◌, ◌↔◌, ◌<◌, ◌≤◌, ◌∷◌, [], IfOk, IfSome, IsTrue, List, MatchOption, drop, length};
 ghost use Rattle.std.specs.Option.{option_map};
-ghost use Rattle.ldscript_terms.specs.CodeTerms.{exact_name, IsPlace, part_of};
+ghost use Rattle.ldscript_terms.specs.CodeTerms.{exact_name, IsInText, part_of};
 ghost use Rattle.ldscript_terms.specs.Parts.{Part};
 ghost use Rattle.ldscript_terms.specs.Spelling.{SpellsPattern};
 ghost use Rattle.ldscript_terms.specs.Trying.{BeginsWith, EndsHere, IsSpelled};
@@ -22,7 +22,7 @@ fn word_from(word: &[u8], at: usize) -> &[u8]
 /// The first part of a word, and the rest after it; `None` if the word has ended, or spells no pattern.
 pub fn first_part(word: &[u8]) -> Option<(CodePart, &[u8])>
     ensures value { MatchOption result (EndsHere word.now) (λ x. BeginsWith word.now (part_of word.now x.0) x.1.now) }
-    ensures within { IfSome result (λ x. IsPlace (length word.now) x.0 × (length x.1.now < length word.now)) }
+    ensures within { IfSome result (λ x. IsInText (length word.now) x.0 × (length x.1.now < length word.now)) }
 {
     if word.is_empty() {
         return None;

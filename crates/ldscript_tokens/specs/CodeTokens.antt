@@ -60,8 +60,8 @@ abbrev pub IsShallow : ℕ → LexState → Type 0
 IsShallow n p = (p.depth ≤ n) × IsShortStretch n p.stretch
 
 -- a token that lies within this number of bytes
-abbrev pub IsPlace : ℕ → CodeToken → Type 0
-IsPlace n t = (t.start ≤ t.end) × (t.end ≤ n)
+abbrev pub IsInText : ℕ → CodeToken → Type 0
+IsInText n t = (t.start ≤ t.end) × (t.end ≤ n)
 
 abbrev pub token_refusal_number : TokenRefusal → ℕ
 token_refusal_number NotAToken = 1

@@ -4,11 +4,11 @@ use Rattle.ldscript_tokens.specs.declared.name.NameBytes.{NameBytes}
 use Rattle.ldscript_tokens.specs.declared.name.NameBytes.TheVariants.{Inline, Heap}
 
 -- the bytes of a name: the first of those in its value, or those on the heap
-abbrev pub kept : NameBytes → List ℕ
-kept (Inline n bytes) = take n bytes
-kept (Heap bytes) = bytes.value.items
+abbrev pub stored : NameBytes → List ℕ
+stored (Inline n bytes) = take n bytes
+stored (Heap bytes) = bytes.value.items
 
 -- no more than the value has room for
-abbrev pub IsKept : NameBytes → Type 0
-IsKept (Inline n bytes) = n ≤ 14
-IsKept (Heap bytes) = Unit {0}
+abbrev pub IsStored : NameBytes → Type 0
+IsStored (Inline n bytes) = n ≤ 14
+IsStored (Heap bytes) = Unit {0}

@@ -2,7 +2,7 @@
 
 ghost use Rattle.std.specs.Prelude.{◌≡◌, ◌∷◌, ◌↔◌, [], ℕ, IsTrue, List, length, map, All, MatchOption};
 ghost use Rattle.ldscript_tokens.specs.Tokens.{Lexeme, lexeme, first_line, Name, Number, Text, Word, Punctuation};
-ghost use Rattle.ldscript_tokens.specs.CodeTokens.{spelled_token, lexeme_of, IsPlace};
+ghost use Rattle.ldscript_tokens.specs.CodeTokens.{spelled_token, lexeme_of, IsInText};
 
 use super::token::{CodeToken, Mark, TokenKind};
 use std::marker::Model;
@@ -25,19 +25,19 @@ pub struct Cursor<'a> {
 impl<'a> Model for Cursor<'a> {
     ghost use Rattle.std.specs.Prelude.{List, length, map, All};
     ghost use Rattle.ldscript_tokens.specs.Tokens.{Lexeme};
-    ghost use Rattle.ldscript_tokens.specs.CodeTokens.{lexeme_of, IsPlace};
+    ghost use Rattle.ldscript_tokens.specs.CodeTokens.{lexeme_of, IsInText};
 
     ghost Value = { List Lexeme };
 
     ghost view = { λ cursor. map (lexeme_of cursor.text.now) cursor.rest.now };
 
-    ghost invariant = { λ cursor. All (IsPlace (length cursor.text.now)) cursor.rest.now };
+    ghost invariant = { λ cursor. All (IsInText (length cursor.text.now)) cursor.rest.now };
 }
 
 impl<'a> Cursor<'a> {
     /// All these tokens of a text.
     pub fn new(text: &'a [u8], tokens: &'a [CodeToken]) -> Cursor<'a>
-        requires { All (IsPlace (length text.now)) tokens.now }
+        requires { All (IsInText (length text.now)) tokens.now }
         ensures { result ≡ map (lexeme_of text.now) tokens.now }
     {
         Cursor { text, rest: tokens }

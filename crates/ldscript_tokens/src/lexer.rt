@@ -4,7 +4,7 @@ ghost use Rattle.std.specs.Prelude.{◌≡◌, ◌≤◌, ◌^◌, ◌+◌, ◌-
 ghost use Rattle.ldscript_tokens.specs.CodeTokens.{lexeme_of, front_of, IsAdvance};
 ghost use Rattle.ldscript_tokens.specs.Tokens.{front};
 ghost use Rattle.ldscript_tokens.specs.Modes.{mode_of, line_feeds, IsCut};
-ghost use Rattle.ldscript_tokens.specs.CodeTokens.{IsPlace};
+ghost use Rattle.ldscript_tokens.specs.CodeTokens.{IsInText};
 ghost use Rattle.ldscript_tokens.specs.Limits.{IsTokens, IsTokenRefusal};
 
 use super::front::{Ahead, FrontToken, front};
@@ -65,7 +65,7 @@ fn line_feeds(bytes: &[u8]) -> u32
 fn cut(alloc: Global, text: &[u8]) -> Result<Vec<CodeToken>, TokenRefusal>
     requires { length text.now ≤ 2 ^ 20 }
     ensures cut { IfOk result (λ v. IsCut text.now (map (lexeme_of text.now) v.items)) }
-    ensures places { IfOk result (λ v. All (IsPlace (length text.now)) v.items) }
+    ensures places { IfOk result (λ v. All (IsInText (length text.now)) v.items) }
     ensures few { IfOk result (λ v. length v.items ≤ length text.now) }
     ensures refused { IfErr result (IsTokenRefusal text.now) }
 {
@@ -100,7 +100,7 @@ fn cut(alloc: Global, text: &[u8]) -> Result<Vec<CodeToken>, TokenRefusal>
 /// with more than 64 signs.
 pub fn tokens(alloc: Global, text: &[u8]) -> Result<Vec<CodeToken>, TokenRefusal>
     ensures tokens { IfOk result (λ tokens. IsTokens text.now (map (lexeme_of text.now) tokens.items)) }
-    ensures places { IfOk result (λ tokens. All (IsPlace (length text.now)) tokens.items) }
+    ensures places { IfOk result (λ tokens. All (IsInText (length text.now)) tokens.items) }
     ensures few { IfOk result (λ tokens. length tokens.items ≤ length text.now) }
     ensures refused { IfErr result (IsTokenRefusal text.now) }
 {

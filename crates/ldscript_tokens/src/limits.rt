@@ -1,7 +1,7 @@
 //! The limits on the tokens of a text.
 
 ghost use Rattle.std.specs.Prelude.{◌≡◌, ◌+◌, ◌≤◌, ◌^◌, ◌↔◌, IsTrue, length, map, All, count_by, cond, if◌then◌else◌};
-ghost use Rattle.ldscript_tokens.specs.CodeTokens.{spelled_token, token_of, IsPlace};
+ghost use Rattle.ldscript_tokens.specs.CodeTokens.{spelled_token, token_of, IsInText};
 ghost use Rattle.ldscript_tokens.specs.Modes.{at_start};
 ghost use Rattle.ldscript_tokens.specs.Limits.{HasShortSpelling, is_open_brace, counted_mode, moded, is_break, is_sign};
 ghost use Rattle.ldscript_tokens.specs.Limits.{is_sign_mark, HasShortRuns, IsWithinLimits};
@@ -31,7 +31,7 @@ fn has_short_spelling(kind: TokenKind, spelled: &[u8]) -> bool
 
 /// Whether each number is below 2^64, and each name and word no longer than the limit.
 fn have_short_spellings(text: &[u8], tokens: &[CodeToken]) -> bool
-    requires { All (IsPlace (length text.now)) tokens.now }
+    requires { All (IsInText (length text.now)) tokens.now }
     ensures { IsTrue result ↔ All HasShortSpelling (map (token_of text.now) tokens.now) }
 {
     for token in tokens {
@@ -114,7 +114,7 @@ fn signs_after(signs: usize, mode: Mode, kind: TokenKind, spelled: &[u8]) -> usi
 /// Whether no run has too many signs.
 fn have_short_runs(text: &[u8], tokens: &[CodeToken]) -> bool
     requires few { length tokens.now ≤ 2 ^ 20 }
-    requires places { All (IsPlace (length text.now)) tokens.now }
+    requires places { All (IsInText (length text.now)) tokens.now }
     ensures { IsTrue result ↔ HasShortRuns (moded at_start (map (token_of text.now) tokens.now)) }
 {
     let mut state = LexState::start();
@@ -134,7 +134,7 @@ fn have_short_runs(text: &[u8], tokens: &[CodeToken]) -> bool
 /// Whether the tokens of a text are within the limits.
 pub(crate) fn are_within_limits(text: &[u8], tokens: &[CodeToken]) -> bool
     requires few { length tokens.now ≤ 2 ^ 20 }
-    requires places { All (IsPlace (length text.now)) tokens.now }
+    requires places { All (IsInText (length text.now)) tokens.now }
     ensures { IsTrue result ↔ IsWithinLimits (map (token_of text.now) tokens.now) }
 {
     have_short_spellings(text, tokens)

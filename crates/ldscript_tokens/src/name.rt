@@ -1,7 +1,7 @@
 //! Names and words that are kept.
 
 ghost use Rattle.std.specs.Prelude.{◌≡◌, ◌≤◌, IfOk, length};
-ghost use Rattle.ldscript_tokens.specs.Names.{kept, IsKept};
+ghost use Rattle.ldscript_tokens.specs.Names.{stored, IsStored};
 
 use std::alloc::{AllocError, Global};
 use std::marker::Model;
@@ -27,24 +27,24 @@ pub struct ScriptName {
 
 impl Model for ScriptName {
     ghost use Rattle.std.specs.Prelude.{ℕ, List};
-    ghost use Rattle.ldscript_tokens.specs.Names.{kept, IsKept};
+    ghost use Rattle.ldscript_tokens.specs.Names.{stored, IsStored};
 
     ghost Value = { List ℕ };
 
-    ghost view = { λ name. kept name.bytes };
+    ghost view = { λ name. stored name.bytes };
 
-    ghost invariant = { λ name. IsKept name.bytes };
+    ghost invariant = { λ name. IsStored name.bytes };
 }
 
 /// The bytes, copied in place.
 fn inline(bytes: &[u8]) -> NameBytes
     requires { length bytes.now ≤ 14 }
-    ensures value { kept result ≡ bytes.now }
-    ensures fits { IsKept result }
+    ensures value { stored result ≡ bytes.now }
+    ensures fits { IsStored result }
 {
-    let mut kept = [0; MAX_INLINE];
-    kept[..bytes.len()].copy_from_slice(bytes);
-    NameBytes::Inline(bytes.len() as u8, kept)
+    let mut stored = [0; MAX_INLINE];
+    stored[..bytes.len()].copy_from_slice(bytes);
+    NameBytes::Inline(bytes.len() as u8, stored)
 }
 
 impl ScriptName {

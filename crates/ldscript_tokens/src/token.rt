@@ -1,7 +1,7 @@
 //! Tokens of a script, as ranges of its text.
 
 ghost use Rattle.std.specs.Prelude.{◌≡◌, length, slice_range};
-ghost use Rattle.ldscript_tokens.specs.CodeTokens.{IsPlace};
+ghost use Rattle.ldscript_tokens.specs.CodeTokens.{IsInText};
 
 /// The mode in which a token is read: as part of an expression, or of patterns of names.
 #[derive(Clone, Copy, Debug, PartialEq, Eq)]
@@ -108,7 +108,7 @@ pub struct CodeToken {
 impl CodeToken {
     /// The bytes of the token.
     pub fn bytes<'a>(&self, text: &'a [u8]) -> &'a [u8]
-        requires { IsPlace (length text.now) self.now }
+        requires { IsInText (length text.now) self.now }
         ensures { result.now ≡ slice_range text.now self.now.start self.now.end }
     {
         &text[self.start as usize..self.end as usize]

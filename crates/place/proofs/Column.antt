@@ -11,7 +11,7 @@ use Rattle.std.specs.Prelude.{IsSome}
 use Rattle.ldmodel.specs.declared.sections.Part.{Part}
 use Rattle.ldmodel.specs.Project.{Project}
 use Rattle.ldmodel.specs.Sections.{is_same_part}
-use Rattle.place.specs.Columns.{AddsEntries, HaveNumbers, IsColumn, has_number, is_number, place_of}
+use Rattle.place.specs.Columns.{AddsEntries, HaveNumbers, IsColumn, has_number, is_number, address_of_entry}
 use Rattle.place.specs.Entries.{is_part_of}
 use Rattle.place.specs.declared.indexed_section.IndexedSection.{IndexedSection}
 use Rattle.gather.specs.SectionTable.{IsTableOf, len_of, number_of}
@@ -71,10 +71,10 @@ module _ (p : Project) (entries : List IndexedSection) (t : InputSectionTable)
         (λ h. ap (is_number at) (same_number e h ∙ is) ∙ eq-eqb at at refl)
         (λ h. is_sought e (table.apart e.object n e.part part at (number_is (number_of t e.object e.part) at h) is))
 
-    found : get_or places at None ≡ option_map place_of (find sought entries)
+    found : get_or places at None ≡ option_map address_of_entry (find sought entries)
     found =
         column.firsts at (table.below n part at is)
-        ∙ ap (option_map place_of)
+        ∙ ap (option_map address_of_entry)
         (sym (find_same sought (has_number t at) entries (λ i d l. same_test (get_or entries i d))))
 
   unranked : number_of t n part ≡ None → (i : ℕ) (d : IndexedSection) → i < length entries → sought (get_or entries i d)
@@ -88,12 +88,12 @@ module _ (p : Project) (entries : List IndexedSection) (t : InputSectionTable)
 
   pub has_first :
       option_and_then (λ (at : ℕ). get_or places at None) (number_of t n part)
-      ≡ option_map place_of (find (is_part_of n part) entries)
+      ≡ option_map address_of_entry (find (is_part_of n part) entries)
   has_first = go (number_of t n part) refl
     where
       go : (o : Option ℕ) → number_of t n part ≡ o
-          → option_and_then (λ (at : ℕ). get_or places at None) o ≡ option_map place_of (find sought entries)
-      go None e = sym (ap (option_map place_of) (find_none sought entries (unranked e)))
+          → option_and_then (λ (at : ℕ). get_or places at None) o ≡ option_map address_of_entry (find sought entries)
+      go None e = sym (ap (option_map address_of_entry) (find_none sought entries (unranked e)))
       go (Some at) e = found at e
 
 -- ---- a column that is filled, entry by entry
@@ -110,13 +110,13 @@ none_is (Some x) false e = refl
 
 -- what is found stays so where something has a place
 kept_first : (o : Option IndexedSection) (place : Option SectionAddress) (e : IndexedSection)
-    → place ≡ option_map place_of o → is_none place ≡ false → option_or o (Some e) ≡ o
+    → place ≡ option_map address_of_entry o → is_none place ≡ false → option_or o (Some e) ≡ o
 kept_first None place e is some = absurd (false≢true (sym some ∙ ap is_none is))
 kept_first (Some x) place e is some = refl
 
 -- and where nothing has one, it is the entry
 new_first : (o : Option IndexedSection) (place : Option SectionAddress) (e : IndexedSection)
-    → place ≡ option_map place_of o → is_none place ≡ true → option_or o (Some e) ≡ Some e
+    → place ≡ option_map address_of_entry o → is_none place ≡ true → option_or o (Some e) ≡ Some e
 new_first None place e is none = refl
 new_first (Some x) place e is none = absurd (false≢true (sym (ap is_none is) ∙ none))
 
@@ -142,7 +142,7 @@ module _ (t : InputSectionTable) (before : List IndexedSection) (e : IndexedSect
   none_added none = record {
     long = was.long;
     firsts = λ at l.
-        was.firsts at l ∙ ap (option_map place_of) (sym (other at (ap (is_number at) none)));
+        was.firsts at l ∙ ap (option_map address_of_entry) (sym (other at (ap (is_number at) none)));
   }
 
   module _ (own_at : ℕ) (number : number_of t e.object e.part ≡ Some own_at) (below : own_at < len_of t) where
@@ -152,7 +152,8 @@ module _ (t : InputSectionTable) (before : List IndexedSection) (e : IndexedSect
     own : firsts_now own_at ≡ option_or (firsts_before own_at) (Some e)
     own = tested own_at true (ap (is_number own_at) number ∙ eq-eqb own_at own_at refl)
 
-    place_is : (o : Option SectionAddress) → o ≡ get_or old own_at o → o ≡ option_map place_of (firsts_before own_at)
+    place_is : (o : Option SectionAddress) → o ≡ get_or old own_at o → o
+        ≡ option_map address_of_entry (firsts_before own_at)
     place_is o is = is ∙ get_or_default old own_at o None (omega (arith, was.long, below)) ∙ was.firsts own_at below
 
     -- after a later one of a number
@@ -160,7 +161,7 @@ module _ (t : InputSectionTable) (before : List IndexedSection) (e : IndexedSect
         → IsColumn t (before ++ e ∷ []) old
     later_added o is some = record {
       long = was.long;
-      firsts = λ at l. was.firsts at l ∙ ap (option_map place_of) (⊎_elim
+      firsts = λ at l. was.firsts at l ∙ ap (option_map address_of_entry) (⊎_elim
           (λ (same : at ≡ own_at). subst (λ i. firsts_before i ≡ firsts_now i) (sym same)
           (sym (own ∙ kept_first (firsts_before own_at) o e (place_is o is) some)))
           (λ (ne : at ≢ own_at). sym (others at ne))
@@ -169,17 +170,17 @@ module _ (t : InputSectionTable) (before : List IndexedSection) (e : IndexedSect
 
     -- after the first one of a number
     pub first_added : (o : Option SectionAddress) → o ≡ get_or old own_at o → is_none o ≡ true
-        → IsColumn t (before ++ e ∷ []) (set old own_at (Some e.place))
+        → IsColumn t (before ++ e ∷ []) (set old own_at (Some e.address))
     first_added o is none = record {
-      long = length-set old own_at (Some e.place) ∙ was.long;
+      long = length-set old own_at (Some e.address) ∙ was.long;
       firsts = λ at l. ⊎_elim
-          (λ (same : at ≡ own_at). subst (λ i. get_or (set old own_at (Some e.place)) i None
-          ≡ option_map place_of (firsts_now i)) (sym same)
-          (get_or-set_same old own_at (Some e.place) None (omega (arith, was.long, below))
-          ∙ ap (option_map place_of) (sym (own
+          (λ (same : at ≡ own_at). subst (λ i. get_or (set old own_at (Some e.address)) i None
+          ≡ option_map address_of_entry (firsts_now i)) (sym same)
+          (get_or-set_same old own_at (Some e.address) None (omega (arith, was.long, below))
+          ∙ ap (option_map address_of_entry) (sym (own
           ∙ new_first (firsts_before own_at) o e (place_is o is) none))))
-          (λ (ne : at ≢ own_at). get_or-set_other old own_at at (Some e.place) None ne ∙ was.firsts at l
-          ∙ ap (option_map place_of) (sym (others at ne)))
+          (λ (ne : at ≢ own_at). get_or-set_other old own_at at (Some e.address) None ne ∙ was.firsts at l
+          ∙ ap (option_map address_of_entry) (sym (others at ne)))
           (cases_eq at own_at);
     }
 

@@ -8,7 +8,7 @@ use Rattle.std.specs.Prelude.{min, nat_lt}
 use Rattle.elfobj.specs.declared.section.SectionIndex.{SectionIndex}
 use Rattle.ldmodel.specs.declared.names.ObjectPlace.{ObjectPlace}
 use Rattle.gather.specs.SectionTable.{slots_at}
-use Rattle.place.specs.IndexedLayout.{place_in, table_key}
+use Rattle.place.specs.IndexedLayout.{address_in, table_key}
 use Rattle.place.specs.declared.indexed_layout.IndexedLayout.{IndexedLayout}
 use Rattle.place.specs.declared.indexed_layout.SectionAddress.{SectionAddress}
 
@@ -55,7 +55,7 @@ module _ (x : IndexedLayout) (object : ObjectPlace) (number : SectionIndex) wher
 
   pub in_range : (from to : ℕ) (s ys : List (Option SectionAddress)) → s ≡ x.addresses.items → from ≡ first
       → to ≡ end x.addresses.items first count → ys ≡ take (to - from) (drop from s) → length ys + from ≡ to
-      → get_or ys number.0 None ≡ place_in x (table_key object number)
+      → get_or ys number.0 None ≡ address_in x (table_key object number)
   in_range from to s ys same begin stop is long =
       in_part x.addresses.items first count number.0 ys
       (is ∙ ap (λ (l : List (Option SectionAddress)). take (to - from) (drop from l)) same
@@ -66,7 +66,7 @@ module _ (x : IndexedLayout) (object : ObjectPlace) (number : SectionIndex) wher
   -- it is empty where the column ends before it begins
   pub out_of_range : (from to : ℕ) (s : List (Option SectionAddress)) → s ≡ x.addresses.items → from ≡ first
       → to ≡ end x.addresses.items first count → (to < from) ⊎ (length s < to)
-      → get_or {A = Option SectionAddress} [] number.0 None ≡ place_in x (table_key object number)
+      → get_or {A = Option SectionAddress} [] number.0 None ≡ address_in x (table_key object number)
   out_of_range from to s same begin stop (inl h) =
       in_none x.addresses.items first count number.0 (omega (arith, h, begin, stop))
   out_of_range from to s same begin stop (inr h) =

@@ -27,7 +27,7 @@ use Rattle.place.specs.Entries.{all_entries, entry_of, is_part_of, row_entries}
 use Rattle.place.specs.LinkLayout.{IsLinkLayout}
 use Rattle.place.specs.InPlace.{AreInPlace, IsOwned, entries_of}
 use Rattle.gather.specs.SectionTable.{IsTableOf}
-use Rattle.place.specs.IndexedLayout.{IsIndexedLayout, IsSectionAddress, place_in}
+use Rattle.place.specs.IndexedLayout.{IsIndexedLayout, IsSectionAddress, address_in}
 use Rattle.place.specs.declared.indexed_section.IndexedSection.{IndexedSection}
 use Rattle.place.specs.declared.indexed_layout.SectionAddress.{SectionAddress}
 use Rattle.place.specs.declared.indexed_layout.IndexedLayout.{IndexedLayout}
@@ -59,7 +59,7 @@ module _ (p : Project) (distinct : AreNamesDistinct p.objects) (k : SectionKey) 
   place_at n y = place_with n y.start y.piece.size
 
   abbrev place_of : IndexedSection → SectionAddress
-  place_of e = e.place
+  place_of e = e.address
 
   -- the first of a row
   in_row : (n : ℕ) (row : List Piece) (ys : List PlacedPiece) (more : List ℕ)
@@ -203,11 +203,11 @@ all_places p s starts x distinct apart placed begin table rows link_layout numbe
       apart = apart;
     }
   where
-    same : (k : SectionKey) → place_in x k
-        ≡ option_map (λ (e : IndexedSection). e.place)
+    same : (k : SectionKey) → address_in x k
+        ≡ option_map (λ (e : IndexedSection). e.address)
         (find (is_part_of k.object.0 k.part) (all_entries 0 x.rows.items (flat_map starts_of s.sections)))
     same k =
         has_first p (all_entries 0 x.rows.items starts) x.table x.addresses.items table numbers column k.object.0
         k.part
-        ∙ ap (λ xs. option_map (λ (e : IndexedSection). e.place)
+        ∙ ap (λ xs. option_map (λ (e : IndexedSection). e.address)
         (find (is_part_of k.object.0 k.part) (all_entries 0 x.rows.items xs))) begin

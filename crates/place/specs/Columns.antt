@@ -20,15 +20,15 @@ abbrev pub has_number : InputSectionTable → ℕ → IndexedSection → Bool
 has_number t at e = is_number at (number_of t e.object e.part)
 
 -- where an input section stands
-abbrev pub place_of : IndexedSection → SectionAddress
-place_of e = e.place
+abbrev pub address_of_entry : IndexedSection → SectionAddress
+address_of_entry e = e.address
 
 -- a column has for each number the place of the first entry of it
 pub record IsColumn (t : InputSectionTable) (entries : List IndexedSection) (places : List (Option SectionAddress))
     : Type 0 where
   pub long : length places ≡ len_of t
   pub firsts : (at : ℕ) → at < len_of t
-      → slice_index_or places at None ≡ option_map place_of (find (has_number t at) entries)
+      → slice_index_or places at None ≡ option_map address_of_entry (find (has_number t at) entries)
 
 -- a column of some entries becomes one of these too
 abbrev pub AddsEntries : InputSectionTable → (old new : List (Option SectionAddress)) → List IndexedSection → Type 0

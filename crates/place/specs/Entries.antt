@@ -16,7 +16,7 @@ abbrev pub entry_of : ℕ → Piece × ℕ → IndexedSection
 entry_of section x = record {
   object = x.0.section.object.0;
   part = x.0.section.part;
-  place = record { start = x.1; size = x.0.size; section = record { 0 = section } };
+  address = record { start = x.1; size = x.0.size; section = record { 0 = section } };
 }
 
 abbrev pub row_entries : ℕ → List Piece → List ℕ → List IndexedSection

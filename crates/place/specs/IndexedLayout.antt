@@ -34,16 +34,16 @@ IsSectionAddress project layout k (Some x) =
     ≡ Some x.size)
 
 -- what stands under a number
-abbrev pub place_under : IndexedLayout → ℕ → Option SectionAddress
-place_under x at = slice_index_or x.addresses.items at None
+abbrev pub address_under : IndexedLayout → ℕ → Option SectionAddress
+address_under x at = slice_index_or x.addresses.items at None
 
 -- where a part of object number n stands
 abbrev pub part_in : IndexedLayout → ℕ → Part → Option SectionAddress
-part_in x n part = option_and_then (place_under x) (number_of x.table n part)
+part_in x n part = option_and_then (address_under x) (number_of x.table n part)
 
 -- where an input section stands
-abbrev pub place_in : IndexedLayout → SectionKey → Option SectionAddress
-place_in x k = part_in x k.object.0 k.part
+abbrev pub address_in : IndexedLayout → SectionKey → Option SectionAddress
+address_in x k = part_in x k.object.0 k.part
 
 -- the key of a section of an object by its header number
 abbrev pub table_key : ObjectPlace → SectionIndex → SectionKey
@@ -55,5 +55,5 @@ pub record IsIndexedLayout (project : Project) (layout : Layout) (x : IndexedLay
   pub table : IsTableOf project x.table
   pub rows : rows_in project x.rows.items ≡ model.rows project
   pub link_layout : IsLinkLayout project layout x.link_layout
-  pub places : (k : SectionKey) → IsSectionAddress project layout k (place_in x k)
+  pub places : (k : SectionKey) → IsSectionAddress project layout k (address_in x k)
   pub apart : AreInPlace project layout

@@ -31,7 +31,7 @@ fn add_entry(
     let at = number.0 as usize;
     // each section is in one row, once, but the contract does not say so
     if column[at].is_none() {
-        column[at] = Some(entry.place);
+        column[at] = Some(entry.address);
     }
 }
 
@@ -52,7 +52,7 @@ fn add_row(
         let entry = IndexedSection {
             object: piece.section.object.0,
             part: piece.section.part,
-            place: SectionAddress {
+            address: SectionAddress {
                 start: *start,
                 size: piece.size,
                 section,

@@ -50,8 +50,8 @@ pub struct IndexedLayout {
 
 impl IndexedLayout {
     ghost use Rattle.place.specs.IndexedLayout.{IsIndexedLayout, IsSectionAddress, linked_in, linked_of, part_in};
-    ghost use Rattle.place.specs.IndexedLayout.{place_in};
-    ghost use Rattle.place.specs.IndexedLayout.{place_under};
+    ghost use Rattle.place.specs.IndexedLayout.{address_in};
+    ghost use Rattle.place.specs.IndexedLayout.{address_under};
     ghost use Rattle.place.specs.IndexedLayout.{table_key};
 
     /// The addresses of the input sections of these rows, under their numbers.
@@ -103,7 +103,7 @@ impl IndexedLayout {
     /// without an address, or past the end of the list, is not in the output. The time is constant.
     pub fn addresses_of(&self, object: ObjectPlace) -> &[Option<SectionAddress>]
         ensures are { (number : SectionIndex) → slice_index_or result.now number.0 None
-            ≡ place_in self.now (table_key object number) }
+            ≡ address_in self.now (table_key object number) }
         ensures places { (project : Project) (layout : Layout) (number : SectionIndex)
             → IsIndexedLayout project layout self.now → IsSectionAddress project layout (table_key object number)
             (slice_index_or result.now number.0 None) }
@@ -119,7 +119,7 @@ impl IndexedLayout {
     /// The address of the input section with this number, if it is in the output. The time is constant.
     #[inline]
     pub fn at(&self, id: SectionNumber) -> Option<SectionAddress>
-        ensures { result ≡ place_under self.now id.0 }
+        ensures { result ≡ address_under self.now id.0 }
     {
         self.addresses.get(id.0 as usize).copied().unwrap_or(None)
     }
@@ -137,7 +137,7 @@ impl IndexedLayout {
     /// it is logarithmic in the number of common blocks.
     #[inline]
     pub fn find(&self, section: SectionKey) -> Option<SectionAddress>
-        ensures is { result ≡ place_in self.now section }
+        ensures is { result ≡ address_in self.now section }
         ensures place { (project : Project) (layout : Layout) → IsIndexedLayout project layout self.now
             → IsSectionAddress project layout section result }
     {

@@ -1,9 +1,9 @@
-//! Input sections with their places.
+//! Input sections with their addresses.
 
 use crate::indexed_layout::SectionAddress;
 use ldmodel::sections::Part;
 
-/// An input section and its place.
+/// An input section and its address.
 #[derive(Clone, Copy)]
 pub(crate) struct IndexedSection {
     /// The number of its object.
@@ -11,5 +11,5 @@ pub(crate) struct IndexedSection {
     /// Which part of the object it is.
     pub(crate) part: Part,
     /// Its address.
-    pub(crate) place: SectionAddress,
+    pub(crate) address: SectionAddress,
 }

@@ -9,7 +9,7 @@ ghost use Rattle.ldmodel_project.specs.ByPlace.{rows_in};
 ghost use Rattle.elfobj.specs.Raised.{raised};
 ghost use Rattle.elfobj.specs.declared.meter.Count.TheVariants.{Pieces};
 ghost use Rattle.place_sections.specs.Counted.{CountsPieces, entries, first_of, placed_from};
-ghost use Rattle.place_sections.specs.Kept.{IsKept};
+ghost use Rattle.place_sections.specs.Resumable.{IsResumable};
 ghost use Rattle.place_terms.specs.ProvidedTable.{provided_names};
 ghost use Rattle.place_sections.specs.Outcomes as outcomes;
 
@@ -95,7 +95,7 @@ fn place_rows(
     requires project { project.now ≡ lent }
     requires in_force { provided_names lent.script in_force.now ≡ provided lent }
     requires rows { rows_in lent rows.now ≡ model.rows lent }
-    requires kept { IfSome kept (λ k. IsKept lent.script (model.rows lent) k.placement.now k.first_row) }
+    requires kept { IfSome kept (λ k. IsResumable lent.script (model.rows lent) k.placement.now k.first_row) }
     ensures good { IfOk result (λ l. HasPlaces lent l) }
     ensures faulty { IfErr result (λ f. IsWhy lent f) }
     ensures counted { CountsPieces meter.old meter.new (entries 0 (map (λ v. v.items) rows.now)) }
@@ -132,7 +132,7 @@ impl LinkLayout {
         requires in_force { provided_names project.now.script in_force.now ≡ provided project.now }
         requires rows { rows_in project.now rows.now ≡ model.rows project.now }
         requires kept { IfSome kept (λ k.
-            IsKept project.now.script (model.rows project.now) k.placement.now k.first_row) }
+            IsResumable project.now.script (model.rows project.now) k.placement.now k.first_row) }
         ensures good { IfOk result (λ l. HasLayout project.now l) }
         ensures faulty { IfErr result (λ f. IsWhy project.now f) }
         ensures counted { CountsPieces meter.old meter.new (entries 0 (map (λ v. v.items) rows.now)) }

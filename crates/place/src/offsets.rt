@@ -34,33 +34,33 @@ fn is_last(segment: &Segment, section: &Placed) -> bool
 
 /// Where an output section begins in the file, and the number of the segment that the next one is looked for in.
 #[derive(Clone, Copy)]
-struct FilePlace {
+struct NextOffset {
     offset: u128,
     segment: usize,
 }
 
 /// The file offset of an output section, and the segment to try for the next one. An empty section has offset 0; any
 /// other is in segment `number`.
-fn step(segments: &[Segment], number: usize, section: &Placed) -> FilePlace
+fn step(segments: &[Segment], number: usize, section: &Placed) -> NextOffset
     requires { HaveRoom segments.now }
     ensures { (qs : List Placed) → offsets_in (section.now ∷ qs) (drop number segments.now)
         ≡ result.offset ∷ offsets_in qs (drop result.segment segments.now) }
 {
     if section.size == 0 {
-        return FilePlace {
+        return NextOffset {
             offset: 0,
             segment: number,
         };
     }
     match segments.get(number) {
-        None => FilePlace {
+        None => NextOffset {
             offset: 0,
             segment: number,
         },
         Some(segment) => {
             let offset = offset_at(segment, section);
             let last = is_last(segment, section);
-            FilePlace {
+            NextOffset {
                 offset,
                 segment: if last { number + 1 } else { number },
             }

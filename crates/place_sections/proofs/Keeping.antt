@@ -21,7 +21,7 @@ use Rattle.place_sections.specs.Boundaries.{data_in, AreBoundariesOf}
 use Rattle.place_sections.specs.Alongside.{ScriptAlongside}
 use Rattle.place_sections.specs.PreviousPlacement.{EarlierScript, Same}
 use Rattle.place_sections.specs.Inputs.{rows_of}
-use Rattle.place_sections.specs.Kept.{IsKept}
+use Rattle.place_sections.specs.Resumable.{IsResumable}
 use Rattle.place_sections.specs.Leads.{Keeps, Leads, counts_of}
 use Rattle.place_sections.specs.Places.{Places}
 use Rattle.place_sections.specs.declared.script.Input.{Input}
@@ -33,7 +33,7 @@ whole_run rows provided script = refl
 
 -- with a placement that is kept there is a previous layout, with the PROVIDEs that were in force
 module _ (n : Naming) (i : Input) (script : List Statement) (p : Places) (first : ℕ) (numbers : List DirectiveIndex)
-    (k : IsKept script (rows_of n i) p first) (a : Keeps p first numbers i.kept) where
+    (k : IsResumable script (rows_of n i) p first) (a : Keeps p first numbers i.kept) where
   same_rows : Same i.kept.first k.earlier (rows_of n i)
   same_rows j h = k.same j (subst (λ m. j < m) a.first_is h)
 

@@ -15,7 +15,7 @@ pub mod Taken
 pub mod Heads
 pub mod Ends
 pub mod Counted
-pub mod Kept
+pub mod Resumable
 pub mod Leads
 pub mod PreviousPlacement
 pub mod Alongside

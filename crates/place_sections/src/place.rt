@@ -5,7 +5,7 @@ ghost use Rattle.elfobj.specs.Raised.{raised};
 ghost use Rattle.place_terms.specs.Naming.{Naming, rows_named};
 ghost use Rattle.place_terms.specs.ProvidedTable.{provided_names};
 ghost use Rattle.place_sections.specs.Counted.{CountsPieces, entries, first_of, placed_from};
-ghost use Rattle.place_sections.specs.Kept.{IsKept};
+ghost use Rattle.place_sections.specs.Resumable.{IsResumable};
 ghost use Rattle.place_sections.specs.Outcomes.{IsGood, IsWhy, Stops};
 ghost use Rattle.place_sections.specs.Places.{IsPlacement};
 
@@ -85,10 +85,10 @@ fn lay_out(
 ) -> Result<Placement, PlaceFault>
     ghost naming: { Naming }
     requires kept { IfSome kept (λ k.
-        IsKept script.now (rows_named naming (map (λ v. v.items) rows.now)) k.placement.now k.first_row) }
+        IsResumable script.now (rows_named naming (map (λ v. v.items) rows.now)) k.placement.now k.first_row) }
     ensures counted { CountsPieces meter.old meter.new (entries 0 (map (λ v. v.items) rows.now)) }
     ensures resumed { IfOk result (λ _. IfSome kept.entry (λ k.
-        IsKept script.now (rows_named naming (map (λ v. v.items) rows.now)) k.placement.now k.first_row
+        IsResumable script.now (rows_named naming (map (λ v. v.items) rows.now)) k.placement.now k.first_row
         → CountsPieces meter.old meter.new (entries k.first_row (map (λ v. v.items) rows.now)))) }
     ensures exact { IfOk result (λ p. meter.new
         ≡ raised meter.old Count.Pieces (placed_from (first_of kept.entry) p.counts)) }
@@ -146,10 +146,10 @@ pub fn place(
 ) -> Result<Placement, PlaceFault>
     ghost naming: { Naming }
     requires kept { IfSome kept (λ k.
-        IsKept script.now (rows_named naming (map (λ v. v.items) rows.now)) k.placement.now k.first_row) }
+        IsResumable script.now (rows_named naming (map (λ v. v.items) rows.now)) k.placement.now k.first_row) }
     ensures counted { CountsPieces meter.old meter.new (entries 0 (map (λ v. v.items) rows.now)) }
     ensures resumed { IfOk result (λ _. IfSome kept.entry (λ k.
-        IsKept script.now (rows_named naming (map (λ v. v.items) rows.now)) k.placement.now k.first_row
+        IsResumable script.now (rows_named naming (map (λ v. v.items) rows.now)) k.placement.now k.first_row
         → CountsPieces meter.old meter.new (entries k.first_row (map (λ v. v.items) rows.now)))) }
     ensures exact { IfOk result (λ p. meter.new
         ≡ raised meter.old Count.Pieces (placed_from (first_of kept.entry) p.counts)) }

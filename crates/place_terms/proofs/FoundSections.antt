@@ -31,11 +31,11 @@ use Rattle.place_terms.proofs.Counting.{data_grow, starts_grow}
 use Rattle.place_terms.specs.Wholes.{all_data_in, starts_in}
 use Rattle.place_terms.specs.Keyed.{KeyedSection, section_of}
 use Rattle.place_terms.specs.SectionTable.{both, keyed, keyed_taken, section_names, nameless, difference_by}
-use Rattle.place_terms.specs.SectionTable.{AreSectionsOf, Fits, IsKeptAt}
+use Rattle.place_terms.specs.SectionTable.{AreSectionsOf, Fits, IsDifferenceSlot}
 use Rattle.place_terms.specs.Tables.{AreInOrder}
 use Rattle.place_terms.specs.declared.sections.Closed.{Closed}
-use Rattle.place_terms.specs.declared.sections.DifferencePlace.{DifferencePlace}
-use Rattle.place_terms.specs.declared.sections.DifferencePlace.TheVariants.{Elsewhere, At, Nowhere}
+use Rattle.place_terms.specs.declared.sections.DifferenceSlot.{DifferenceSlot}
+use Rattle.place_terms.specs.declared.sections.DifferenceSlot.TheVariants.{Elsewhere, At, Nowhere}
 use Rattle.place_terms.specs.declared.previous_layout.ReusedOutput.{ReusedOutput}
 
 abbrev placed_under : List KeyedSection → List ℕ → Option Placed
@@ -190,7 +190,8 @@ next_number script before xs placed v output e sound next =
     output_number script (length xs) output sound
     (subst (λ (w : Outputs). IsOutput w.script (length w.list) output) (sym e) next)
 
-kept_elsewhere : (script : List Statement) (n : ℕ) (region : Option (List ℕ)) → IsKeptAt script n region Elsewhere
+kept_elsewhere : (script : List Statement) (n : ℕ) (region : Option (List ℕ))
+    → IsDifferenceSlot script n region Elsewhere
     → region ≡ None
 kept_elsewhere script n None at = refl
 kept_elsewhere script n (Some name) at = absurd at
@@ -201,7 +202,7 @@ record KeptIn (script : List Statement) (n : ℕ) (region : Option (List ℕ)) (
   number_is : region_number script name ≡ Some j
   within : j < n
 
-kept_in : (script : List Statement) (n : ℕ) (region : Option (List ℕ)) (j : ℕ) → IsKeptAt script n region (At j)
+kept_in : (script : List Statement) (n : ℕ) (region : Option (List ℕ)) (j : ℕ) → IsDifferenceSlot script n region (At j)
     → KeptIn script n region j
 kept_in script n None j at = absurd at
 kept_in script n (Some name) j at = record { name = name; region_is = refl; number_is = at.0; within = at.1 }
@@ -211,7 +212,7 @@ record KeptNowhere (script : List Statement) (n : ℕ) (region : Option (List �
   region_is : region ≡ Some name
   past : (k : ℕ) → region_number script name ≡ Some k → n ≤ k
 
-kept_nowhere : (script : List Statement) (n : ℕ) (region : Option (List ℕ)) → IsKeptAt script n region Nowhere
+kept_nowhere : (script : List Statement) (n : ℕ) (region : Option (List ℕ)) → IsDifferenceSlot script n region Nowhere
     → KeptNowhere script n region
 kept_nowhere script n None at = absurd at
 kept_nowhere script n (Some name) at = record { name = name; region_is = refl; past = at }
@@ -253,10 +254,11 @@ module _ (script : List Statement) (xs : List KeyedSection) (x : KeyedSection) (
             ap (section_number script) (get_or-append (section_names xs) (x.name ∷ []) [] k below) ∙ o.order k below
 
     -- a section that names no region
-    pub pushed_elsewhere : (n : ℕ) (p : DifferencePlace) → n ≡ length ds → p ≡ Elsewhere → IsKeptAt script n x.region p
+    pub pushed_elsewhere : (n : ℕ) (p : DifferenceSlot) → n ≡ length ds → p ≡ Elsewhere
+        → IsDifferenceSlot script n x.region p
         → AreSectionsOf script (xs ++ x ∷ []) ds (difference_of (section_of nameless x)) more more_data
     pushed_elsewhere n p long is at =
-        let none = kept_elsewhere script n x.region (subst (IsKeptAt script n x.region) is at) in record {
+        let none = kept_elsewhere script n x.region (subst (IsDifferenceSlot script n x.region) is at) in record {
           order = order_more;
           differences_of = λ name k e l. o.differences_of name k e l
               ∙ sym (difference_other xs x (Some name) (ap (λ r. same_region r (Some name)) none));
@@ -287,10 +289,11 @@ module _ (script : List Statement) (xs : List KeyedSection) (x : KeyedSection) (
             o.differences_of name k e h
             ∙ sym (difference_other xs x (Some name) (ap (λ r. same_region r (Some name)) some ∙ other))
 
-    pub pushed_nowhere : (n : ℕ) (p : DifferencePlace) → n ≡ length ds → p ≡ Nowhere → IsKeptAt script n x.region p
+    pub pushed_nowhere : (n : ℕ) (p : DifferenceSlot) → n ≡ length ds → p ≡ Nowhere
+        → IsDifferenceSlot script n x.region p
         → AreSectionsOf script (xs ++ x ∷ []) ds elsewhere more more_data
     pushed_nowhere n p long is at =
-        let u = kept_nowhere script n x.region (subst (IsKeptAt script n x.region) is at) in
+        let u = kept_nowhere script n x.region (subst (IsDifferenceSlot script n x.region) is at) in
         named_nowhere u.name u.region_is (λ k e. subst (λ m. m ≤ k) long (u.past k e))
 
     -- a section that names a region
@@ -325,9 +328,9 @@ module _ (script : List Statement) (xs : List KeyedSection) (x : KeyedSection) (
             ∙ (o.differences_of name k e h
             ∙ sym (difference_other xs x (Some name) (ap (λ r. same_region r (Some name)) some ∙ other)))
 
-    pub pushed_in : (j n : ℕ) (p : DifferencePlace) → n ≡ length ds → p ≡ At j → IsKeptAt script n x.region p
+    pub pushed_in : (j n : ℕ) (p : DifferenceSlot) → n ≡ length ds → p ≡ At j → IsDifferenceSlot script n x.region p
         → AreSectionsOf script (xs ++ x ∷ []) (set ds j (difference_of
         (section_of nameless x))) elsewhere more more_data
     pushed_in j n p long is at =
-        let k = kept_in script n x.region j (subst (IsKeptAt script n x.region) is at) in
+        let k = kept_in script n x.region j (subst (IsDifferenceSlot script n x.region) is at) in
         named_in k.name j k.region_is k.number_is (subst (λ m. j < m) long k.within)

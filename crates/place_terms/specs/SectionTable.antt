@@ -11,8 +11,8 @@ use Rattle.place_terms.specs.Tables.{AreInOrder}
 use Rattle.place_terms.specs.Wholes.{all_data_in, starts_in}
 use Rattle.place_terms.specs.declared.sections.Closed.{Closed}
 use Rattle.place_terms.specs.declared.sections.PieceAt.{PieceAt}
-use Rattle.place_terms.specs.declared.sections.DifferencePlace.{DifferencePlace}
-use Rattle.place_terms.specs.declared.sections.DifferencePlace.TheVariants.{Elsewhere, At, Nowhere}
+use Rattle.place_terms.specs.declared.sections.DifferenceSlot.{DifferenceSlot}
+use Rattle.place_terms.specs.declared.sections.DifferenceSlot.TheVariants.{Elsewhere, At, Nowhere}
 use Rattle.place_terms.specs.declared.previous_layout.ReusedOutput.{ReusedOutput}
 use Rattle.ldmodel.specs.declared.rows.Piece as rows
 
@@ -70,13 +70,13 @@ Ends sections = All (λ (x : KeyedSection). Fits x) sections
 
 -- the difference of a region is kept at the place of its number in a table, if the table has that place; that of no
 -- region elsewhere
-abbrev pub IsKeptAt : List Statement → ℕ → Option (List ℕ) → DifferencePlace → Type 0
-IsKeptAt script count None Elsewhere = ⊤
-IsKeptAt script count None (At k) = ⊥
-IsKeptAt script count None Nowhere = ⊥
-IsKeptAt script count (Some name) Elsewhere = ⊥
-IsKeptAt script count (Some name) (At k) = (region_number script name ≡ Some k) × (k < count)
-IsKeptAt script count (Some name) Nowhere = (k : ℕ) → region_number script name ≡ Some k → count ≤ k
+abbrev pub IsDifferenceSlot : List Statement → ℕ → Option (List ℕ) → DifferenceSlot → Type 0
+IsDifferenceSlot script count None Elsewhere = ⊤
+IsDifferenceSlot script count None (At k) = ⊥
+IsDifferenceSlot script count None Nowhere = ⊥
+IsDifferenceSlot script count (Some name) Elsewhere = ⊥
+IsDifferenceSlot script count (Some name) (At k) = (region_number script name ≡ Some k) × (k < count)
+IsDifferenceSlot script count (Some name) Nowhere = (k : ℕ) → region_number script name ≡ Some k → count ≤ k
 
 -- the sections stand under their numbers, their ends are addresses, the differences under those of their regions, and
 -- their input sections and data commands are counted

@@ -10,7 +10,7 @@ ghost use Rattle.place_terms.specs.PreviousLayout.{earlier_of, IsWithTaken};
 ghost use Rattle.place_terms.specs.Keyed.{KeyedSection};
 ghost use Rattle.place_terms.specs.Outputs.{HasNext, IsOutput};
 ghost use Rattle.place_terms.specs.SectionTable.{both, keyed, difference_by, section_names};
-ghost use Rattle.place_terms.specs.SectionTable.{Ends, Fits, IsKeptAt};
+ghost use Rattle.place_terms.specs.SectionTable.{Ends, Fits, IsDifferenceSlot};
 ghost use Rattle.place_terms.specs.Tables.{AreInOrder};
 ghost use Rattle.place_terms.specs.Wholes.{all_data_in, counts_in, placed_in, starts_in};
 
@@ -152,7 +152,7 @@ fn placed_at(taken: &[ReusedOutput<'_>], list: &[Closed<'_>], number: usize) -> 
 
 /// Where the difference of an output section is kept.
 #[derive(Clone, Copy)]
-enum DifferencePlace {
+enum DifferenceSlot {
     /// Beside the table: the output section names no region.
     Elsewhere,
     /// In the table, under the number of the region.
@@ -162,20 +162,20 @@ enum DifferencePlace {
 }
 
 /// Where the difference of an output section is kept, beside or in a table of `count` differences.
-fn kept_at(script: &Script, count: usize, output: &OutputSection) -> DifferencePlace
-    ensures { IsKeptAt script.now count output.now.region result }
+fn difference_slot(script: &Script, count: usize, output: &OutputSection) -> DifferenceSlot
+    ensures { IsDifferenceSlot script.now count output.now.region result }
 {
     match &output.region {
-        None => DifferencePlace::Elsewhere,
+        None => DifferenceSlot::Elsewhere,
         Some(region) => match script.region_number(region.as_bytes()) {
             Some(number) => {
                 if number < count {
-                    DifferencePlace::At(number)
+                    DifferenceSlot::At(number)
                 } else {
-                    DifferencePlace::Nowhere
+                    DifferenceSlot::Nowhere
                 }
             }
-            None => DifferencePlace::Nowhere,
+            None => DifferenceSlot::Nowhere,
         },
     }
 }
@@ -342,7 +342,7 @@ impl<'a> Sections<'a> {
     {
         // for the prover: brings in the invariant of `self.script`
         let _statements = self.script.statements();
-        let kept_at = kept_at(self.script, self.differences.len(), section.output);
+        let difference_slot = difference_slot(self.script, self.differences.len(), section.output);
         let difference = section.placed.start.wrapping_sub(section.placed.load);
         let count = sum(self.count, section.pieces.len())?;
         let data_count = sum(self.data_count, section.data_commands.len())?;
@@ -351,10 +351,10 @@ impl<'a> Sections<'a> {
         self.list.push(section)?;
         self.count = count;
         self.data_count = data_count;
-        match kept_at {
-            DifferencePlace::Elsewhere => self.elsewhere = difference,
-            DifferencePlace::At(number) => self.differences[number] = difference,
-            DifferencePlace::Nowhere => {}
+        match difference_slot {
+            DifferenceSlot::Elsewhere => self.elsewhere = difference,
+            DifferenceSlot::At(number) => self.differences[number] = difference,
+            DifferenceSlot::Nowhere => {}
         }
         Ok(())
     }
@@ -390,17 +390,17 @@ impl<'a> Sections<'a> {
         else {
             return Ok(false);
         };
-        let kept_at = kept_at(self.script, self.differences.len(), output);
+        let difference_slot = difference_slot(self.script, self.differences.len(), output);
         let difference = section.placed.start.wrapping_sub(section.placed.load);
         let count = self.count + section.starts.len();
         self.taken.push(section)?;
         self.taken_count = count;
         self.count = count;
         self.data_count = data_end;
-        match kept_at {
-            DifferencePlace::Elsewhere => self.elsewhere = difference,
-            DifferencePlace::At(number) => self.differences[number] = difference,
-            DifferencePlace::Nowhere => {}
+        match difference_slot {
+            DifferenceSlot::Elsewhere => self.elsewhere = difference,
+            DifferenceSlot::At(number) => self.differences[number] = difference,
+            DifferenceSlot::Nowhere => {}
         }
         Ok(true)
     }

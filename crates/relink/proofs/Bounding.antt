@@ -26,7 +26,7 @@ use Rattle.ldscript.specs.statements.declared.statement.Statement.{Statement}
 use Rattle.relink_driver.specs.Counted.{IsImageCount}
 use Rattle.relink_driver.specs.Worked.{IsLinkWork, IsWorkBeside}
 use Rattle.relink.specs.Outcome.{is_good, shown}
-use Rattle.relink.specs.PreviousLink.{HasUpdateOutcome, IsCurrent, IsEffect, IsPreviousLink, lent, next_view}
+use Rattle.relink.specs.PreviousLink.{HasUpdateOutcome, IsAnswered, IsEffect, IsPreviousLink, lent, next_view}
 use Rattle.relink.specs.PreviousLink.{origin_of}
 use Rattle.relink.specs.Work.{AreSmall, HasPlacedWork, HasWorked, IsPlacedWork, IsReadingWork, IsWholeWork}
 use Rattle.relink.specs.Work.{LinksNothing, decided_by}
@@ -98,7 +98,7 @@ known_layout : (p : Project) (s t : Layout) → layout p ≡ of_length (image_le
 known_layout p s t is laid =
     ok_of (nat_lt max_image_length (image_length p s)) (ImageTooLong (image_length p s) ∷ []) s t (sym is ∙ laid)
 
-pub current_is : (l : Listing) (bytes : List ℕ) (x : PreviousLink) (p : Project) (s : Layout) (c : IsCurrent l bytes x)
+pub current_is : (l : Listing) (bytes : List ℕ) (x : PreviousLink) (p : Project) (s : Layout) (c : IsAnswered l bytes x)
     → project_of l ≡ p → layout p ≡ Ok s → c.kept.old ≡ (let g : GoodLink = record { project = p; layout = s } in g)
 current_is l bytes x p s c is laid =
     let link_of : Project → Layout → GoodLink = λ q t. record { project = q; layout = t } in
@@ -204,13 +204,13 @@ both_are false b h k = absurd (cc)
 pub linked_work : (h : ProjectState) (s : Staged) (same : Bool) (bytes new : List ℕ) (a : LinkOutcome) (e : EditEffect)
     (previous : Option PreviousLink) (f : UpdateOutcome) (change : Change) (m1 m2 : Counts)
     → IsFollowing h s same bytes a previous e → shown bytes a ≡ link (held h)
-    → HasUpdateOutcome (next_listing h s) (lent previous e.known e h s) bytes new f
-    → HasWorked (project_of (next_listing h s)) (lent previous e.known e h s) m1 m2 f
+    → HasUpdateOutcome (next_listing h s) (lent previous e.puts_none e h s) bytes new f
+    → HasWorked (project_of (next_listing h s)) (lent previous e.puts_none e h s) m1 m2 f
     → m1.pieces < 2 ^ 64 → m1.fields < 2 ^ 64 → m1.bytes < 2 ^ 64 → LeavesScript change s
     → HasPlacedWork (held h) change (project_of (next_listing h s)) m1 m2
 linked_work h s same bytes new a e previous f change m1 m2 given answers updated worked few_pieces few_fields few_bytes
     leaves =
-    between a previous f e.known refl given.effect given.kept answers updated worked
+    between a previous f e.puts_none refl given.effect given.kept answers updated worked
   where
     p : Project
     p = held h
@@ -218,7 +218,7 @@ linked_work h s same bytes new a e previous f change m1 m2 given answers updated
     q : Project
     q = project_of (next_listing h s)
 
-    next_of : (m : _) (x : PreviousLink) (c : IsCurrent (listing_of h) bytes x)
+    next_of : (m : _) (x : PreviousLink) (c : IsAnswered (listing_of h) bytes x)
         → IsEffect h s same (outcome.Good m) (Some x) e → s.script ≡ None
         → IsNext c.kept.old.project q (next_view x e h s)
     next_of m x c effect stays =
@@ -231,8 +231,8 @@ linked_work h s same bytes new a e previous f change m1 m2 given answers updated
         (from_edit h s same x e effect.lost) refl
 
     -- over the previous link, whatever is kept of this one
-    over_last : (m : _) (x : PreviousLink) (kept : IsCurrent (listing_of h) bytes x)
-        → e.known ≡ true → IsEffect h s same (outcome.Good m) (Some x) e
+    over_last : (m : _) (x : PreviousLink) (kept : IsAnswered (listing_of h) bytes x)
+        → e.puts_none ≡ true → IsEffect h s same (outcome.Good m) (Some x) e
         → IsWorkBeside q (Some (next_view x e h s)) m1 m2 → (t u : Layout)
         → layout p ≡ Ok t → layout q ≡ Ok u
         → IsPlacedWork (record { project = p; layout = t }) change (record { project = q; layout = u }) m1 m2
@@ -261,7 +261,7 @@ linked_work h s same bytes new a e previous f change m1 m2 given answers updated
         }
 
     between : (b : LinkOutcome) (previous : Option PreviousLink) (f : UpdateOutcome) (known : Bool)
-        → e.known ≡ known → IsEffect h s same b previous e
+        → e.puts_none ≡ known → IsEffect h s same b previous e
         → IsPreviousLink (listing_of h) bytes b previous
         → shown bytes b ≡ link p
         → HasUpdateOutcome (next_listing h s) (lent previous known e h s) bytes new f
@@ -325,8 +325,8 @@ whole_from p change q m0 m1 m2 none placed objects names reading = (
 pub whole_work : (h : ProjectState) (s : Staged) (same : Bool) (bytes new : List ℕ) (a : LinkOutcome) (e : EditEffect)
     (previous : Option PreviousLink) (f : UpdateOutcome) (change : Change)
     (m0 m1 m2 : Counts) → IsFollowing h s same bytes a previous e → shown bytes a ≡ link (held h)
-    → HasUpdateOutcome (next_listing h s) (lent previous e.known e h s) bytes new f
-    → HasWorked (project_of (next_listing h s)) (lent previous e.known e h s) m1 m2 f
+    → HasUpdateOutcome (next_listing h s) (lent previous e.puts_none e h s) bytes new f
+    → HasWorked (project_of (next_listing h s)) (lent previous e.puts_none e h s) m1 m2 f
     → AreSmall m0 → ReadsObjects (objects_read change) m0 m1 → m2.objects ≡ m1.objects
     → m2.names ≡ capped m0.names (length (distinct (decided_by (held h) change (project_of (next_listing h s)))))
     → LeavesScript change s → IsReadingWork (held h) change (project_of (next_listing h s)) m0 m2

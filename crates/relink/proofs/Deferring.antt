@@ -60,7 +60,7 @@ any_last_good false l bytes o previous is = is
 
 -- where the project was not linked before the edit, no image is rewritten in place
 never_rewritten : (h : ProjectState) (s : Staged) (seen : LinkOutcome) (previous : Option PreviousLink) (known : Bool)
-    (e : EditEffect) (new : List ℕ) (v : Vec (Option ℕ) Global) → is_good seen ≡ false → e.is_current ≡ is_good seen
+    (e : EditEffect) (new : List ℕ) (v : Vec (Option ℕ) Global) → is_good seen ≡ false → e.is_answered ≡ is_good seen
     → IsRewrittenBy (next_listing h s) (lent previous known e h s) new v.items → ⊥
 never_rewritten h s seen None known e new v stale answered by =
     let was = by.end.was in let never : ⊥ = cc in never
@@ -68,7 +68,7 @@ never_rewritten h s seen (Some x) false e new v stale answered by =
     let was = by.end.was in let never : ⊥ = cc in never
 never_rewritten h s seen (Some x) true e new v stale answered by =
     let no : false ≡ true =
-    sym stale ∙ (sym answered ∙ (ap (λ (z : PreviousState). z.is_current) (same_Some _ _ by.end.was) ∙ by.end.current))
+    sym stale ∙ (sym answered ∙ (ap (λ (z : PreviousState). z.is_answered) (same_Some _ _ by.end.was) ∙ by.end.current))
     in
     absurd (cc)
 
@@ -76,24 +76,24 @@ module _ (h : ProjectState) (s : Staged) (same : Bool) (bytes new : List ℕ) (s
     (previous : Option PreviousLink) (e : EditEffect) (x : IsFollowing h s same bytes seen previous e) where
   renewed : (is_linked : Bool) (before : LinkOutcome) (later : Option PreviousLink) (v : Vec (Option ℕ) Global)
       → IsSeenAs is_linked before seen → (is_linked ≡ true → shown bytes before ≡ link (held h))
-      → IsRewrittenBy (next_listing h s) (lent previous e.known e h s) new v.items
+      → IsRewrittenBy (next_listing h s) (lent previous e.puts_none e h s) new v.items
       → AreOriginsRefreshed v previous later
       → (shown new before ≡ link (project_of (next_listing h s))) × IsPreviousLink (next_listing h s) new before later
   renewed true before later v like answers by again =
       subst (λ (a : LinkOutcome).
       (shown new a ≡ link (project_of (next_listing h s))) × IsPreviousLink (next_listing h s) new a later) like
-      (renewed_last h s same bytes new seen e previous later e.known v x.edit refl x.kept x.effect
+      (renewed_last h s same bytes new seen e previous later e.puts_none v x.edit refl x.kept x.effect
       (ap (shown bytes) like ∙ answers refl) by again)
   renewed false before later v like answers by again =
-      absurd (never_rewritten h s seen previous e.known e new v like x.effect.answered by)
+      absurd (never_rewritten h s seen previous e.puts_none e new v like x.effect.answered by)
 
   -- what a link over the previous one leads to
   pub updated_over : (f : UpdateOutcome)
-      → HasUpdateOutcome (next_listing h s) (lent previous e.known e h s) bytes new f
+      → HasUpdateOutcome (next_listing h s) (lent previous e.puts_none e h s) bytes new f
       → IsUpdatedOver h s bytes seen previous new f e
   updated_over f updated = λ is_linked before after later like answers end.
-      ended (next_listing h s) (lent previous e.known e h s) bytes new f e previous later before after updated end
-      (λ kept. kept_after_fault h s same bytes seen e x.edit previous kept e.known refl x.kept x.effect)
+      ended (next_listing h s) (lent previous e.puts_none e h s) bytes new f e previous later before after updated end
+      (λ kept. kept_after_fault h s same bytes seen e x.edit previous kept e.puts_none refl x.kept x.effect)
       (λ v by again. renewed is_linked before later v like answers by again)
 
 -- what is known of a staged edit beside the previous link
@@ -112,13 +112,13 @@ staged_following h s same bytes seen previous e l keys staged is found are disti
     distinct placed puts other named effect
 
 -- without a link the previous one stays, but for the object that the edit changes
-pub settled : (h later : ProjectState) (s : Staged) (same : Bool) (bytes : List ℕ) (seen : LinkOutcome)
+pub linked_last : (h later : ProjectState) (s : Staged) (same : Bool) (bytes : List ℕ) (seen : LinkOutcome)
     (previous after : Option PreviousLink) (e : EditEffect) → IsFollowing h s same bytes seen previous e
-    → IsAfterFault e.known e.gone e.same_script previous after → listing_of later ≡ next_listing h s
+    → IsAfterFault e.puts_none e.lost e.same_script previous after → listing_of later ≡ next_listing h s
     → IsLastGood false (listing_of later) bytes seen after
-settled h later s same bytes seen previous after e x fault is =
+linked_last h later s same bytes seen previous after e x fault is =
     subst (λ (l : Listing). IsLastGood false l bytes seen after) (sym is)
-    (kept_after_fault h s same bytes seen e x.edit previous after e.known refl x.kept x.effect fault)
+    (kept_after_fault h s same bytes seen e x.edit previous after e.puts_none refl x.kept x.effect fault)
 
 -- ---- what is kept while an edit is staged
 
@@ -229,7 +229,7 @@ not_rewritten_later : (l : Listing) (previous : Option PreviousLink) (keys : Lis
 not_rewritten_later l None keys new v by =
     let was = by.end.was in let never : ⊥ = cc in never
 not_rewritten_later l (Some x) keys new v by =
-    let no : false ≡ true = ap (λ (z : PreviousState). z.is_current) (same_Some _ _ by.end.was) ∙ by.end.current in
+    let no : false ≡ true = ap (λ (z : PreviousState). z.is_answered) (same_Some _ _ by.end.was) ∙ by.end.current in
     absurd (cc)
 
 pub linked_later : (l : Listing) (keys : List ℕ) (old new : List ℕ) (f : UpdateOutcome)

@@ -15,7 +15,7 @@ use Rattle.ldmodel_project.specs.declared.staged.Staged.{Staged}
 use Rattle.ldmodel_project.specs.declared.staged.StagedObjects.{StagedObjects}
 use Rattle.relink.specs.Change.{IsChange, names_at, names_of_edit, names_of_step}
 use Rattle.relink.specs.Update.{IsUpdated}
-use Rattle.relink.specs.Kept.{IsKept}
+use Rattle.relink.specs.KeptTables.{AreTablesOf}
 use Rattle.relink.specs.PreviousLink.{HasUpdateOutcome}
 use Rattle.relink.specs.Work.{Decides, HasWorked}
 use Rattle.relink.specs.declared.link_tables.LinkTables.{LinkTables}
@@ -40,7 +40,7 @@ names_of_change entries s key x edited is =
 -- a link of the next project follows, over what is kept of that, after its names are decided
 pub is_followed : (h : ProjectState) (s : Staged) (lent : Option PreviousState) (t : LinkTables) (old new : List ℕ)
     (m0 m1 m2 : Counts) (f : UpdateOutcome) (l : Listing) (names : List (List ℕ)) → l ≡ next_listing h s
-    → IsKept (next_listing h s) t.symbol_table t.matches.items → CountsNames m0 m1 names
+    → AreTablesOf (next_listing h s) t.symbol_table t.matches.items → CountsNames m0 m1 names
     → names ≡ names_of_edit h.contents.entries s.objects → HasUpdateOutcome l lent old new f → ReadsNothing m1 m2
     → HasWorked (project_of l) lent m1 m2 f → IsUpdated h s lent t old new m0 m2 f
 is_followed h s lent t old new m0 m1 m2 f l names is kept counted edited updated reads worked = record {

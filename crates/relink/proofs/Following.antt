@@ -13,7 +13,7 @@ use Rattle.gather.specs.declared.matches.Matches.{Matches}
 use Rattle.ldmodel.specs.Names.{symbol_tables}
 use Rattle.ldmodel.specs.Project.{NamedObject, Project}
 use Rattle.symres.specs.decisions.Change.{CanGo, Table, changed_tables, reversed}
-use Rattle.symres.specs.decisions.Decisions.{AreKept}
+use Rattle.symres.specs.decisions.Decisions.{AreDecisionsOf}
 use Rattle.symres.specs.decisions.declared.change.ObjectAt.{ObjectAt}
 use Rattle.symres.specs.decisions.declared.change.ObjectChange.{ObjectChange}
 use Rattle.symres.specs.SymbolTable.{SymbolTableState}
@@ -27,7 +27,7 @@ use Rattle.ldmodel_project.specs.declared.staged.Staged.{Staged}
 use Rattle.ldmodel_project.specs.declared.staged.StagedObjects.{StagedObjects}
 use Rattle.ldscript.specs.statements.declared.statement.Statement.{Statement}
 use Rattle.relink.specs.Change.{IsChange, place_at}
-use Rattle.relink.specs.Kept.{IsKept}
+use Rattle.relink.specs.KeptTables.{AreTablesOf}
 use Rattle.relink.specs.Matches.{IsMatchedOr, Renews, exchanged, gone_at, taken_at}
 use Rattle.relink.proofs.Exchanged.{MayStand, Stands, comes_some, exchanged_back, zip_put, zip_taken}
 use Rattle.relink.proofs.Lists.{zip_length}
@@ -63,7 +63,7 @@ many_tables [] = refl
 many_tables (e ∷ es) = ap suc (many_tables es)
 
 pub stands : (h : ProjectState) (s : Staged) (key : ℕ) (c : ObjectChange) (a : SymbolTableState) (ms : List Matches)
-    → IsChange h.contents.entries s.objects key c → IsKept (listing_of h) a ms → Stands ms (place_at c.out)
+    → IsChange h.contents.entries s.objects key c → AreTablesOf (listing_of h) a ms → Stands ms (place_at c.out)
 stands h s key c a ms is kept =
     stands_out (tables_under h.contents.entries) c.key.0 c.out ms
     (many_tables h.contents.entries
@@ -77,7 +77,7 @@ among_long key place es q h = h.0
 
 pub may_stand : (h : ProjectState) (s : Staged) (key : ℕ) (c : ObjectChange) (a : SymbolTableState) (ms : List Matches)
     → ChangesOneObject h.contents.entries s.objects → edited_key s.objects.step ≡ Some key
-    → IsChange h.contents.entries s.objects key c → IsKept (listing_of h) a ms
+    → IsChange h.contents.entries s.objects key c → AreTablesOf (listing_of h) a ms
     → MayStand ms (place_at c.out) (place_at c.into)
 may_stand h s key c a ms arranged edited is kept =
     subst (λ (q : Option ℕ). MayStand ms (place_at c.out) q) (sym is.after)
@@ -117,10 +117,11 @@ may_stand h s key c a ms arranged edited is kept =
 pub kept_after : (h : ProjectState) (s : Staged) (key : ℕ) (c : ObjectChange) (a b : SymbolTableState)
     (ms : List Matches)
     (coming : Option Matches) → ChangesOneObject h.contents.entries s.objects → EditsOne s
-    → edited_key s.objects.step ≡ Some key → IsChange h.contents.entries s.objects key c → IsKept (listing_of h) a ms
-    → b.kept.names.objects ≡ changed_tables a.kept.names.objects c → AreKept (next_listing h s).script b.kept
+    → edited_key s.objects.step ≡ Some key → IsChange h.contents.entries s.objects key c
+    → AreTablesOf (listing_of h) a ms
+    → b.kept.names.objects ≡ changed_tables a.kept.names.objects c → AreDecisionsOf (next_listing h s).script b.kept
     → IsMatchedOr (next_listing h s).script (found_under (next_entries h.contents.entries s.objects) key) coming
-    → IsKept (next_listing h s) b (exchanged ms (place_at c.out) (place_at c.into) coming)
+    → AreTablesOf (next_listing h s) b (exchanged ms (place_at c.out) (place_at c.into) coming)
 kept_after h s key c a b ms coming arranged one edited is kept objects names comes =
     let entries : List Listed = h.contents.entries in
     let next : List Listed = next_entries entries s.objects in
@@ -168,12 +169,12 @@ pub kept_back : (h : ProjectState) (s : Staged) (key : ℕ) (c : ObjectChange) (
     (ms previous : List
     Matches)
     (coming : Option Matches) → ChangesOneObject h.contents.entries s.objects → edited_key s.objects.step ≡ Some key
-    → IsChange h.contents.entries s.objects key c → IsKept (listing_of h) a ms
+    → IsChange h.contents.entries s.objects key c → AreTablesOf (listing_of h) a ms
     → b.kept.names.objects ≡ changed_tables a.kept.names.objects c
-    → d.kept.names.objects ≡ changed_tables b.kept.names.objects (reversed c) → AreKept h.script d.kept
+    → d.kept.names.objects ≡ changed_tables b.kept.names.objects (reversed c) → AreDecisionsOf h.script d.kept
     → IsMatchedOr (next_listing h s).script (found_under (next_entries h.contents.entries s.objects) key) coming
     → previous ≡ exchanged (exchanged ms (place_at c.out) (place_at c.into) coming) (place_at c.into) (place_at c.out)
-    (gone_at ms (place_at c.out)) → IsKept (listing_of h) d previous
+    (gone_at ms (place_at c.out)) → AreTablesOf (listing_of h) d previous
 kept_back h s key c a b d ms previous coming arranged edited is kept forth back names comes put =
     let entries : List Listed = h.contents.entries in
     let next : List Listed = next_entries entries s.objects in
@@ -226,10 +227,10 @@ matches_renewed h s ms (Some all) arranged edited kept matched = matched
 
 -- what is kept after an edit of the script
 pub kept_scripted : (h : ProjectState) (s : Staged) (a b : SymbolTableState) (ms all : List Matches)
-    → ChangesOneObject h.contents.entries s.objects → edited_key s.objects.step ≡ None → IsKept (listing_of h) a ms
-    → b.kept.names ≡ a.kept.names → AreKept (next_listing h s).script b.kept
+    → ChangesOneObject h.contents.entries s.objects → edited_key s.objects.step ≡ None → AreTablesOf (listing_of h) a ms
+    → b.kept.names ≡ a.kept.names → AreDecisionsOf (next_listing h s).script b.kept
     → AllZip (IsMatched (next_listing h s).script) (objects_of (next_listing h s).entries) all
-    → IsKept (next_listing h s) b all
+    → AreTablesOf (next_listing h s) b all
 kept_scripted h s a b ms all arranged edited kept same names matched = record {
   tables = ap (λ n. n.objects) same
       ∙ (kept.tables ∙ ap tables_under (sym (entries_stay h.contents.entries s.objects arranged edited)));
@@ -240,15 +241,15 @@ kept_scripted h s a b ms all arranged edited kept same names matched = record {
 -- what is kept after an edit of the script, with the matches for the next one
 pub kept_renewed : (h : ProjectState) (s : Staged) (l : Listing) (script : List Statement) (a b : SymbolTableState)
     (ms now : List Matches) (found : Option (Vec Matches Global))
-    → ChangesOneObject h.contents.entries s.objects → edited_key s.objects.step ≡ None → IsKept (listing_of h) a ms
+    → ChangesOneObject h.contents.entries s.objects → edited_key s.objects.step ≡ None → AreTablesOf (listing_of h) a ms
     → l ≡ next_listing h s → script ≡ h.script → Renews script l found → b.kept.names ≡ a.kept.names
-    → AreKept (next_listing h s).script b.kept → now ≡ option_map_or (λ all. all.items) found ms
-    → IsKept (next_listing h s) b now
+    → AreDecisionsOf (next_listing h s).script b.kept → now ≡ option_map_or (λ all. all.items) found ms
+    → AreTablesOf (next_listing h s) b now
 kept_renewed h s l script a b ms now found arranged edited kept next before renews same names is =
     let renewed : Renews h.script (next_listing h s) found =
     subst (λ (x : Listing). Renews h.script x found) next
     (subst (λ (t : List Statement). Renews t l found) before renews) in
-    subst (λ (x : List Matches). IsKept (next_listing h s) b x) (sym is)
+    subst (λ (x : List Matches). AreTablesOf (next_listing h s) b x) (sym is)
     (kept_scripted h s a b ms (option_map_or (λ all. all.items) found ms) arranged edited kept same names
     (matches_renewed h s ms found arranged edited kept.matches renewed))
 
@@ -258,7 +259,7 @@ no_entries [] h = refl
 no_entries (e ∷ es) h = absurd (cc)
 
 pub tables_of_empty : (l : Listing) (a : SymbolTableState) → objects_of l.entries ≡ [] → a.kept.names.objects ≡ []
-    → AreKept l.script a.kept → IsKept l a []
+    → AreDecisionsOf l.script a.kept → AreTablesOf l a []
 tables_of_empty l a none objects names = record {
   tables = objects ∙ ap tables_under (sym (no_entries l.entries none));
   names = names;
@@ -276,7 +277,8 @@ same_held old new same =
 -- names that no object declares may be forgotten
 pub kept_forgetting : (l : Listing) (a b : SymbolTableState) (ms : List Matches)
     → b.kept.names.objects ≡ a.kept.names.objects
-    → ((script : List Statement) → AreKept script a.kept → AreKept script b.kept) → IsKept l a ms → IsKept l b ms
+    → ((script : List Statement) → AreDecisionsOf script a.kept → AreDecisionsOf script b.kept) → AreTablesOf l a ms
+    → AreTablesOf l b ms
 kept_forgetting l a b ms same names kept = record {
   tables = same ∙ kept.tables;
   names = names l.script kept.names;

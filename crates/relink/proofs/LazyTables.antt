@@ -10,13 +10,13 @@ use Rattle.ldmodel.specs.Names.{symbol_tables}
 use Rattle.ldmodel.specs.Project.{Project}
 use Rattle.ldscript.specs.statements.declared.statement.Statement.{Statement}
 use Rattle.symres.specs.SymbolTable.{SymbolTableState}
-use Rattle.symres.specs.decisions.Decisions.{AreKept}
+use Rattle.symres.specs.decisions.Decisions.{AreDecisionsOf}
 use Rattle.ldmodel_project.specs.ProjectState.{Listing}
 use Rattle.ldmodel_project.specs.ProjectState.{project_of}
 use Rattle.ldmodel_project.specs.Listing.{Listed, keys_of, objects_of}
 use Rattle.ldmodel_project.specs.Tables.{tables_under}
 use Rattle.relink.specs.Deferred.{AreKeysFrom, HasTables}
-use Rattle.relink.specs.Kept.{IsKept}
+use Rattle.relink.specs.KeptTables.{AreTablesOf}
 use Rattle.relink.specs.declared.link_tables.LinkTables.{LinkTables}
 
 pub from_places : (n : ℕ) (ks : List ℕ) → ((k : ℕ) → k < length ks → slice_index_or ks k 0 ≡ n + k)
@@ -37,17 +37,17 @@ placed_tables n (e ∷ es) h =
 -- tables from nothing
 pub made_tables : (p : Project) (table : SymbolTableState) (ms : List Matches) (script : List Statement)
     → table.kept.names.objects ≡ enumerate_from 0 (symbol_tables p.objects) → script ≡ p.script
-    → AreKept script table.kept → AreMatched p ms → (l : Listing) → p ≡ project_of l
-    → AreKeysFrom 0 (keys_of l.entries) → IsKept l table ms
+    → AreDecisionsOf script table.kept → AreMatched p ms → (l : Listing) → p ≡ project_of l
+    → AreKeysFrom 0 (keys_of l.entries) → AreTablesOf l table ms
 made_tables p table ms script tables same names matches l is places = record {
   tables = tables ∙ (ap (λ (q : Project). enumerate_from 0 (symbol_tables q.objects)) is
       ∙ placed_tables 0 l.entries places);
-  names = subst (λ (s : List Statement). AreKept s table.kept) (same ∙ ap (λ (q : Project). q.script) is) names;
+  names = subst (λ (s : List Statement). AreDecisionsOf s table.kept) (same ∙ ap (λ (q : Project). q.script) is) names;
   matches = subst (λ (q : Project). AreMatched q ms) is matches;
 }
 
 pub tables_there : (l : Listing) (tables : Option LinkTables) (made : LinkTables) → tables ≡ Some made
-    → HasTables l tables → IsKept l made.symbol_table made.matches.items
+    → HasTables l tables → AreTablesOf l made.symbol_table made.matches.items
 tables_there l tables made is has = subst (HasTables l) is has
 
 pub tables_not_there : (l : Listing) (tables : Option LinkTables) → tables ≡ None → HasTables l tables

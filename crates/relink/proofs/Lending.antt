@@ -31,8 +31,8 @@ use Rattle.relink_driver.specs.RelinkOutcome.{HasPreviousImage, IsGoodOutcome}
 use Rattle.relink.specs.NameList.{Names}
 use Rattle.relink_driver.specs.InPlace.{IsInPlaceOutcome}
 use Rattle.relink.specs.Outcome.{shown}
-use Rattle.relink.specs.Kept.{IsKept}
-use Rattle.relink.specs.PreviousLink.{HasUpdateOutcome, IsOfGoodLink, IsAfterFault, IsCurrent, IsEffect, IsRecorded}
+use Rattle.relink.specs.KeptTables.{AreTablesOf}
+use Rattle.relink.specs.PreviousLink.{HasUpdateOutcome, IsOfGoodLink, IsAfterFault, IsAnswered, IsEffect, IsRecorded}
 use Rattle.relink.specs.PreviousLink.{IsPreviousLink}
 use Rattle.relink.specs.PreviousLink.{AreOriginsRefreshed, IsRewrittenBy, IsSince}
 use Rattle.relink.specs.PreviousLink.{PutsByName, PutsNoneOf, PutsSame, lent, lost_key, next_view}
@@ -113,7 +113,7 @@ kept_of l bytes (outcome.Faulty t) x is = is
 pub none_of_last : (h : ProjectState) (s : Staged) (same : Bool) (bytes : List ℕ) (a : LinkOutcome) (x : PreviousLink)
     (e : EditEffect)
     (is : IsPreviousLink (listing_of h) bytes a (Some x)) → IsKnownEdit h s same → IsEffect h s same a (Some x) e
-    → e.known ≡ true → same ≡ false
+    → e.puts_none ≡ true → same ≡ false
     → PutsNoneOf (kept_of (listing_of h) bytes a x is).old.project.objects s.objects.step
 none_of_last h s same bytes (outcome.Good m) x e is edit effect known other =
     subst (λ (p : Project). PutsNoneOf p.objects s.objects.step) (sym is.project) (edit.other other)
@@ -165,7 +165,7 @@ replaced_right old h s same origin edit since =
 
 -- the origins of what is lent, by the edit
 pub from_edit : (h : ProjectState) (s : Staged) (same : Bool) (x : PreviousLink) (e : EditEffect)
-    → e.gone ≡ lost_key same s.objects.step
+    → e.lost ≡ lost_key same s.objects.step
     → (next_view x e h s).from ≡ map (without (origin_of x.origins.items) (lost_key same s.objects.step))
     (keys_of (next_listing h s).entries)
 from_edit h s same x e gone =
@@ -175,7 +175,7 @@ from_edit h s same x e gone =
 pub is_last_of : (h : ProjectState) (s : Staged) (same : Bool) (bytes : List ℕ) (x : PreviousLink)
     (e : EditEffect) (kept : IsOfGoodLink (listing_of h) bytes x) → IsKnownEdit h s same
     → (same ≡ false → PutsNoneOf kept.old.project.objects s.objects.step) → (e.same_script ≡ true → s.script ≡ None)
-    → e.gone ≡ lost_key same s.objects.step
+    → e.lost ≡ lost_key same s.objects.step
     → IsPreviousOf kept.old (project_of (next_listing h s)) (next_view x e h s)
 is_last_of h s same bytes x e kept edit none script gone =
     let p = project_of (next_listing h s) in
@@ -204,7 +204,7 @@ is_last_of h s same bytes x e kept edit none script gone =
 module _ (h : ProjectState) (s : Staged) (same : Bool) (bytes : List ℕ) (a : LinkOutcome) (e : EditEffect)
     (edit : IsKnownEdit h s same) where
   -- the previous link, where it is lent, is one whose image this is
-  pub last_lent : (previous : Option PreviousLink) (known : Bool) → e.known ≡ known
+  pub last_lent : (previous : Option PreviousLink) (known : Bool) → e.puts_none ≡ known
       → IsPreviousLink (listing_of h) bytes a previous → IsEffect h s same a previous e
       → IfSome (lent previous known e h s) (HasPreviousImage (project_of (next_listing h s)) bytes)
   last_lent None known are is effect = tt
@@ -219,9 +219,9 @@ module _ (h : ProjectState) (s : Staged) (same : Bool) (bytes : List ℕ) (a : L
       }
 
   -- it stays the previous link after an edit to a link with faults
-  pub kept_after_fault : (previous after : Option PreviousLink) (known : Bool) → e.known ≡ known
+  pub kept_after_fault : (previous after : Option PreviousLink) (known : Bool) → e.puts_none ≡ known
       → IsPreviousLink (listing_of h) bytes a previous → IsEffect h s same a previous e
-      → IsAfterFault known e.gone e.same_script previous after → IfSome after (IsOfGoodLink (next_listing h s) bytes)
+      → IsAfterFault known e.lost e.same_script previous after → IfSome after (IsOfGoodLink (next_listing h s) bytes)
   kept_after_fault previous None known are is effect fault = tt
   kept_after_fault previous (Some y) false are is effect fault = absurd (fault)
   kept_after_fault None (Some y) true are is effect fault = absurd (fault)
@@ -250,7 +250,7 @@ pub followed_good : (l : Listing) (p : Project) (keys : List ℕ) (bytes : List 
     → HasPlaces keys x.origins.items
     → ((key : ℕ) → is_some (position (nat_eq key) (keys_of l.entries)) ≡ is_some (found_under l.entries key))
     → x.same_script ≡ true
-    → (link (project_of l) ≡ record { status = 0; image = bytes; map = m; faults = [] }) × IsCurrent l bytes x
+    → (link (project_of l) ≡ record { status = 0; image = bytes; map = m; faults = [] }) × IsAnswered l bytes x
 followed_good l p keys bytes x m is keys_are distinct end names places found script = (
   sym (ap link is) ∙ end.link,
   record {
@@ -287,7 +287,7 @@ followed_again l p keys state bytes origins is keys_are distinct end places foun
 pub ended : (l : Listing) (state : Option PreviousState) (old new : List ℕ) (f : UpdateOutcome) (e : EditEffect)
     (previous after : Option PreviousLink) (b a : LinkOutcome) → HasUpdateOutcome l state old new f
     → IsRecorded f e previous after b a
-    → ((later : Option PreviousLink) → IsAfterFault e.known e.gone e.same_script previous later
+    → ((later : Option PreviousLink) → IsAfterFault e.puts_none e.lost e.same_script previous later
     → IfSome later (IsOfGoodLink l old))
     → ((v : Vec (Option ℕ) Global) → IsRewrittenBy l state new v.items → AreOriginsRefreshed v previous after
     → (shown new b ≡ link (project_of l)) × IsPreviousLink l new b after)
@@ -310,7 +310,7 @@ ended l state old new (RewrittenInPlace v) e previous after b a updated end kept
 
 -- the previous link with another image is that of the next project
 renewed_with : (h : ProjectState) (s : Staged) (same : Bool) (bytes new : List ℕ) (a : LinkOutcome) (e : EditEffect)
-    (x y : PreviousLink) (v : Vec (Option ℕ) Global) → IsKnownEdit h s same → e.known ≡ true
+    (x y : PreviousLink) (v : Vec (Option ℕ) Global) → IsKnownEdit h s same → e.puts_none ≡ true
     → IsPreviousLink (listing_of h) bytes a (Some x) → IsEffect h s same a (Some x) e
     → shown bytes a ≡ link (held h)
     → IsRewrittenBy (next_listing h s) (Some (next_view x e h s)) new v.items
@@ -318,7 +318,7 @@ renewed_with : (h : ProjectState) (s : Staged) (same : Bool) (bytes new : List �
     → (shown new a ≡ link (project_of (next_listing h s))) × IsPreviousLink (next_listing h s) new a (Some y)
 renewed_with h s same bytes new (outcome.Faulty t) e x y v edit are is effect answers by renewed =
     let no : false ≡ true =
-    sym effect.answered ∙ ap (λ (z : PreviousState). z.is_current) (same_Some _ _ by.end.was) ∙ by.end.current in
+    sym effect.answered ∙ ap (λ (z : PreviousState). z.is_answered) (same_Some _ _ by.end.was) ∙ by.end.current in
     absurd (cc)
 renewed_with h s same bytes new (outcome.Good m) e x y v edit are is effect answers by renewed =
     let q : Project = project_of (next_listing h s) in
@@ -354,7 +354,7 @@ renewed_with h s same bytes new (outcome.Good m) e x y v edit are is effect answ
 
 pub renewed_last : (h : ProjectState) (s : Staged) (same : Bool) (bytes new : List ℕ) (a : LinkOutcome) (e : EditEffect)
     (previous after : Option PreviousLink) (known : Bool) (v : Vec (Option ℕ) Global)
-    → IsKnownEdit h s same → e.known ≡ known → IsPreviousLink (listing_of h) bytes a previous
+    → IsKnownEdit h s same → e.puts_none ≡ known → IsPreviousLink (listing_of h) bytes a previous
     → IsEffect h s same a previous e → shown bytes a ≡ link (held h)
     → IsRewrittenBy (next_listing h s) (lent previous known e h s) new v.items
     → AreOriginsRefreshed v previous after
@@ -374,18 +374,18 @@ pub ended_after : (h : ProjectState) (s : Staged) (same : Bool) (bytes new : Lis
     (previous after : Option PreviousLink) (f : UpdateOutcome) (later : ProjectState)
     (symbol_table : SymbolTableState) (ms : List Matches) → IsFollowing h s same bytes a previous e
     → shown bytes a ≡ link (held h)
-    → HasUpdateOutcome (next_listing h s) (lent previous e.known e h s) bytes new f
-    → IsRecorded f e previous after a b → IsKept (next_listing h s) symbol_table ms → listing_of later
+    → HasUpdateOutcome (next_listing h s) (lent previous e.puts_none e h s) bytes new f
+    → IsRecorded f e previous after a b → AreTablesOf (next_listing h s) symbol_table ms → listing_of later
     ≡ next_listing h s
-    → (shown new b ≡ link (held later)) × IsKept (listing_of later) symbol_table ms
+    → (shown new b ≡ link (held later)) × AreTablesOf (listing_of later) symbol_table ms
     × IsPreviousLink (listing_of later) new b after
 ended_after h s same bytes new a b e previous after f later symbol_table ms x answers updated end kept is =
-    let both = ended (next_listing h s) (lent previous e.known e h s) bytes new f e previous after a b
-    updated end (λ later. kept_after_fault h s same bytes a e x.edit previous later e.known refl x.kept x.effect)
-    (λ v by renewed. renewed_last h s same bytes new a e previous after e.known v x.edit refl x.kept x.effect
+    let both = ended (next_listing h s) (lent previous e.puts_none e h s) bytes new f e previous after a b
+    updated end (λ later. kept_after_fault h s same bytes a e x.edit previous later e.puts_none refl x.kept x.effect)
+    (λ v by renewed. renewed_last h s same bytes new a e previous after e.puts_none v x.edit refl x.kept x.effect
     answers by renewed) in (
       subst (λ (l : Listing). shown new b ≡ link (project_of l)) (sym is) both.0,
-      subst (λ (l : Listing). IsKept l symbol_table ms) (sym is) kept,
+      subst (λ (l : Listing). AreTablesOf l symbol_table ms) (sym is) kept,
       subst (λ (l : Listing). IsPreviousLink l new b after) (sym is) both.1,
     )
 

@@ -19,7 +19,7 @@ use Rattle.relink_driver.specs.Origins.{AreOrigins}
 use Rattle.ldmodel_project.specs.Order.{HasPlaces}
 use Rattle.ldmodel.specs.Project.{Project}
 use Rattle.relink.proofs.Finding.{find_some}
-use Rattle.relink.specs.PreviousLink.{IsNamedAt, IsNoneOf, IsSince, PutsNoneOf, PutsSame, changed_key, lost_key}
+use Rattle.relink.specs.PreviousLink.{IsNowhereButAt, IsNoneOf, IsSince, PutsNoneOf, PutsSame, changed_key, lost_key}
 use Rattle.relink.specs.PreviousLink.{origin_of}
 use Rattle.relink.specs.PreviousLink.{replaced_in, without}
 
@@ -90,7 +90,7 @@ object_at (e ∷ es) (suc i) key h = object_at es i key h
 -- where each object of a name stands at a place, and the one there has other bytes, no object has the name and the
 -- bytes
 pub none_of : (old : List NamedObject) (names : List (List ℕ)) (x : NamedObject) (place : Option ℕ)
-    → names ≡ map (λ (o : NamedObject). o.name) old → IsNamedAt names x.name place
+    → names ≡ map (λ (o : NamedObject). o.name) old → IsNowhereButAt names x.name place
     → IfSome place (λ j. (y : NamedObject) → slice_get old j ≡ Some y → y.object.text ≡ x.object.text → ⊥)
     → IsNoneOf old x
 none_of old names x place same named other = λ y c n t. (

@@ -9,7 +9,7 @@ use Rattle.ldmodel_project.specs.Listing.{keys_of}
 use Rattle.ldmodel_project.specs.Next.{Fits}
 use Rattle.ldmodel_project.specs.Edited.{ChangesOneObject}
 use Rattle.ldmodel_project.specs.declared.staged.Staged.{Staged}
-use Rattle.relink.specs.Kept.{IsKept}
+use Rattle.relink.specs.KeptTables.{AreTablesOf}
 use Rattle.relink.specs.Outcome.{is_good, shown}
 use Rattle.relink.specs.PreviousLink.{IsOfGoodLink, IsPreviousLink, IsRecorded}
 use Rattle.relink.specs.declared.link_tables.LinkTables.{LinkTables}
@@ -81,7 +81,7 @@ AreKeysFrom place (key ∷ rest) = (key ≡ place) × AreKeysFrom (place + 1) re
 -- the tables are of the project; or there are none yet, and the keys of its objects are their places
 abbrev pub HasTables : Listing → Option LinkTables → Type 0
 HasTables l None = AreKeysFrom 0 (keys_of l.entries)
-HasTables l (Some tables) = IsKept l tables.symbol_table tables.matches.items
+HasTables l (Some tables) = AreTablesOf l tables.symbol_table tables.matches.items
 
 -- where the last link is of the project, the previous one is as in a session; else there may be one, of an earlier
 -- project

@@ -2,7 +2,7 @@ pub use Rattle.ldmodel_project.specs as project
 pub use Rattle.relink_driver.specs as driver
 pub mod Matches
 pub mod Change
-pub mod Kept
+pub mod KeptTables
 pub mod Work
 pub mod PreviousLink
 pub mod NameList

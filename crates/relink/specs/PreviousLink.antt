@@ -54,7 +54,7 @@ pub record IsOfGoodLink (l : Listing) (bytes : List ℕ) (x : PreviousLink) : Ty
   pub image : bytes ≡ image old.project old.layout
 
 -- the link is that of the project as it stands
-pub record IsCurrent (l : Listing) (bytes : List ℕ) (x : PreviousLink) : Type 0 where
+pub record IsAnswered (l : Listing) (bytes : List ℕ) (x : PreviousLink) : Type 0 where
   pub kept : IsOfGoodLink l bytes x
   pub project : kept.old.project ≡ project_of l
   pub script : x.same_script ≡ true
@@ -62,12 +62,12 @@ pub record IsCurrent (l : Listing) (bytes : List ℕ) (x : PreviousLink) : Type 
 -- where the answer is a link without faults, the previous one is that; else there may be one, of an earlier project
 abbrev pub IsPreviousLink : Listing → List ℕ → LinkOutcome → Option PreviousLink → Type 0
 IsPreviousLink l bytes (outcome.Good map) None = ⊥
-IsPreviousLink l bytes (outcome.Good map) (Some x) = IsCurrent l bytes x
+IsPreviousLink l bytes (outcome.Good map) (Some x) = IsAnswered l bytes x
 IsPreviousLink l bytes (outcome.Faulty text) previous = IfSome previous (IsOfGoodLink l bytes)
 
 -- the place of each object that has a name is this one
-abbrev pub IsNamedAt : List (List ℕ) → List ℕ → Option ℕ → Type 0
-IsNamedAt names name place =
+abbrev pub IsNowhereButAt : List (List ℕ) → List ℕ → Option ℕ → Type 0
+IsNowhereButAt names name place =
     (q : ℕ) → q < length names → slice_index_or names q [] ≡ name → place ≡ Some q
 
 -- the key that a step puts an object under, or removes
@@ -120,7 +120,7 @@ abbrev pub HasUpdateOutcome : Listing → Option PreviousState → (old new : Li
 HasUpdateOutcome l previous old new (Faulty text) =
     (link (project_of l) ≡ record { status = 1; image = []; map = []; faults = text.items }) × (new ≡ old)
 HasUpdateOutcome l previous old new (Good x m) =
-    (link (project_of l) ≡ record { status = 0; image = new; map = m.items; faults = [] }) × IsCurrent l new x
+    (link (project_of l) ≡ record { status = 0; image = new; map = m.items; faults = [] }) × IsAnswered l new x
 HasUpdateOutcome l previous old new (RewrittenInPlace origins) = IsRewrittenBy l previous new origins.items
 
 -- the object that an edit puts is none of the link
@@ -134,13 +134,14 @@ pub record IsEffect (state : ProjectState) (s : Staged) (same : Bool) (a : LinkO
     (e : EditEffect)
     : Type 0 where
   -- where the answer has no faults, what comes is known to be none of the previous link's objects
-  pub current : is_good a ≡ true → e.known ≡ true
+  pub current : is_good a ≡ true → e.puts_none ≡ true
   -- where it has faults, what is known to be none of them is none of them
-  pub knows : is_good a ≡ false → e.known ≡ true → IfSome previous (λ x. Knows x state.contents.entries s.objects.step)
+  pub knows : is_good a ≡ false → e.puts_none ≡ true
+      → IfSome previous (λ x. Knows x state.contents.entries s.objects.step)
   -- the key that has no origin any more is the one under which an object comes or goes
-  pub lost : e.gone ≡ lost_key same s.objects.step
+  pub lost : e.lost ≡ lost_key same s.objects.step
   -- the previous link is the one that is answered where the answer has no faults
-  pub answered : e.is_current ≡ is_good a
+  pub answered : e.is_answered ≡ is_good a
   -- where the script is said to stay, the edit leaves it
   pub changed : e.same_script ≡ true → s.script ≡ None
   -- where the edit leaves it, it is said to stay
@@ -169,10 +170,10 @@ abbrev pub view_for : List ℕ → PreviousLink → EditEffect → Option Replac
 view_for keys x e replaced = record {
   snapshot = x.snapshot;
   objects = length x.names.names;
-  from = map (without (origin_of x.origins.items) e.gone) keys;
+  from = map (without (origin_of x.origins.items) e.lost) keys;
   same_script = x.same_script && e.same_script;
   replaced = replaced;
-  is_current = e.is_current;
+  is_answered = e.is_answered;
 }
 
 -- as the next project takes it
@@ -183,7 +184,7 @@ next_view x e h s =
 
 -- the effect of no edit, on a link that is not that of the project
 abbrev pub nothing_edited : EditEffect
-nothing_edited = record { known = true; gone = None; same_script = true; is_current = false }
+nothing_edited = record { puts_none = true; lost = None; same_script = true; is_answered = false }
 
 -- the previous link as a project takes it that is linked some edits later
 abbrev pub lent_later : Option PreviousLink → (keys : List ℕ) → Option PreviousState
@@ -231,6 +232,6 @@ AreOriginsRefreshed v (Some x) (Some y) =
 abbrev pub IsRecorded : UpdateOutcome → EditEffect → (old new : Option PreviousLink) → (before after : LinkOutcome)
     → Type 0
 IsRecorded (Faulty text) e old new b a =
-    (a ≡ outcome.Faulty text) × IsAfterFault e.known e.gone e.same_script old new
+    (a ≡ outcome.Faulty text) × IsAfterFault e.puts_none e.lost e.same_script old new
 IsRecorded (Good x m) e old new b a = (a ≡ outcome.Good m) × (new ≡ Some x)
 IsRecorded (RewrittenInPlace origins) e old new b a = (a ≡ b) × AreOriginsRefreshed origins old new

@@ -5,7 +5,7 @@ use Rattle.elfobj.specs.Counts.{Counts}
 use Rattle.relink_driver.specs.RelinkOutcome.{HasPreviousImage}
 use Rattle.relink_driver.specs.StayedSections.{PreviousState}
 use Rattle.symres.specs.decisions.Change.{IsReadyFor}
-use Rattle.symres.specs.decisions.Decisions.{AreKept}
+use Rattle.symres.specs.decisions.Decisions.{AreDecisionsOf}
 use Rattle.symres.specs.decisions.declared.change.ObjectChange.{ObjectChange}
 use Rattle.ldmodel_project.specs.ProjectState.{ProjectState, Listing, EditsOne, listing_of, next_listing, project_of}
 use Rattle.ldmodel_project.specs.Listing.{found_under, keys_of}
@@ -14,7 +14,7 @@ use Rattle.ldmodel_project.specs.Edited.{ChangesOneObject}
 use Rattle.ldmodel_project.specs.declared.staged.Staged.{Staged}
 use Rattle.ldscript.specs.statements.declared.statement.Statement.{Statement}
 use Rattle.relink.specs.Change.{names_of_edit}
-use Rattle.relink.specs.Kept.{IsKept}
+use Rattle.relink.specs.KeptTables.{AreTablesOf}
 use Rattle.relink.specs.PreviousLink.{HasUpdateOutcome}
 use Rattle.relink.specs.Matches.{IsMatchedOr}
 use Rattle.relink.specs.Work.{Decides, HasWorked}
@@ -33,7 +33,7 @@ pub record CanUpdate (state : ProjectState) (s : Staged) (tables : LinkTables) (
   -- where it has a script, it touches no object
   pub one : EditsOne s
   -- what is kept is of the project
-  pub kept : IsKept (listing_of state) tables.symbol_table tables.matches.items
+  pub kept : AreTablesOf (listing_of state) tables.symbol_table tables.matches.items
   -- what is lent is of a previous link without faults, whose image these bytes are
   pub previous : IfSome lent (HasPreviousImage (project_of (next_listing state s)) bytes)
 
@@ -44,7 +44,7 @@ pub record IsUpdated (state : ProjectState) (s : Staged) (lent : Option Previous
   -- the link is that of the next project, and its image is drawn, if it has one
   pub link : HasUpdateOutcome (next_listing state s) lent old new f
   -- what is kept is of the next project
-  pub kept : IsKept (next_listing state s) tables.symbol_table tables.matches.items
+  pub kept : AreTablesOf (next_listing state s) tables.symbol_table tables.matches.items
   -- no object is read, and the names that the edit touches are decided, each once
   pub decides : Decides before after (names_of_edit state.contents.entries s.objects)
   -- what the link places, evaluates and writes is counted
@@ -53,7 +53,7 @@ pub record IsUpdated (state : ProjectState) (s : Staged) (lent : Option Previous
 -- what holds where memory runs out before an edit has been followed
 pub record IsRolledBack (state : ProjectState) (tables : LinkTables) (old new : List ℕ) : Type 0 where
   -- what is kept is of the project as before
-  pub kept : IsKept (listing_of state) tables.symbol_table tables.matches.items
+  pub kept : AreTablesOf (listing_of state) tables.symbol_table tables.matches.items
   -- the canvas is as it was
   pub canvas : new ≡ old
 
@@ -62,7 +62,7 @@ pub record KeepsObjects (script : List Statement) (old new : LinkTables) : Type 
   -- the symbols of the objects are the same, under the same keys
   pub objects : new.symbol_table.kept.names.objects ≡ old.symbol_table.kept.names.objects
   -- names are decided for the script
-  pub names : AreKept script new.symbol_table.kept
+  pub names : AreDecisionsOf script new.symbol_table.kept
   -- the matches are the same
   pub matches : new.matches.items ≡ old.matches.items
 

@@ -21,7 +21,7 @@ use crate::outcome::LinkOutcome;
 use crate::previous::{
     EditEffect, PreviousLink, UpdateOutcome, effect_of, keep_after_fault, record_outcome,
 };
-use crate::session_link::{link_later, link_next};
+use crate::session_link::{link_committed, link_next};
 use crate::unchanged::{is_unchanged, puts_same};
 use ldmodel::edit::{Edit, EditRefusal, Linked};
 use ldmodel::memory::NoMemory;
@@ -97,7 +97,7 @@ fn seen<'a>(is_linked: bool, outcome: &'a LinkOutcome, stale: &'a LinkOutcome) -
 }
 
 /// Makes a staged edit without a link: the previous link no longer has the object that the edit changes.
-fn settle(
+fn commit_unlinked(
     project: &mut Project,
     staged: Staged,
     previous: &mut Option<PreviousLink>,
@@ -120,7 +120,7 @@ fn settle(
 }
 
 /// Makes the staged edit without a link, if there is one.
-fn settle_staged(
+fn commit_staged_unlinked(
     alloc: Global,
     project: &mut Project,
     staged: &mut Option<Staged>,
@@ -142,7 +142,7 @@ fn settle_staged(
         return;
     };
     let stale = LinkOutcome::Faulty(Vec::new(alloc));
-    settle(project, edit, previous, seen(*is_linked, outcome, &stale));
+    commit_unlinked(project, edit, previous, seen(*is_linked, outcome, &stale));
     *is_linked = false;
 }
 
@@ -199,7 +199,7 @@ fn link_staged(
 }
 
 /// Whether the last link is that of the project, and its tables are made.
-fn is_settled(is_linked: bool, tables: &Option<LinkTables>) -> bool
+fn is_up_to_date(is_linked: bool, tables: &Option<LinkTables>) -> bool
     ensures yes { result ≡ true → (is_linked ≡ true) × (is_some tables.now ≡ true) }
     ensures no { is_linked ≡ true → is_some tables.now ≡ true → result ≡ true }
 {
@@ -233,11 +233,11 @@ fn link_unstaged(
     ensures reads { OnOk result (is_some tables.old ≡ true → ReadsNothing meter.old meter.new) }
     ensures counted { is_linked.old ≡ true → is_some tables.old ≡ true → meter.new ≡ meter.old }
 {
-    if is_settled(*is_linked, tables) {
+    if is_up_to_date(*is_linked, tables) {
         return Ok(());
     }
     let mut made = tables_of_project(alloc, seed, project, tables.take(), meter)?;
-    let updated = link_later(
+    let updated = link_committed(
         alloc,
         project,
         &mut made.symbol_table,
@@ -278,7 +278,7 @@ impl DeferredSession {
         distinct_more();
         // for the prover: brings in that the counts fit a u64
         counts_fit(meter);
-        settle_staged(
+        commit_staged_unlinked(
             self.alloc,
             &mut self.project,
             &mut self.staged,
@@ -317,7 +317,7 @@ impl DeferredSession {
         ensures last { OnOk result (self.new.last ≡ link self.old.project) }
         ensures unlinked { OnErr result (self.new.last ≡ self.old.last) }
         ensures project { self.new.project ≡ self.old.project }
-        ensures settled { OnOk result (self.new.is_linked ≡ true) }
+        ensures linked_last { OnOk result (self.new.is_linked ≡ true) }
         ensures resolved { OnOk result (self.new.is_resolved ≡ true) }
         ensures counted { OnOk result (IsLinkingWork self.old meter.old meter.new) }
     {

@@ -5,7 +5,7 @@ ghost use Rattle.ldmodel_project.specs.Next.{edited_key};
 ghost use Rattle.ldmodel_project.specs.ProjectState.{listing_of, next_listing};
 ghost use Rattle.symres.specs.decisions.Counted.{CountsNames};
 ghost use Rattle.relink.specs.Change.{names_of_edit};
-ghost use Rattle.relink.specs.Kept.{IsKept};
+ghost use Rattle.relink.specs.KeptTables.{AreTablesOf};
 ghost use Rattle.relink.specs.Update.{CanUpdate};
 
 use crate::change::{object_change, place_of};
@@ -31,9 +31,10 @@ impl LinkTables {
     ) -> Result<(), NoMemory>
         requires given { CanUpdate project.now staged.now self.old None [] }
         requires edited { edited_key staged.now.objects.step ≡ Some key.0 }
-        ensures kept { OnOk result (IsKept (next_listing project.now staged.now) self.new.symbol_table
+        ensures kept { OnOk result (AreTablesOf (next_listing project.now staged.now) self.new.symbol_table
             self.new.matches.items) }
-        ensures back { OnErr result (IsKept (listing_of project.now) self.new.symbol_table self.new.matches.items) }
+        ensures back { OnErr result (AreTablesOf
+            (listing_of project.now) self.new.symbol_table self.new.matches.items) }
         ensures counted { OnOk result (CountsNames meter.old meter.new
             (names_of_edit project.now.contents.entries staged.now.objects)) }
     {
@@ -61,9 +62,10 @@ impl LinkTables {
     ) -> Result<(), NoMemory>
         requires given { CanUpdate project.now staged.now self.old None [] }
         requires edited { edited_key staged.now.objects.step ≡ None }
-        ensures kept { OnOk result (IsKept (next_listing project.now staged.now) self.new.symbol_table
+        ensures kept { OnOk result (AreTablesOf (next_listing project.now staged.now) self.new.symbol_table
             self.new.matches.items) }
-        ensures back { OnErr result (IsKept (listing_of project.now) self.new.symbol_table self.new.matches.items) }
+        ensures back { OnErr result (AreTablesOf
+            (listing_of project.now) self.new.symbol_table self.new.matches.items) }
         ensures counted { OnOk result (CountsNames meter.old meter.new
             (names_of_edit project.now.contents.entries staged.now.objects)) }
     {
@@ -87,9 +89,10 @@ impl LinkTables {
         meter: &mut Meter,
     ) -> Result<(), NoMemory>
         requires { CanUpdate project.now staged.now self.old None [] }
-        ensures kept { OnOk result (IsKept (next_listing project.now staged.now) self.new.symbol_table
+        ensures kept { OnOk result (AreTablesOf (next_listing project.now staged.now) self.new.symbol_table
             self.new.matches.items) }
-        ensures back { OnErr result (IsKept (listing_of project.now) self.new.symbol_table self.new.matches.items) }
+        ensures back { OnErr result (AreTablesOf
+            (listing_of project.now) self.new.symbol_table self.new.matches.items) }
         ensures counted { OnOk result (CountsNames meter.old meter.new
             (names_of_edit project.now.contents.entries staged.now.objects)) }
     {

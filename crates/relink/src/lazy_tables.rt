@@ -6,7 +6,7 @@ ghost use Rattle.ldmodel_project.specs.Listing.{keys_of};
 ghost use Rattle.symres.specs.decisions.Counted.{CountsNames};
 ghost use Rattle.relink.specs.Change.{names_of_edit};
 ghost use Rattle.relink.specs.Deferred.{AreKeysFrom, HasTables, IsStaged};
-ghost use Rattle.relink.specs.Kept.{IsKept};
+ghost use Rattle.relink.specs.KeptTables.{AreTablesOf};
 
 use crate::link_tables::LinkTables;
 use gather::matches::match_all;
@@ -40,7 +40,7 @@ fn tables_of_view(
     meter: &mut Meter,
 ) -> Result<LinkTables, NoMemory>
     ensures { IfOk result (λ tables. (l : Listing) → project.now ≡ project_of l → AreKeysFrom 0 (keys_of l.entries)
-        → IsKept l tables.symbol_table tables.matches.items) }
+        → AreTablesOf l tables.symbol_table tables.matches.items) }
 {
     let symbol_table = SymbolTable::of(alloc, seed, project.inputs(), project.script(), meter)?;
     let matches = match_all(alloc, project)?;
@@ -59,7 +59,7 @@ pub(crate) fn tables_of_project(
     meter: &mut Meter,
 ) -> Result<LinkTables, NoMemory>
     requires { HasTables (listing_of project.now) tables }
-    ensures made { IfOk result (λ made. IsKept (listing_of project.now) made.symbol_table made.matches.items) }
+    ensures made { IfOk result (λ made. AreTablesOf (listing_of project.now) made.symbol_table made.matches.items) }
     ensures none { OnErr result (tables ≡ None) }
     ensures kept { is_some tables ≡ true → meter.new ≡ meter.old }
 {
@@ -82,7 +82,7 @@ pub(crate) fn tables_of_next(
     meter: &mut Meter,
 ) -> Result<LinkTables, NoMemory>
     requires { HasTables next.now tables }
-    ensures made { IfOk result (λ made. IsKept next.now made.symbol_table made.matches.items) }
+    ensures made { IfOk result (λ made. AreTablesOf next.now made.symbol_table made.matches.items) }
     ensures none { OnErr result (tables ≡ None) }
     ensures kept { is_some tables ≡ true → meter.new ≡ meter.old }
 {

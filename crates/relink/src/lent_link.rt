@@ -35,7 +35,7 @@ impl<'a> LentLink<'a> {
     pub(crate) fn origins(&self, alloc: Global) -> Result<Vec<Option<usize>>, NoMemory>
         ensures { IfOk result (λ from. from.items ≡ (lent_state self.now).from) }
     {
-        self.previous.origins_of(alloc, self.keys, self.effect.gone)
+        self.previous.origins_of(alloc, self.keys, self.effect.lost)
     }
 
     /// The previous link as the next one sees it. `from` are the origins of the objects of the next project.
@@ -49,7 +49,7 @@ impl<'a> LentLink<'a> {
             from,
             same_script: self.previous.same_script && self.effect.same_script,
             replaced: self.replaced,
-            is_current: self.effect.is_current,
+            is_answered: self.effect.is_answered,
         }
     }
 }
@@ -63,10 +63,10 @@ fn lend<'a>(
     keys: &'a [usize],
 ) -> Option<LentLink<'a>>
     requires { keys.now ≡ keys_of (next_listing project.now staged.now).entries }
-    ensures { lent_of result ≡ lent previous.now effect.known effect project.now staged.now }
+    ensures { lent_of result ≡ lent previous.now effect.puts_none effect project.now staged.now }
 {
     match previous {
-        Some(previous) if effect.known => Some(LentLink {
+        Some(previous) if effect.puts_none => Some(LentLink {
             previous,
             effect,
             replaced: previous.replaced(project, staged),
@@ -89,7 +89,7 @@ pub(crate) fn lend_previous<'a>(
 ) -> (EditEffect, Option<LentLink<'a>>)
     requires { keys.now ≡ keys_of (next_listing project.now staged.now).entries }
     ensures effect { IsEffect project.now staged.now same outcome.now previous.now result.0 }
-    ensures lent { lent_of result.1 ≡ lent previous.now result.0.known result.0 project.now staged.now }
+    ensures lent { lent_of result.1 ≡ lent previous.now result.0.puts_none result.0 project.now staged.now }
 {
     let effect = effect_of(previous, outcome, project, staged, same);
     (effect, lend(previous, effect, project, staged, keys))
@@ -100,10 +100,10 @@ pub(crate) fn no_effect() -> EditEffect
     ensures { result ≡ nothing_edited }
 {
     EditEffect {
-        known: true,
-        gone: None,
+        puts_none: true,
+        lost: None,
         same_script: true,
-        is_current: false,
+        is_answered: false,
     }
 }
 

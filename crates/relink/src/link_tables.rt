@@ -2,7 +2,7 @@
 
 ghost use Rattle.std.specs.Prelude.{◌≡◌, IfOk, List, None, OnErr, Some, true};
 ghost use Rattle.symres.specs.decisions.Change.{Fits as FitsTables};
-ghost use Rattle.symres.specs.decisions.Decisions.{AreKept};
+ghost use Rattle.symres.specs.decisions.Decisions.{AreDecisionsOf};
 ghost use Rattle.symres.specs.table.State.{Forgets};
 ghost use Rattle.ldmodel_project.specs.Next.{edited_key};
 ghost use Rattle.relink.specs.PreviousLink.{lent_of};
@@ -42,12 +42,13 @@ pub(crate) struct IncomingChange {
     pub(crate) matches: Option<Matches>,
 }
 
-/// If an object was removed, forgets the names that no object declares now. It takes no memory.
+/// If an object was taken out of the tables, also to be replaced or moved, forgets the names that no object declares
+/// now. It takes no memory.
 pub(crate) fn forget_if(symbol_table: &mut SymbolTable, went: bool)
     ensures tables { symbol_table.new.kept.names.objects ≡ symbol_table.old.kept.names.objects }
     ensures forgotten { went ≡ true → Forgets symbol_table.old.kept.names symbol_table.new.kept.names }
-    ensures kept { (script : List Statement) → AreKept script symbol_table.old.kept
-        → AreKept script symbol_table.new.kept }
+    ensures kept { (script : List Statement) → AreDecisionsOf script symbol_table.old.kept
+        → AreDecisionsOf script symbol_table.new.kept }
 {
     if went {
         symbol_table.forget();
@@ -64,7 +65,7 @@ impl LinkTables {
         change: &ObjectChange<'_>,
     ) -> Result<IncomingChange, NoMemory>
         requires fits { FitsTables self.old.symbol_table.kept.names.objects change.now }
-        requires kept { AreKept next.now.script self.old.symbol_table.kept }
+        requires kept { AreDecisionsOf next.now.script self.old.symbol_table.kept }
         ensures same { KeepsObjects next.now.script self.old self.new }
         ensures room { IfOk result (HasRoom next.now change.now self.new) }
     {
@@ -77,7 +78,7 @@ impl LinkTables {
 
     /// Updates the tables for an edit of the object under a key, and links the next project. Fails if memory runs
     /// out: then the tables are those of the project before the edit.
-    fn update_for_object(
+    fn update_and_link_object(
         &mut self,
         alloc: Global,
         project: &Project,
@@ -126,7 +127,7 @@ impl LinkTables {
     /// Updates the tables for an edit of no object, as one of the script, and links the next project. Objects are
     /// matched anew only if the script has other input statements. Fails if memory runs out: then the tables are those
     /// of the project before the edit.
-    fn update_for_script(
+    fn update_and_link_script(
         &mut self,
         alloc: Global,
         project: &Project,
@@ -168,7 +169,7 @@ impl LinkTables {
     /// # Errors
     ///
     /// If memory runs out. The tables are then those of the project before the edit.
-    pub(crate) fn update(
+    pub(crate) fn update_and_link(
         &mut self,
         alloc: Global,
         project: &Project,
@@ -183,10 +184,10 @@ impl LinkTables {
         ensures back { OnErr result (IsRolledBack project.now self.new canvas.old.bytes canvas.new.bytes) }
     {
         match staged.edited() {
-            Some(key) => self.update_for_object(
+            Some(key) => self.update_and_link_object(
                 alloc, project, staged, key, previous, canvas, meter,
             ),
-            None => self.update_for_script(alloc, project, staged, previous, canvas, meter),
+            None => self.update_and_link_script(alloc, project, staged, previous, canvas, meter),
         }
     }
 }

@@ -5,7 +5,7 @@ ghost use Rattle.std.specs.List.{sum_by};
 ghost use Rattle.ldmodel.specs.Project.{NamedObject};
 ghost use Rattle.ldmodel_project.specs.Inputs.{shown_inputs};
 ghost use Rattle.relink.specs.NameList.{HasRoomFor};
-ghost use Rattle.relink.specs.PreviousLink.{IsNamedAt};
+ghost use Rattle.relink.specs.PreviousLink.{IsNowhereButAt};
 
 use ldmodel::memory::NoMemory;
 use ldmodel_project::input::InputObject;
@@ -37,7 +37,7 @@ impl Model for NameList {
 }
 
 /// Whether the name at `at` is allowed: it is another name than the one that is looked for, or `at` is `place`.
-fn is_allowed(is_same: bool, place: Option<usize>, at: usize) -> bool
+fn is_other_or_at(is_same: bool, place: Option<usize>, at: usize) -> bool
     ensures { result ≡ true → is_same ≡ true → place ≡ Some at }
 {
     match place {
@@ -84,15 +84,15 @@ impl NameList {
     }
 
     /// Whether this name is not in the list, or only at this place.
-    pub(crate) fn is_named_at(&self, name: &[u8], place: Option<usize>) -> bool
-        ensures { result ≡ true → IsNamedAt self.now.names name.now place }
+    pub(crate) fn is_nowhere_but_at(&self, name: &[u8], place: Option<usize>) -> bool
+        ensures { result ≡ true → IsNowhereButAt self.now.names name.now place }
     {
         let mut rest: &[u8] = &self.text;
         for (at, length) in self.lengths.iter().enumerate() {
             let Some((other, others)) = rest.split_at_checked(*length) else {
                 return false;
             };
-            if !is_allowed(other == name, place, at) {
+            if !is_other_or_at(other == name, place, at) {
                 return false;
             }
             rest = others;

@@ -7,7 +7,8 @@ ghost use Rattle.relink.specs.Outcome.{is_good, shown};
 use ldmodel::edit::Linked;
 use relink_driver::Canvas;
 
-/// What a session answers of its link, beside the image, which a canvas holds.
+/// What a session answers of its link, beside the image, which a canvas holds. It is made from a `RelinkOutcome`, by way
+/// of an `UpdateOutcome`: a link that was rewritten in place leaves the outcome of the link before it.
 #[derive(Drop)]
 pub(crate) enum LinkOutcome {
     /// The link has no faults: its map.

@@ -32,7 +32,7 @@ pub(crate) struct PreviousLink {
     pub origins: Vec<Option<usize>>,
     /// The names of the objects of that link, by their places.
     pub names: NameList,
-    /// Whether the script is known to be still the same.
+    /// Whether the script is known to be unchanged.
     pub same_script: bool,
 }
 
@@ -40,13 +40,13 @@ pub(crate) struct PreviousLink {
 #[derive(Clone, Copy)]
 pub(crate) struct EditEffect {
     /// Whether it is known that the edit puts no object that this link has.
-    pub known: bool,
+    pub puts_none: bool,
     /// The key of the object that this link no longer has, if there is one.
-    pub gone: Option<usize>,
-    /// Whether the script stays.
+    pub lost: Option<usize>,
+    /// Whether the script is unchanged.
     pub same_script: bool,
     /// Whether queries are answered from this link.
-    pub is_current: bool,
+    pub is_answered: bool,
 }
 
 /// The outcome of a link over the previous one.
@@ -129,7 +129,7 @@ impl PreviousLink {
             → IsSince old (origin_of self.now.origins.items) project.now.contents.entries → IsNoneOf old named.now }
     {
         let place = self.place_of_other(project, key, named);
-        self.names.is_named_at(named.name(), place)
+        self.names.is_nowhere_but_at(named.name(), place)
     }
 
     /// Whether an edit is known to put no object that the previous link has already.
@@ -196,7 +196,11 @@ impl PreviousLink {
 }
 
 /// Whether there is a previous link, and an edit is known to put no object that it has already.
-fn is_known(previous: &Option<PreviousLink>, project: &Project, staged: &Staged) -> bool
+fn puts_none_of_previous(
+    previous: &Option<PreviousLink>,
+    project: &Project,
+    staged: &Staged,
+) -> bool
     ensures { result ≡ true → IfSome previous.now (λ x. Knows x project.now.contents.entries staged.now.objects.step) }
 {
     match previous {
@@ -249,10 +253,10 @@ pub(crate) fn effect_of(
     ensures { IsEffect project.now staged.now same outcome.now previous.now result }
 {
     EditEffect {
-        known: outcome.is_good() || is_known(previous, project, staged),
-        gone: lost_key(staged, same),
+        puts_none: outcome.is_good() || puts_none_of_previous(previous, project, staged),
+        lost: lost_key(staged, same),
         same_script: leaves_script(staged),
-        is_current: outcome.is_good(),
+        is_answered: outcome.is_good(),
     }
 }
 
@@ -288,14 +292,14 @@ pub(crate) fn view_previous<'a>(
 /// After an edit whose link has faults: keeps the previous link, but forgets the origin of the edited object. If the
 /// previous link may have the object that came, it is dropped.
 pub(crate) fn keep_after_fault(previous: &mut Option<PreviousLink>, effect: EditEffect)
-    ensures { IsAfterFault effect.known effect.gone effect.same_script previous.old previous.new }
+    ensures { IsAfterFault effect.puts_none effect.lost effect.same_script previous.old previous.new }
 {
-    if !effect.known {
+    if !effect.puts_none {
         *previous = None;
         return;
     }
     if let Some(previous) = previous {
-        previous.forget(effect.gone);
+        previous.forget(effect.lost);
         previous.same_script = previous.same_script && effect.same_script;
     }
 }

@@ -5,7 +5,7 @@ ghost use Rattle.ldmodel.specs.EditMeaning.{change_of};
 ghost use Rattle.ldmodel.specs.Link.{link};
 ghost use Rattle.ldmodel.specs.Project.{empty_project};
 ghost use Rattle.ldmodel_project.specs.ProjectState.{held, listing_of};
-ghost use Rattle.relink.specs.Kept.{IsKept};
+ghost use Rattle.relink.specs.KeptTables.{AreTablesOf};
 ghost use Rattle.relink.specs.Work.{IsWholeWork};
 ghost use Rattle.relink_driver.specs.Applied.{Applied};
 
@@ -16,7 +16,7 @@ use crate::lent_link::lend_previous;
 use crate::link_tables::LinkTables;
 use crate::outcome::LinkOutcome;
 use crate::previous::{EditEffect, PreviousLink, record_outcome};
-use crate::session_link::link_first;
+use crate::session_link::link_without_previous;
 use crate::unchanged::{is_unchanged, puts_same};
 use ldmodel::edit::{Edit, EditRefusal, Linked};
 use ldmodel::linker::Linker;
@@ -56,7 +56,7 @@ impl Model for Session {
     ghost use Rattle.ldmodel.specs.Project.{Project};
     ghost use Rattle.ldmodel_project.specs.ProjectState.{held, listing_of};
     ghost use Rattle.relink.specs.Outcome.{shown};
-    ghost use Rattle.relink.specs.Kept.{IsKept};
+    ghost use Rattle.relink.specs.KeptTables.{AreTablesOf};
     ghost use Rattle.relink.specs.PreviousLink.{IsPreviousLink};
 
     ghost Value = { Project };
@@ -66,7 +66,7 @@ impl Model for Session {
     ghost view = { λ s. held s.project };
 
     ghost invariant = { λ s. (shown s.canvas.bytes s.outcome ≡ link (held s.project))
-        × IsKept (listing_of s.project) s.tables.symbol_table s.tables.matches.items
+        × AreTablesOf (listing_of s.project) s.tables.symbol_table s.tables.matches.items
         × IsPreviousLink (listing_of s.project) s.canvas.bytes s.outcome s.previous };
 }
 
@@ -77,7 +77,7 @@ fn tables_of_empty(
     project: &Project,
 ) -> Result<LinkTables, NoMemory>
     requires { (held project.now).objects ≡ [] }
-    ensures { IfOk result (λ k. IsKept (listing_of project.now) k.symbol_table k.matches.items) }
+    ensures { IfOk result (λ k. AreTablesOf (listing_of project.now) k.symbol_table k.matches.items) }
 {
     let symbol_table = SymbolTable::of(alloc, seed, &[], project.script(), &mut Meter::new())?;
     Ok(LinkTables {
@@ -98,7 +98,7 @@ impl Session {
         let project = Project::new(alloc, options);
         let tables = tables_of_empty(alloc, seed, &project)?;
         let mut canvas = Canvas::new(alloc);
-        let updated = link_first(
+        let updated = link_without_previous(
             alloc,
             &project,
             &tables.symbol_table,
@@ -107,10 +107,10 @@ impl Session {
         )?;
         let mut previous = None;
         let effect = EditEffect {
-            known: true,
-            gone: None,
+            puts_none: true,
+            lost: None,
             same_script: true,
-            is_current: false,
+            is_answered: false,
         };
         let mut outcome = LinkOutcome::Faulty(Vec::new(alloc));
         record_outcome(updated, &mut previous, &mut outcome, effect);
@@ -186,7 +186,7 @@ impl Session {
             same,
             keys,
         );
-        match self.tables.update(
+        match self.tables.update_and_link(
             self.alloc,
             &self.project,
             &staged,

@@ -5,7 +5,7 @@ ghost use Rattle.gather.specs.ProjectMatches.{AreMatched};
 ghost use Rattle.symres.specs.SymbolTable.{IsSymbolTable};
 ghost use Rattle.ldmodel_project.specs.ProjectState.{Listing, held, listing_of, project_of};
 ghost use Rattle.ldmodel_project.specs.Listing.{AreKeysDistinct, keys_of};
-ghost use Rattle.relink.specs.Kept.{IsKept};
+ghost use Rattle.relink.specs.KeptTables.{AreTablesOf};
 ghost use Rattle.relink.specs.PreviousLink.{HasUpdateOutcome, lent_of};
 ghost use Rattle.relink.specs.Work.{HasWorked};
 ghost use Rattle.relink_driver.specs.RelinkOutcome.{HasPreviousImage};
@@ -94,7 +94,7 @@ pub(crate) fn link_next(
     canvas: &mut Canvas,
     meter: &mut Meter,
 ) -> Result<UpdateOutcome, NoMemory>
-    requires kept { IsKept next.now symbol_table.old matches.now.items }
+    requires kept { AreTablesOf next.now symbol_table.old matches.now.items }
     requires previous { IfSome (lent_of previous) (HasPreviousImage (project_of next.now) canvas.old.bytes) }
     ensures same { symbol_table.new ≡ symbol_table.old }
     ensures updated { IfOk result (HasUpdateOutcome next.now
@@ -130,14 +130,14 @@ pub(crate) fn link_next(
 /// # Errors
 ///
 /// If memory runs out.
-pub(crate) fn link_first(
+pub(crate) fn link_without_previous(
     alloc: Global,
     project: &Project,
     symbol_table: &SymbolTable,
     matches: &VecDeque<Matches>,
     canvas: &mut Canvas,
 ) -> Result<UpdateOutcome, NoMemory>
-    requires kept { IsKept (listing_of project.now) symbol_table.now matches.now.items }
+    requires kept { AreTablesOf (listing_of project.now) symbol_table.now matches.now.items }
     ensures updated { IfOk result (HasUpdateOutcome (listing_of project.now) None canvas.old.bytes canvas.new.bytes) }
 {
     // for the prover: brings in this law
@@ -156,12 +156,13 @@ pub(crate) fn link_first(
     )
 }
 
-/// Links a project over what is kept of it, and over the image of the previous link without faults, if there is one.
+/// Links a project whose edits were committed without a link, over what is kept of it, and over the image of the
+/// previous link without faults, if there is one.
 ///
 /// # Errors
 ///
 /// If memory runs out. Then the canvas is as it was.
-pub(crate) fn link_later(
+pub(crate) fn link_committed(
     alloc: Global,
     project: &Project,
     symbol_table: &mut SymbolTable,
@@ -170,7 +171,7 @@ pub(crate) fn link_later(
     canvas: &mut Canvas,
     meter: &mut Meter,
 ) -> Result<UpdateOutcome, NoMemory>
-    requires kept { IsKept (listing_of project.now) symbol_table.old matches.now.items }
+    requires kept { AreTablesOf (listing_of project.now) symbol_table.old matches.now.items }
     requires previous { IfSome (lent_of previous) (HasPreviousImage (held project.now) canvas.old.bytes) }
     ensures same { symbol_table.new ≡ symbol_table.old }
     ensures updated { IfOk result (HasUpdateOutcome (listing_of project.now)

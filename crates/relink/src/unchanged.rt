@@ -51,7 +51,8 @@ pub(crate) fn is_unchanged(project: &Project, staged: &Staged, same: bool) -> bo
     requires one { EditsOne staged.now }
     requires same { same ≡ true → PutsSame project.now.contents.entries staged.now.objects.step }
     ensures nothing { result ≡ true → project_of (next_listing project.now staged.now) ≡ held project.now }
-    ensures known { same ≡ true → staged.now.objects.places.before ≡ staged.now.objects.places.after → result ≡ true }
+    ensures in_place { same ≡ true → staged.now.objects.places.before ≡ staged.now.objects.places.after → result
+        ≡ true }
 {
     // for the prover: brings in what stands under each key after the edit
     let _next = project.next(staged);

@@ -3,13 +3,13 @@ use Rattle.std.proofs.Common.{◌≡◌, ◌∙◌, ◌<◌, ◌^◌, ◌⊎◌,
 use Rattle.std.specs.Prelude.{IfSome, IsSome, Ok, Option, Some, None, is_some}
 use Rattle.std.specs.List.{All}
 use Rattle.emit.specs.fields.declared.patch.Patch.{Patch}
-use Rattle.emit.specs.image.Kept.{ArePatchesOf}
+use Rattle.emit.specs.image.Redrawings.{ArePatchesOf}
 use Rattle.emit.specs.image.Stretches.{EndsBy}
 use Rattle.relink_driver.specs.StayedSections.{AreStayedSections, IsPreviousOf, PreviousState, previous_of, range_of}
 use Rattle.relink_driver.specs.declared.stayed_sections.PreviousView.{PreviousView}
 use Rattle.relink_driver.specs.declared.stayed_sections.StayedSections.{StayedSections}
 use Rattle.emit.specs.Drawable.{IsDrawableAt}
-use Rattle.emit.specs.Kept.{IsSound}
+use Rattle.emit.specs.StayedPieces.{IsSound}
 use Rattle.ldmodel_laws.specs.Untouched.{IsGood}
 use Rattle.place.specs.LinkLayout.{IsLinkLayout}
 use Rattle.place.specs.declared.link_layout.LinkLayout.{LinkLayout}

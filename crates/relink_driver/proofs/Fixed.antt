@@ -10,13 +10,13 @@ use Rattle.ldmodel.specs.declared.placed.Placed.{Placed}
 use Rattle.place.specs.declared.indexed_layout.SectionAddress.{SectionAddress}
 use Rattle.place.specs.declared.link_layout.LinkLayout.{LinkLayout}
 use Rattle.emit.specs.relocate.declared.previous_link_info.FileRange.{FileRange}
-use Rattle.relink_driver.specs.FixedOutputs.{both_start, is_fixed, same_address, start_from, start_of}
-use Rattle.relink_driver.specs.PreviousLink.{kept_at}
+use Rattle.relink_driver.specs.SameStarts.{both_start, has_same_start, same_address, start_from, start_of}
+use Rattle.relink_driver.specs.PreviousLink.{range_if_same}
 use Rattle.relink_driver.specs.SectionLocation.{bytes_from, location_of, location_with, range_at, range_from, range_in}
-use Rattle.relink_driver.specs.declared.fixed_outputs.OutputStart.{OutputStart}
+use Rattle.relink_driver.specs.declared.same_starts.OutputStart.{OutputStart}
 
 -- past the output sections of the previous link none is fixed
-pub none_fixed : (l m : LinkLayout) (n : ℕ) → length l.placement.sections ≤ n → false ≡ is_fixed l m n
+pub none_fixed : (l m : LinkLayout) (n : ℕ) → length l.placement.sections ≤ n → false ≡ has_same_start l m n
 none_fixed l m n past =
     ap (λ q. both_start (option_and_then (λ (x : Placed).
     option_and_then (λ (offset : ℕ). start_from x offset) (slice_get l.offsets.items n)) q) (start_of m n))
@@ -121,10 +121,10 @@ module _ (l m : LinkLayout) (b a : SectionAddress) (same : same_address b a ≡ 
 
   starts_same : (s t : OutputStart) → start_of l a.section.0 ≡ Some s → start_of m a.section.0 ≡ Some t
       → both_start (Some s) (Some t) ≡ true
-      → is_some (kept_at (location_of l b) (location_of m a)) ≡ true
+      → is_some (range_if_same (location_of l b) (location_of m a)) ≡ true
   starts_same s t was is alike =
-      ap (λ x. is_some (kept_at (option_map (location_with b) x) (location_of m a))) before
-      ∙ ap (λ x. is_some (kept_at (Some (location_with b there)) (option_map (location_with a) x))) now
+      ap (λ x. is_some (range_if_same (option_map (location_with b) x) (location_of m a))) before
+      ∙ ap (λ x. is_some (range_if_same (Some (location_with b there)) (option_map (location_with a) x))) now
       ∙ ap (λ c. is_some (cond (c && ((b.size == a.size) && ((there.offset == there.offset)
       && (there.length == there.length)))) (Some there) None)) (parts.0)
       ∙ ap (λ c. is_some (cond (c && ((there.offset == there.offset) && (there.length == there.length))) (Some there)
@@ -160,11 +160,12 @@ module _ (l m : LinkLayout) (b a : SectionAddress) (same : same_address b a ≡ 
       now : range_at m a ≡ Some there
       now = range_there m t a (starts_at m a.section.0 t is) fits
 
-  pub stays_fixed : is_fixed l m a.section.0 ≡ true → is_some (kept_at (location_of l b) (location_of m a)) ≡ true
+  pub stays_fixed : has_same_start l m a.section.0 ≡ true → is_some (range_if_same (location_of l b) (location_of m a))
+      ≡ true
   stays_fixed e = go (start_of l a.section.0) (start_of m a.section.0) refl refl e
     where
       go : (x y : Option OutputStart) → start_of l a.section.0 ≡ x → start_of m a.section.0 ≡ y
-          → both_start x y ≡ true → is_some (kept_at (location_of l b) (location_of m a)) ≡ true
+          → both_start x y ≡ true → is_some (range_if_same (location_of l b) (location_of m a)) ≡ true
       go None y was is h = absurd (false≢true h)
       go (Some s) None was is h = absurd (false≢true h)
       go (Some s) (Some t) was is h = starts_same s t was is h

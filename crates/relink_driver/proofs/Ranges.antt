@@ -18,18 +18,18 @@ use Rattle.ldmodel.specs.declared.names.ObjectPlace.{ObjectPlace}
 use Rattle.ldmodel.specs.declared.sections.Part.{Part}
 use Rattle.ldmodel.specs.declared.sections.SectionKey.{SectionKey}
 use Rattle.ldmodel_laws.specs.FileOrder.{AreInFileOrder}
-use Rattle.place.specs.IndexedLayout.{IsIndexedLayout, place_in}
+use Rattle.place.specs.IndexedLayout.{IsIndexedLayout, address_in}
 use Rattle.place.specs.declared.indexed_layout.IndexedLayout.{IndexedLayout}
 use Rattle.place.specs.declared.indexed_layout.SectionAddress.{SectionAddress}
 use Rattle.place.specs.declared.link_layout.LinkLayout.{LinkLayout}
 use Rattle.emit.specs.relocate.PreviousLinkInfo as earlier
-use Rattle.emit.specs.relocate.PreviousLinkInfo.{HasStayedAt, IsComplete, IsKept, IsPieceOf}
+use Rattle.emit.specs.relocate.PreviousLinkInfo.{HasStayedAt, IsComplete, HasSomeStayed, IsPieceOf}
 use Rattle.emit.specs.relocate.KnownLink.{KnownLink, name_of_object, named_object}
 use Rattle.emit.specs.relocate.SymbolValues.{AreSymbolValues, AreValuesOf}
 use Rattle.emit.specs.relocate.declared.previous_link_info.FileRange.{FileRange}
 use Rattle.emit.specs.relocate.declared.value.SymbolValue.{SymbolValue}
 use Rattle.relink_driver.specs.SectionLocation.{same_location, location_in, location_of, location_with}
-use Rattle.relink_driver.specs.StayedSections.{IsPreviousOf, PreviousState, kept_at, kept_range, previous_of}
+use Rattle.relink_driver.specs.StayedSections.{IsPreviousOf, PreviousState, range_if_same, stayed_range, previous_of}
 use Rattle.relink_driver.specs.StayedSections.{address_from, last_place, previous_address, previous_location}
 use Rattle.relink_driver.specs.StayedSections.{previous_state}
 use Rattle.relink_driver.specs.StayedSections.{standing_from}
@@ -50,7 +50,7 @@ record Known (before now : Option SectionLocation) (r : FileRange) : Type 0 wher
   alike : same_location old new ≡ true
   range : new.range ≡ r
 
-known : (before now : Option SectionLocation) (r : FileRange) → kept_at before now ≡ Some r → Known before now r
+known : (before now : Option SectionLocation) (r : FileRange) → range_if_same before now ≡ Some r → Known before now r
 known None now r e = absurd (let none : ⊥ = cc in none)
 known (Some b) None r e = absurd (let none : ⊥ = cc in none)
 known (Some b) (Some a) r e = go (same_location b a) refl e
@@ -126,7 +126,7 @@ module _ (old : GoodLink) (l : KnownLink) (keys : (k : ℕ) → l.number k ≡ k
 
           stands : (m : Option ℕ) → last_place y key.object ≡ m
               → option_and_then (standing_from y key.part) m ≡ previous_location y key
-              → kept_at (previous_location y key) (location_in t key) ≡ None → ⊥
+              → range_if_same (previous_location y key) (location_in t key) ≡ None → ⊥
           stands None e g h =
               let o = owned old.project old.layout y.snapshot.indexed_layout previous.table.indexed_layout
               there.number there.section there.piece there.at there.among in
@@ -143,14 +143,14 @@ module _ (old : GoodLink) (l : KnownLink) (keys : (k : ℕ) → l.number k ≡ k
               let now = shows l.project l.layout t indexed_layout key k q z at among (sym object) (sym part) in
               let b = was.some (subst (λ n. n < 2 ^ 64) same_v.offset low) in
               let a = now.some low in
-              let kept : kept_at (previous_location y key) (location_in t key) ≡ Some (a.0).range =
-              ap (λ m. kept_at m (location_in t key)) (sym g ∙ b.1) ∙ ap (kept_at (Some b.0)) a.1
+              let kept : range_if_same (previous_location y key) (location_in t key) ≡ Some (a.0).range =
+              ap (λ m. range_if_same m (location_in t key)) (sym g ∙ b.1) ∙ ap (range_if_same (Some b.0)) a.1
               ∙ ap (λ c. cond c (Some (a.0).range) None)
               (alike x v b.0 a.0 same_v (was.is b.0 b.1) (now.is a.0 a.1)) in
               let never : None ≡ Some (a.0).range = sym h ∙ kept in
               absurd (let none : ⊥ = cc in none)
 
-        complete_one : kept_at (previous_location y key) (location_in t key) ≡ None → has_stayed old x ≡ false
+        complete_one : range_if_same (previous_location y key) (location_in t key) ≡ None → has_stayed old x ≡ false
         unfolding previous_location
         complete_one h = go (has_stayed old x) refl
           where
@@ -162,8 +162,8 @@ module _ (old : GoodLink) (l : KnownLink) (keys : (k : ℕ) → l.number k ≡ k
                 (same_of x found.member found.passes) (last_place y key.object) refl refl h)
 
   pub sound : (m : Option PreviousState) → IfSome m (IsPreviousOf old l.project) → (key : SectionKey) (r : FileRange)
-      → kept_range m t key ≡ Some r → HasStayedAt old l key r
-  unfolding kept_range
+      → stayed_range m t key ≡ Some r → HasStayedAt old l key r
+  unfolding stayed_range
   sound None h key r e = absurd (let none : ⊥ = cc in none)
   sound (Some y) previous key r e = λ x piece.
       let there = in_link l.project l.layout x piece.among in
@@ -178,9 +178,9 @@ module _ (old : GoodLink) (l : KnownLink) (keys : (k : ℕ) → l.number k ≡ k
       → map (λ (v : SectionInFile). v.section) (in_file (segments l.layout.sections)) ≡ nonempty l.layout.sections
       → ((v : SectionInFile) → Contains (in_file (segments l.layout.sections)) v
       → file_offset (segments l.layout.sections) v.section ≡ v.offset)
-      → (key : SectionKey) (x : LinkedPiece) → kept_range (Some y) t key ≡ None → IsPieceOf l key x
+      → (key : SectionKey) (x : LinkedPiece) → stayed_range (Some y) t key ≡ None → IsPieceOf l key x
       → has_stayed old x ≡ false
-  unfolding kept_range
+  unfolding stayed_range
   complete y previous short order all offset_is key x e piece =
       let there = in_link l.project l.layout x piece.among in
       subst (λ (v : LinkedPiece). has_stayed old v ≡ false) there.is
@@ -192,7 +192,8 @@ module _ (old : GoodLink) (l : KnownLink) (keys : (k : ℕ) → l.number k ≡ k
       → image_length l.project l.layout ≤ max_image_length → AreInFileOrder (segments l.layout.sections)
       → map (λ (v : SectionInFile). v.section) (in_file (segments l.layout.sections)) ≡ nonempty l.layout.sections
       → ((v : SectionInFile) → Contains (in_file (segments l.layout.sections)) v
-      → file_offset (segments l.layout.sections) v.section ≡ v.offset) → IsComplete (kept_range (previous_of m) t) old l
+      → file_offset (segments l.layout.sections) v.section ≡ v.offset)
+      → IsComplete (stayed_range (previous_of m) t) old l
   complete_or_none None is previous short order all offset_is = absurd (false≢true is)
   complete_or_none (Some y) is previous short order all offset_is = complete
       (previous_state y) previous short order all offset_is
@@ -204,19 +205,19 @@ if_known old l key None h = tt
 if_known old l key (Some r) h = h r refl
 
 pub none_known : (m : Option PreviousState) (t : IndexedLayout) (key : SectionKey) → m ≡ None
-    → kept_range m t key ≡ None
-unfolding kept_range
-none_known m t key e = ap (λ n. kept_range n t key) e
+    → stayed_range m t key ≡ None
+unfolding stayed_range
+none_known m t key e = ap (λ n. stayed_range n t key) e
 
 -- ---- case by case, as the code finds them
 
-kept_none : (x : Option SectionLocation) → None ≡ kept_at x None
+kept_none : (x : Option SectionLocation) → None ≡ range_if_same x None
 kept_none None = refl
 kept_none (Some b) = refl
 
 -- what stood at another address did not stay
 pub elsewhere : (b a : SectionAddress) → (b.start == a.start) ≡ false → (x y : Option FileRange)
-    → None ≡ kept_at (option_map (location_with b) x) (option_map (location_with a) y)
+    → None ≡ range_if_same (option_map (location_with b) x) (option_map (location_with a) y)
 elsewhere b a e None y = refl
 elsewhere b a e (Some r) None = refl
 elsewhere b a e (Some r) (Some s) =
@@ -234,64 +235,65 @@ module _ (m : Option PreviousView) (y : PreviousView) (last_is : m ≡ Some y) (
   before_is None = refl
   before_is (Some i) = refl
 
-  kept_is : kept_range (previous_of m) t key
-      ≡ kept_at (option_and_then (location_of was) (previous_address (previous_state y) key))
-      (option_and_then (location_of t.link_layout) (place_in t key))
-  unfolding kept_range previous_location location_in
+  kept_is : stayed_range (previous_of m) t key
+      ≡ range_if_same (option_and_then (location_of was) (previous_address (previous_state y) key))
+      (option_and_then (location_of t.link_layout) (address_in t key))
+  unfolding stayed_range previous_location location_in
   kept_is =
-      ap (λ n. kept_range (previous_of n) t key) last_is
-      ∙ ap (λ b. kept_at b (location_in t key)) (before_is (last_place (previous_state y) key.object))
+      ap (λ n. stayed_range (previous_of n) t key) last_is
+      ∙ ap (λ b. range_if_same b (location_in t key)) (before_is (last_place (previous_state y) key.object))
 
-  pub none_before : None ≡ previous_address (previous_state y) key → None ≡ kept_range (previous_of m) t key
+  pub none_before : None ≡ previous_address (previous_state y) key → None ≡ stayed_range (previous_of m) t key
   none_before e =
-      ap (λ b. kept_at (option_and_then (location_of was) b) (option_and_then (location_of t.link_layout) (place_in t key)))
+      ap (λ b. range_if_same (option_and_then (location_of was) b)
+      (option_and_then (location_of t.link_layout) (address_in t key)))
       e
       ∙ sym kept_is
 
   module _ (b : SectionAddress) (before : Some b ≡ previous_address (previous_state y) key) where
-    known_before : kept_at (location_of was b) (option_and_then (location_of t.link_layout) (place_in t key))
-        ≡ kept_range (previous_of m) t key
+    known_before : range_if_same (location_of was b) (option_and_then (location_of t.link_layout) (address_in t key))
+        ≡ stayed_range (previous_of m) t key
     known_before =
-        ap (λ c. kept_at (option_and_then (location_of was) c)
-        (option_and_then (location_of t.link_layout) (place_in t key))) before
+        ap (λ c. range_if_same (option_and_then (location_of was) c)
+        (option_and_then (location_of t.link_layout) (address_in t key))) before
         ∙ sym kept_is
 
-    pub none_now : None ≡ place_in t key → None ≡ kept_range (previous_of m) t key
+    pub none_now : None ≡ address_in t key → None ≡ stayed_range (previous_of m) t key
     none_now e =
         kept_none (location_of was b)
-        ∙ ap (λ c. kept_at (location_of was b) (option_and_then (location_of t.link_layout) c)) e
+        ∙ ap (λ c. range_if_same (location_of was b) (option_and_then (location_of t.link_layout) c)) e
         ∙ known_before
 
-    pub both : (a : SectionAddress) → Some a ≡ place_in t key
-        → kept_at (location_of was b) (location_of t.link_layout a) ≡ kept_range (previous_of m) t key
+    pub both : (a : SectionAddress) → Some a ≡ address_in t key
+        → range_if_same (location_of was b) (location_of t.link_layout a) ≡ stayed_range (previous_of m) t key
     both a e =
-        ap (λ c. kept_at (location_of was b) (option_and_then (location_of t.link_layout) c)) e ∙ known_before
+        ap (λ c. range_if_same (location_of was b) (option_and_then (location_of t.link_layout) c)) e ∙ known_before
 
 -- ---- what symbols were worth
 
 pub not_kept : (m : Option PreviousState) (t : IndexedLayout) (object : ObjectPlace) → m ≡ None
-    → IsKept (kept_range m t) object → ⊥
+    → HasSomeStayed (stayed_range m t) object → ⊥
 not_kept m t object e kept =
     false≢true (subst IsSome (none_known m t (record { object = object; part = kept.0 }) e) kept.1)
 
 -- an object of which a section is known to have stayed stood in the previous link
 module _ (t : IndexedLayout) (y : PreviousState) (object : ObjectPlace) where
   stood_at : (p : Option ℕ) → last_place y object ≡ p → (part : Part)
-      → IsSome (kept_range (Some y) t (record { object = object; part = part }))
+      → IsSome (stayed_range (Some y) t (record { object = object; part = part }))
       → (from : ℕ) × (last_place y object ≡ Some from)
-  unfolding kept_range previous_location
+  unfolding stayed_range previous_location
   stood_at None e part kept =
       let gone : previous_location y (record { object = object; part = part }) ≡ None =
       ap (option_and_then (standing_from y part)) e in
       absurd (false≢true (subst IsSome
-      (ap (λ b. kept_at b (location_in t (record { object = object; part = part }))) gone) kept))
+      (ap (λ b. range_if_same b (location_in t (record { object = object; part = part }))) gone) kept))
   stood_at (Some j) e part kept = (j, e)
 
 -- the values of its symbols there, by those of the object at that place
 pub were_worth : (old : GoodLink) (l : KnownLink) → ((k : ℕ) → l.number k ≡ k) → (t : IndexedLayout)
     (m : Option PreviousView) (y : PreviousView) → m ≡ Some y → IfSome (previous_of m) (IsPreviousOf old l.project)
     → (object : ObjectPlace) (o : NamedObject) → named_object l object ≡ Some o
-    → IsKept (kept_range (previous_of m) t) object → (row : List SymbolValue)
+    → HasSomeStayed (stayed_range (previous_of m) t) object → (row : List SymbolValue)
     → ((from : ℕ) → last_place (previous_state y) object ≡ Some from
     → AreSymbolValues old.project old.layout y.snapshot.now.symbols → slice_get old.project.objects from ≡ Some o
     → AreValuesOf old.project old.layout o row)
@@ -299,8 +301,8 @@ pub were_worth : (old : GoodLink) (l : KnownLink) → ((k : ℕ) → l.number k 
 were_worth old l keys t m y e previous object o named kept row worth =
     let known : IsPreviousOf old l.project (previous_state y) =
     subst (λ n. IfSome (previous_of n) (IsPreviousOf old l.project)) e previous in
-    let kept_there : IsKept (kept_range (Some (previous_state y)) t) object =
-    subst (λ n. IsKept (kept_range (previous_of n) t) object) e kept in
+    let kept_there : HasSomeStayed (stayed_range (Some (previous_state y)) t) object =
+    subst (λ n. HasSomeStayed (stayed_range (previous_of n) t) object) e kept in
     let at = stood_at t (previous_state y) object (last_place (previous_state y) object) refl kept_there.0
     kept_there.1 in
     worth at.0 at.1 known.table.symbols

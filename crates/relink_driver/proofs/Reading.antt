@@ -5,8 +5,8 @@ use Rattle.elfobj.specs.Raised.{raised}
 use Rattle.elfobj.specs.declared.meter.Count.TheVariants as counts
 use Rattle.place.specs.sections.Counted.{CountsPieces}
 use Rattle.relink_driver.specs.Reads.{EndsReadingNothing, ReadsNothing}
-use Rattle.relink_driver.specs.declared.pass_error.PassError.{PassError}
-use Rattle.relink_driver.specs.declared.pass_error.PassError.TheVariants.{Faulty, NoMemory}
+use Rattle.relink_driver.specs.declared.pass_end.PassEnd.{PassEnd}
+use Rattle.relink_driver.specs.declared.pass_end.PassEnd.TheVariants.{Faulty, NoMemory}
 
 -- a count does not fall
 up : (n m by : ℕ) → n < 2 ^ 64 → m ≡ capped n by → n ≤ m
@@ -61,12 +61,12 @@ bytes_read_nothing old new n small e = record {
   bytes = up old.bytes new.bytes n small (ap (λ (m : Counts). m.bytes) e);
 }
 
-pub ends_reading : (old new : Counts) (stop : PassError) → ReadsNothing old new → EndsReadingNothing old new stop
+pub ends_reading : (old new : Counts) (stop : PassEnd) → ReadsNothing old new → EndsReadingNothing old new stop
 ends_reading old new (Faulty o) r = r
 ends_reading old new NoMemory r = tt
 
 -- what read nothing, and then ended so
-pub reads_ending : (a b c : Counts) (stop : PassError) → ReadsNothing a b → EndsReadingNothing b c stop
+pub reads_ending : (a b c : Counts) (stop : PassEnd) → ReadsNothing a b → EndsReadingNothing b c stop
     → EndsReadingNothing a c stop
 reads_ending a b c (Faulty o) x y = reads_then a b c x y
 reads_ending a b c NoMemory x y = tt

@@ -12,7 +12,7 @@ use Rattle.ldmodel.specs.declared.rows.Piece.{Piece}
 use Rattle.ldmodel_laws.specs.Spread.{entries_in}
 use Rattle.ldmodel_project.specs.ByPlace.{rows_in}
 use Rattle.ldscript.specs.statements.declared.statement.Statement.{Statement}
-use Rattle.place.specs.sections.Kept.{IsKept}
+use Rattle.place.specs.sections.Resumable.{IsResumable}
 use Rattle.place.specs.sections.Places.{IsPlacement}
 use Rattle.place.specs.InPlace.{IsOwned}
 use Rattle.relink_driver.specs.Resume.{AreSameBefore, IsFirstChanged, IsNext}
@@ -33,7 +33,7 @@ module _ (old : GoodLink) (new : Project) (x : PreviousState) (previous : IsPrev
       below
       ∙ ap (λ (r : List (List model.Piece)). slice_index_or r k []) are
 
-  pub is_kept : x.same_script ≡ true → IsKept new.script
+  pub is_kept : x.same_script ≡ true → IsResumable new.script
       (model.rows new) x.snapshot.indexed_layout.link_layout.placement first
   is_kept same = record {
     earlier = model.rows old.project;

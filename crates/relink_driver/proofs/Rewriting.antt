@@ -40,7 +40,7 @@ use Rattle.place.specs.declared.indexed_layout.IndexedLayout.{IndexedLayout}
 use Rattle.place.specs.declared.indexed_layout.SectionAddress.{SectionAddress}
 use Rattle.place.specs.declared.link_layout.LinkLayout.{LinkLayout}
 use Rattle.place.specs.sections.Places.{AreOf, IsPlacement}
-use Rattle.relink_driver.specs.InPlace.{IsNextLink, IsKeptLink, origin_beside}
+use Rattle.relink_driver.specs.InPlace.{IsNextLink, HasSameOutlines, origin_beside}
 use Rattle.relink_driver.specs.StayedSections.{IsPreviousOf, IsReplaced, PreviousState, ReplacedObjectState}
 use Rattle.relink_driver.specs.LinkSnapshot.{IsLinkSnapshot}
 use Rattle.relink_driver.specs.declared.link_snapshot.LinkSnapshot.{LinkSnapshot}
@@ -146,7 +146,7 @@ module _ (old : GoodLink) (p : Project) (x : PreviousState) (r : ReplacedObjectS
 
 -- ---- what is kept of the previous link is right
 
-module _ (p q : Project) (i : ℕ) (h : DiffersInContents p q i) (s : Layout) (k : IsKeptLink p q s) where
+module _ (p q : Project) (i : ℕ) (h : DiffersInContents p q i) (s : Layout) (k : HasSameOutlines p q s) where
   same_table : (t : InputSectionTable) → IsTableOf p t → IsTableOf q t
   same_table t is = record {
     all = input_before p q i h k.decided (λ id. IsSome (number_of t id.object id.part)) is.all;

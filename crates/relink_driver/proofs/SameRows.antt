@@ -33,7 +33,8 @@ use Rattle.ldmodel_project.specs.ByPlace.{name_of_section, piece_in, rows_in}
 use Rattle.place.specs.InPlace.{IsOwned}
 use Rattle.relink_driver.specs.Resume.{HasReplaced}
 use Rattle.relink_driver.specs.Origins.{AreOrigins}
-use Rattle.relink_driver.specs.SameRows.{are_same_pieces, came_for, first_changed, has_same_name, is_of_same_object}
+use Rattle.relink_driver.specs.SameRows.{are_same_pieces, replaced_part, first_changed, has_same_name}
+use Rattle.relink_driver.specs.SameRows.{is_of_same_object}
 use Rattle.relink_driver.specs.SameRows.{is_same_piece, is_same_row, is_same_section, kind_number, part_name}
 use Rattle.relink_driver.specs.StayedSections.{IsReplaced, PreviousState, ReplacedObjectState, last_place}
 use Rattle.relink_driver.proofs.Kept.{counted, same_part}
@@ -179,7 +180,7 @@ module _ (old new : Project) (x : PreviousState) (origins : AreOrigins old new x
             (option_and_then (λ (v : NamedObject). section_numbered v k) m) []) at
         named (InCommon s) at = refl
 
-    came : (r : ReplacedObjectState) → IsReplaced old new r → came_for r new a b ≡ true → a.part ≡ b.part
+    came : (r : ReplacedObjectState) → IsReplaced old new r → replaced_part r new a b ≡ true → a.part ≡ b.part
         → AreNamedAlike old new a b
     came r is h part =
         let first = and_parts (r.old.0 == a.object.0) _ h in
@@ -206,7 +207,7 @@ module _ (old new : Project) (x : PreviousState) (origins : AreOrigins old new x
         go (last_place x b.object) refl both.1 (same_part a.part b.part both.0)
       where
         renewed : (m : Option ReplacedObjectState) → IfSome m (IsReplaced old new)
-            → option_map_or (λ (r : ReplacedObjectState). came_for r new a b) m false ≡ true → a.part ≡ b.part
+            → option_map_or (λ (r : ReplacedObjectState). replaced_part r new a b) m false ≡ true → a.part ≡ b.part
             → AreNamedAlike old new a b
         renewed None is h part = absurd (false≢true h)
         renewed (Some r) is h part = came r is h part
@@ -228,7 +229,7 @@ module _ (old new : Project) (x : PreviousState) (origins : AreOrigins old new x
       names = sym (object_is old a.object.0 y was) ∙ alike.object ∙ object_is new b.object.0 o is
 
       found_renewed : (m : Option ReplacedObjectState) → IfSome m (IsReplaced old new) → HasReplaced m b.object.0
-          → option_map_or (λ (r : ReplacedObjectState). came_for r new a b) m false ≡ true
+          → option_map_or (λ (r : ReplacedObjectState). replaced_part r new a b) m false ≡ true
       found_renewed None r h = absurd h
       found_renewed (Some r) there h =
           let after : slice_get new.objects b.object.0 ≡ Some there.after =

@@ -19,7 +19,7 @@ use Rattle.ldmodel.specs.Stayed.{LinkedPiece, linked_piece, linked_pieces, range
 use Rattle.ldmodel.specs.SymbolValues.{is_part, placed_part}
 use Rattle.ldmodel.specs.declared.sections.SectionKey.{SectionKey}
 use Rattle.place.specs.Offsets.{IsOffset}
-use Rattle.place.specs.IndexedLayout.{IsIndexedLayout, IsSectionAddress, place_in}
+use Rattle.place.specs.IndexedLayout.{IsIndexedLayout, IsSectionAddress, address_in}
 use Rattle.place.specs.declared.indexed_layout.SectionAddress.{SectionAddress}
 use Rattle.place.specs.declared.indexed_layout.IndexedLayout.{IndexedLayout}
 use Rattle.emit.specs.relocate.PreviousLinkInfo.{range_of}
@@ -166,8 +166,8 @@ module _ (p : Project) (s : Layout) (t : IndexedLayout) (indexed_layout : IsInde
         ∙ ap (λ m. position (λ (r : PlacedOutput). list_any (is_part z.piece.object m) r.pieces) s.sections) part
         ∙ section_is s indexed_layout.apart.once k q z at among
 
-    place_is : place_in t key ≡ Some (place_with z.start z.piece.size k)
-    place_is = go (place_in t key) (indexed_layout.places key)
+    place_is : address_in t key ≡ Some (place_with z.start z.piece.size k)
+    place_is = go (address_in t key) (indexed_layout.places key)
       where
         go : (m : Option SectionAddress) → IsSectionAddress p s key m → m ≡ Some (place_with z.start z.piece.size k)
         go None h = let none : None ≡ Some z = sym h ∙ part_found in absurd (let never : ⊥ = cc in never)
@@ -238,9 +238,9 @@ module _ (p : Project) (s : Layout) (t : IndexedLayout) (indexed_layout : IsInde
 
   pub stood : (key : SectionKey) (a : SectionLocation) → location_in t key ≡ Some a → Stood key a
   unfolding location_in
-  stood key a e = go (place_in t key) (indexed_layout.places key) refl e
+  stood key a e = go (address_in t key) (indexed_layout.places key) refl e
     where
-      go : (m : Option SectionAddress) → IsSectionAddress p s key m → place_in t key ≡ m
+      go : (m : Option SectionAddress) → IsSectionAddress p s key m → address_in t key ≡ m
           → option_and_then (location_of t.link_layout) m ≡ Some a → Stood key a
       go None h same g = absurd (let none : ⊥ = cc in none)
       go (Some x) h same g =

@@ -31,7 +31,8 @@ use Rattle.ldmodel.specs.SectionHeaders.{image_length}
 use Rattle.ldmodel.specs.Sections.{is_same_part}
 use Rattle.ldmodel.specs.Segments.{segments}
 use Rattle.ldmodel.specs.SessionWork.{bytes_to_write, sites_to_evaluate}
-use Rattle.ldmodel.specs.Stayed.{GoodLink, LinkedPiece, has_stayed, is_moved, linked_piece, link_pieces, linked_pieces}
+use Rattle.ldmodel.specs.Stayed.{GoodLink, LinkedPiece, has_stayed, has_other_value, linked_piece, link_pieces}
+use Rattle.ldmodel.specs.Stayed.{linked_pieces}
 use Rattle.ldmodel.specs.Stayed.{retargeted, same_piece, same_range, sites_in, stayed, text_of}
 use Rattle.ldmodel.specs.SymbolValues.{SymbolValue, is_part, name_value, number_or_0, own_value, placed_part}
 use Rattle.ldmodel.specs.SymbolValues.{placed_pieces}
@@ -483,12 +484,12 @@ module _ (p q : Project) (s : Layout) (i : ℕ) (h : DiffersInContents p q i) (f
         go None = refl
         go (Some v) = same_referenced t.object v
 
-    unmoved : (t : Site) → is_moved old new t ≡ false
+    unmoved : (t : Site) → has_other_value old new t ≡ false
     unmoved t = ap not (eq-eqb _ _ (ap number_or_0 (same_value t)))
 
     none_moved : retargeted old new ≡ []
     unfolding retargeted
-    none_moved = filter_one (is_moved old new) false (flat_map (sites_in q) (stayed old new)) (λ t c. unmoved t)
+    none_moved = filter_one (has_other_value old new) false (flat_map (sites_in q) (stayed old new)) (λ t c. unmoved t)
 
     -- the sites that are evaluated are those of the object
     pub touched_sites : ((x : LinkedPiece) → Contains (link_pieces new) x

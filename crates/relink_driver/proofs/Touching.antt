@@ -63,7 +63,7 @@ use Rattle.place.specs.IndexedLayout.{IsIndexedLayout}
 use Rattle.ldmodel_laws.proofs.Finding.{flat_map_in, member_of}
 use Rattle.ldmodel_laws.proofs.Members.{here, later, first_or_later, none_in_nil, at_place}
 use Rattle.relink_driver.specs.Reads.{ReadsNothing}
-use Rattle.relink_driver.specs.InPlace.{IsNextLink, IsKeptLink, IsInPlaceOutcome, bytes_of_object, own_bytes}
+use Rattle.relink_driver.specs.InPlace.{IsNextLink, HasSameOutlines, IsInPlaceOutcome, bytes_of_object, own_bytes}
 use Rattle.relink_driver.specs.LocatedSections.{spots_below}
 use Rattle.relink_driver.specs.StayedSections.{IsPreviousOf, PreviousState, ReplacedObjectState}
 use Rattle.relink_driver.specs.Touched.{HasFault, HasTouched, IsTouchedCount, IsTouchedWork}
@@ -221,7 +221,8 @@ row_values l t place o count row worth at many is j =
 
 module _ (p : Project) (x : PreviousState) (r : ReplacedObjectState) (f : IsNextLink x p r)
     (names : AreNamesDistinct p.objects)
-    (keeps : (old : GoodLink) → DiffersInContents old.project p r.new.0 → IsKeptLink old.project p old.layout) where
+    (keeps : (old : GoodLink) → DiffersInContents old.project p r.new.0
+    → HasSameOutlines old.project p old.layout) where
   abbrev place : ℕ
   place = r.new.0
 
@@ -235,7 +236,7 @@ module _ (p : Project) (x : PreviousState) (r : ReplacedObjectState) (f : IsNext
     rewritten : DiffersInContents old.project p place
     rewritten = is_rewritten old p x r is f
 
-    kept : IsKeptLink old.project p s
+    kept : HasSameOutlines old.project p s
     kept = keeps old rewritten
 
     pub laid : model.layout p ≡ Ok s

@@ -28,7 +28,7 @@ origin_beside place i = if i == place then None else Some i
 -- where sections are dropped that nothing refers to, their relocations name the same symbols, in their order
 pub record IsNextLink (previous : PreviousState) (project : Project) (r : ReplacedObjectState) : Type 0 where
   pub script : previous.same_script ≡ true
-  pub current : previous.is_current ≡ true
+  pub current : previous.is_answered ≡ true
   pub replaced : previous.replaced ≡ Some r
   pub place : r.old.0 ≡ r.new.0
   pub objects : previous.objects ≡ length project.objects
@@ -41,7 +41,7 @@ pub record IsNextLink (previous : PreviousState) (project : Project) (r : Replac
       → map section_targets r.object.sections ≡ map section_targets after.object.sections
 
 -- what the laws on outlines say of two projects, at the layout of the first
-pub record IsKeptLink (project q : Project) (s : Layout) : Type 0 where
+pub record HasSameOutlines (project q : Project) (s : Layout) : Type 0 where
   pub decided : (name : List ℕ) → decision project name ≡ decision q name
   pub provided : provided project ≡ provided q
   pub worth : (name : List ℕ) → name_value project s name ≡ name_value q s name
@@ -57,7 +57,7 @@ pub record IsKeptLink (project q : Project) (s : Layout) : Type 0 where
 pub record IsInPlaceOutcome (project : Project) (previous : Option PreviousState) (bytes : List ℕ) : Type 0 where
   pub before : PreviousState
   pub was : previous ≡ Some before
-  pub current : before.is_current ≡ true
+  pub current : before.is_answered ≡ true
   pub place : ℕ
   pub rewritten : (old : GoodLink) → IsPreviousOf old project before → DiffersInContents old.project project place
   pub layout : Layout

@@ -1,6 +1,6 @@
 pub mod Origins
 pub mod SectionLocation
-pub mod FixedOutputs
+pub mod SameStarts
 pub mod LinkSnapshot
 pub mod ValueSources
 pub mod DirtyObjects
@@ -22,7 +22,7 @@ pub mod Reads
 pub mod WithoutMap
 pub mod Worked
 pub mod Touched
-pub mod PassErrors
+pub mod PassEnds
 pub mod Unbounded
 pub mod Adding
 pub mod Answer

@@ -1,7 +1,7 @@
 -- What is known of a link after each phase that follows its gathering.
 use Rattle.std.specs.Prelude.{◌≡◌, ◌≤◌, ℕ, IfSome, IsSome, List, is_some}
 use Rattle.std.specs.List.{All}
-use Rattle.emit.specs.image.Kept.{ArePatchesOf}
+use Rattle.emit.specs.image.Redrawings.{ArePatchesOf}
 use Rattle.emit.specs.image.Stretches.{EndsBy}
 use Rattle.relink_driver.specs.DirtyObjects.{AreDirtyObjects}
 use Rattle.relink_driver.specs.StayedSections.{IsPreviousOf, PreviousState, previous_of, range_of}

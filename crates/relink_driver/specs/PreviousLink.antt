@@ -5,7 +5,7 @@ use Rattle.elfobj.specs.Object.{ObjectData}
 use Rattle.ldmodel.specs.declared.names.ObjectPlace.{ObjectPlace}
 use Rattle.ldmodel.specs.declared.sections.Part.{Part}
 use Rattle.ldmodel.specs.declared.sections.SectionKey.{SectionKey}
-use Rattle.place.specs.IndexedLayout.{place_in}
+use Rattle.place.specs.IndexedLayout.{address_in}
 use Rattle.place.specs.declared.indexed_layout.IndexedLayout.{IndexedLayout}
 use Rattle.place.specs.declared.indexed_layout.SectionAddress.{SectionAddress}
 use Rattle.emit.specs.relocate.declared.previous_link_info.FileRange.{FileRange}
@@ -32,7 +32,7 @@ pub record PreviousState : Type 0 where
   pub from : List (Option ℕ)
   pub same_script : Bool
   pub replaced : Option ReplacedObjectState
-  pub is_current : Bool
+  pub is_answered : Bool
 
 abbrev pub previous_state : PreviousView → PreviousState
 previous_state x = record {
@@ -41,7 +41,7 @@ previous_state x = record {
   from = x.from.now;
   same_script = x.same_script;
   replaced = option_map replaced_state x.replaced;
-  is_current = x.is_current;
+  is_answered = x.is_answered;
 }
 
 abbrev pub previous_of : Option PreviousView → Option PreviousState
@@ -59,7 +59,7 @@ standing_from previous part i =
 -- its address there
 abbrev pub address_from : PreviousState → Part → ℕ → Option SectionAddress
 address_from previous part i =
-    place_in previous.snapshot.indexed_layout (record { object = record { 0 = i }; part = part })
+    address_in previous.snapshot.indexed_layout (record { object = record { 0 = i }; part = part })
 
 abbrev pub previous_address : PreviousState → SectionKey → Option SectionAddress
 previous_address previous k = option_and_then (address_from previous k.part) (last_place previous k.object)
@@ -68,12 +68,12 @@ unfoldable pub previous_location : PreviousState → SectionKey → Option Secti
 previous_location previous k = option_and_then (standing_from previous k.part) (last_place previous k.object)
 
 -- it stayed where it stands as it stood
-abbrev pub kept_at : Option SectionLocation → Option SectionLocation → Option FileRange
-kept_at None now = None
-kept_at (Some before) None = None
-kept_at (Some before) (Some now) = if same_location before now then Some now.range else None
+abbrev pub range_if_same : Option SectionLocation → Option SectionLocation → Option FileRange
+range_if_same None now = None
+range_if_same (Some before) None = None
+range_if_same (Some before) (Some now) = if same_location before now then Some now.range else None
 
 -- which input sections stayed, and where their bytes stand in the file
-unfoldable pub kept_range : Option PreviousState → IndexedLayout → SectionKey → Option FileRange
-kept_range None now k = None
-kept_range (Some x) now k = kept_at (previous_location x k) (location_in now k)
+unfoldable pub stayed_range : Option PreviousState → IndexedLayout → SectionKey → Option FileRange
+stayed_range None now k = None
+stayed_range (Some x) now k = range_if_same (previous_location x k) (location_in now k)

@@ -1,8 +1,8 @@
 -- Passes that read no object and decide no name.
 use Rattle.std.specs.Prelude.{◌≡◌, ◌≤◌, ⊤}
 use Rattle.ldmodel.specs.Counts.{Counts}
-use Rattle.relink_driver.specs.declared.pass_error.PassError.{PassError}
-use Rattle.relink_driver.specs.declared.pass_error.PassError.TheVariants.{Faulty, NoMemory}
+use Rattle.relink_driver.specs.declared.pass_end.PassEnd.{PassEnd}
+use Rattle.relink_driver.specs.declared.pass_end.PassEnd.TheVariants.{Faulty, NoMemory}
 
 -- the numbers of objects read and of names decided stay, and the others do not fall
 pub record ReadsNothing (old new : Counts) : Type 0 where
@@ -13,6 +13,6 @@ pub record ReadsNothing (old new : Counts) : Type 0 where
   pub bytes : old.bytes ≤ new.bytes
 
 -- so it is where faults end the link
-abbrev pub EndsReadingNothing : (old new : Counts) → PassError → Type 0
+abbrev pub EndsReadingNothing : (old new : Counts) → PassEnd → Type 0
 EndsReadingNothing old new (Faulty o) = ReadsNothing old new
 EndsReadingNothing old new NoMemory = ⊤

@@ -36,8 +36,8 @@ has_same_name a part b = bytes_eq (part_name a part) (part_name b.object part)
 
 -- the object of a section came in the place of that of the previous link's section, and the part of the latter has the
 -- same name in both
-abbrev pub came_for : ReplacedObjectState → Project → SectionKey → SectionKey → Bool
-came_for r project a b =
+abbrev pub replaced_part : ReplacedObjectState → Project → SectionKey → SectionKey → Bool
+replaced_part r project a b =
     (r.old.0 == a.object.0)
     && ((r.new.0 == b.object.0) && option_map_or (has_same_name r.object a.part)
     (slice_get project.objects b.object.0) false)
@@ -46,7 +46,7 @@ came_for r project a b =
 abbrev pub is_of_same_object : PreviousState → Project → SectionKey → SectionKey → Option ℕ → Bool
 is_of_same_object previous project a b (Some i) = i == a.object.0
 is_of_same_object previous project a b None =
-    option_map_or (λ (r : ReplacedObjectState). came_for r project a b) previous.replaced false
+    option_map_or (λ (r : ReplacedObjectState). replaced_part r project a b) previous.replaced false
 
 -- a section of the new link is the previous link's
 abbrev pub is_same_section : PreviousState → Project → SectionKey → SectionKey → Bool

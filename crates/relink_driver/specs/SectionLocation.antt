@@ -4,7 +4,7 @@ use Rattle.std.specs.Prelude.{option_and_then, if◌then◌else◌}
 use Rattle.std.specs.Option.{option_map}
 use Rattle.ldmodel.specs.declared.placed.Placed.{Placed}
 use Rattle.ldmodel.specs.declared.sections.SectionKey.{SectionKey}
-use Rattle.place.specs.IndexedLayout.{place_in}
+use Rattle.place.specs.IndexedLayout.{address_in}
 use Rattle.place.specs.declared.link_layout.LinkLayout.{LinkLayout}
 use Rattle.place.specs.declared.indexed_layout.SectionAddress.{SectionAddress}
 use Rattle.place.specs.declared.indexed_layout.IndexedLayout.{IndexedLayout}
@@ -37,7 +37,7 @@ abbrev pub location_of : LinkLayout → SectionAddress → Option SectionLocatio
 location_of l x = option_map (location_with x) (range_at l x)
 
 unfoldable pub location_in : IndexedLayout → SectionKey → Option SectionLocation
-location_in x k = option_and_then (location_of x.link_layout) (place_in x k)
+location_in x k = option_and_then (location_of x.link_layout) (address_in x k)
 
 abbrev pub same_location : SectionLocation → SectionLocation → Bool
 same_location a b =

@@ -14,14 +14,15 @@ use Rattle.emit.specs.relocate.LinkView.{known_link}
 use Rattle.relink_driver.specs.DirtyObjects.{AreDirtyObjects}
 use Rattle.relink_driver.specs.LinkSnapshot.{IsLinkSnapshot}
 use Rattle.relink_driver.specs.Origins.{AreOrigins}
-pub use Rattle.relink_driver.specs.PreviousLink.{PreviousState, ReplacedObjectState, address_from, kept_at, last_place}
+pub use Rattle.relink_driver.specs.PreviousLink.{PreviousState, ReplacedObjectState, address_from, range_if_same}
+pub use Rattle.relink_driver.specs.PreviousLink.{last_place}
 pub use Rattle.relink_driver.specs.PreviousLink.{previous_address, previous_of, previous_state}
 pub use Rattle.relink_driver.specs.PreviousLink.{replaced_state, standing_from}
-unfoldable pub use Rattle.relink_driver.specs.PreviousLink.{kept_range, previous_location}
+unfoldable pub use Rattle.relink_driver.specs.PreviousLink.{stayed_range, previous_location}
 use Rattle.relink_driver.specs.declared.stayed_sections.StayedSections.{StayedSections}
 
 abbrev pub range_of : StayedSections → SectionKey → Option FileRange
-range_of s k = kept_range (previous_of s.previous) s.indexed_layout.now k
+range_of s k = stayed_range (previous_of s.previous) s.indexed_layout.now k
 
 -- this object of the previous project was replaced by that of the new one which has its name
 pub record IsReplaced (project q : Project) (r : ReplacedObjectState) : Type 0 where

@@ -49,8 +49,8 @@ fn is_dirty(
     let Some(from) = previous.place(ObjectPlace(place)) else {
         return true;
     };
-    let before = previous.snapshot.symbols.row(ObjectPlace(from), count);
-    let now = symbols.row(ObjectPlace(place), count);
+    let before = previous.snapshot.symbols.slice(ObjectPlace(from), count);
+    let now = symbols.slice(ObjectPlace(place), count);
     !have_same_values(before, now)
 }
 

@@ -15,15 +15,15 @@ ghost use Rattle.relink_driver.specs.RelinkOutcome.{HasRelinkOutcome, HasPreviou
 ghost use Rattle.relink_driver.specs.Context.{IsPassContext, project_of};
 ghost use Rattle.relink_driver.specs.Phases.{IsLaidOut};
 ghost use Rattle.relink_driver.specs.Reads.{EndsReadingNothing, ReadsNothing};
-ghost use Rattle.relink_driver.specs.PassErrors.{IsPassError};
+ghost use Rattle.relink_driver.specs.PassEnds.{IsPassEnd};
 ghost use Rattle.relink_driver.specs.WithoutMap.{shown_map};
 ghost use Rattle.relink_driver.specs.Worked.{HasWorked};
 
 use crate::context::PassContext;
 use crate::dirty::dirty_objects;
-use crate::in_place::rewrite_if_alone;
+use crate::in_place::rewrite_if_only_contents_differ;
 use crate::link_snapshot::LinkSnapshot;
-use crate::pass_error::PassError;
+use crate::pass_end::PassEnd;
 use crate::passes::{
     assign_addresses, check_assertions, check_names, compute_values, draw_output,
     evaluate_relocations, gather_inputs, index_layout,
@@ -84,12 +84,12 @@ fn run_passes(
     context: PassContext<'_, '_>,
     canvas: &mut Canvas,
     meter: &mut Meter,
-) -> Result<RelinkOutcome, PassError>
+) -> Result<RelinkOutcome, PassEnd>
     requires context { IsPassContext context }
     requires previous { IfSome (previous_of context.previous) (HasPreviousImage (project_of context) canvas.old.bytes) }
     ensures ended { IfOk result (HasShownOutcome context.entry.with_map (project_of context.entry)
         (previous_of context.entry.previous) canvas.old.bytes canvas.new.bytes) }
-    ensures stop { IfErr result (λ stop. IsPassError (link (project_of context.entry)) stop) }
+    ensures stop { IfErr result (λ stop. IsPassEnd (link (project_of context.entry)) stop) }
     ensures reads { OnOk result (ReadsNothing meter.old meter.new) }
     ensures worked { IfOk result (HasWorked (project_of context.entry)
         (previous_of context.entry.previous) meter.old meter.new) }
@@ -103,6 +103,7 @@ fn run_passes(
         symbol_table,
         ..
     } = context;
+    // finds no fault if a session links, which has asked for these faults before
     check_names(context)?;
     let gathering = gather_inputs(context)?;
     let link_layout = assign_addresses(context, &gathering.rows, meter)?;
@@ -150,7 +151,7 @@ fn run_passes(
 /// # Errors
 ///
 /// If memory runs out. Then the canvas is as it was.
-pub(crate) fn relink_shown(
+pub(crate) fn relink_with_or_without_map(
     alloc: Global,
     project: &ProjectView<'_>,
     symbol_table: &SymbolTable,
@@ -179,13 +180,13 @@ pub(crate) fn relink_shown(
         previous,
         with_map,
     };
-    if rewrite_if_alone(context, canvas, meter)? {
+    if rewrite_if_only_contents_differ(context, canvas, meter)? {
         return Ok(RelinkOutcome::RewrittenInPlace);
     }
     match run_passes(context, canvas, meter) {
         Ok(ended) => Ok(ended),
-        Err(PassError::Faulty(lines)) => Ok(RelinkOutcome::Faulty(lines)),
-        Err(PassError::NoMemory) => Err(AllocError),
+        Err(PassEnd::Faulty(lines)) => Ok(RelinkOutcome::Faulty(lines)),
+        Err(PassEnd::NoMemory) => Err(AllocError),
     }
 }
 
@@ -223,7 +224,7 @@ pub fn relink(
         → ended ≡ RewrittenInPlace) }
     ensures unchanged { OnErr result (canvas.new.bytes ≡ canvas.old.bytes) }
 {
-    relink_shown(
+    relink_with_or_without_map(
         alloc,
         project,
         symbol_table,

@@ -27,13 +27,13 @@ pub fn exit_status(outcome: &Result<Output, LinkFault>) -> u8
 }
 
 /// The word of the file at a place among the edits of a link: `script`, or the word of an object.
-fn word_at(words: &[String], place: usize) -> &[u8]
-    ensures { result.now ≡ word_at (map string_bytes words.now) place }
+fn word_at(words: &[String], input: usize) -> &[u8]
+    ensures { result.now ≡ word_at (map string_bytes words.now) input }
 {
-    if place == 0 {
+    if input == 0 {
         return b"script";
     }
-    match words.get(place - 1) {
+    match words.get(input - 1) {
         Some(word) => word.as_bytes(),
         None => &[],
     }
@@ -70,8 +70,8 @@ pub fn message(
 {
     match outcome {
         Ok(output) => Vec::from_slice(alloc, output.faults()),
-        Err(LinkFault::Refused { place, why }) => {
-            refused_message(alloc, word_at(words, *place), *why)
+        Err(LinkFault::Refused { input, why }) => {
+            refused_message(alloc, word_at(words, *input), *why)
         }
         Err(LinkFault::Memory) => Vec::from_slice(alloc, b"memory\n"),
     }

@@ -7,8 +7,8 @@ use ldmodel::edit::EditRefusal;
 pub enum LinkFault {
     /// An edit is refused, though there is memory.
     Refused {
-        /// The file of the edit: 0 is the script, `i` is object number `i`, from 1.
-        place: usize,
+        /// Which input the edit is of: 0 is the script, `i` is object number `i`, from 1.
+        input: usize,
         /// Why it is refused.
         why: EditRefusal,
     },

@@ -23,14 +23,14 @@ use std::alloc::Global;
 use std::hash::RandomState;
 
 /// Makes the edit at a place among those of a link.
-fn apply_edit(project: &mut Project, place: usize, edit: Edit<'_>) -> Result<(), LinkFault>
+fn apply_edit(project: &mut Project, input: usize, edit: Edit<'_>) -> Result<(), LinkFault>
     ensures accepted { OnOk result (After (held project.old) (change_of edit.entry) (Ok (held project.new))) }
-    ensures refused { IfErr result (EndsAt place (held project.old) (change_of edit.entry)) }
+    ensures refused { IfErr result (EndsAt input (held project.old) (change_of edit.entry)) }
 {
     match project.edit(edit) {
         Ok(()) => Ok(()),
         Err(EditRefusal::NoMemory) => Err(LinkFault::Memory),
-        Err(why) => Err(LinkFault::Refused { place, why }),
+        Err(why) => Err(LinkFault::Refused { input, why }),
     }
 }
 

@@ -6,7 +6,7 @@ ghost use Rattle.ldmodel.specs.Link.{link};
 ghost use Rattle.symres.specs.SymbolTable.{IsSymbolTable};
 ghost use Rattle.relink_driver.specs.WithoutMap.{shown};
 
-use crate::driver::{RelinkOutcome, relink_shown};
+use crate::driver::{RelinkOutcome, relink_with_or_without_map};
 use crate::output::Output;
 use emit::Canvas;
 use gather::matches::{Matches, lend_all, match_all};
@@ -32,7 +32,7 @@ fn link_over(
 {
     let match_refs = lend_all(alloc, matches)?;
     let mut image = Canvas::new(alloc);
-    match relink_shown(
+    match relink_with_or_without_map(
         alloc,
         project,
         symbol_table,

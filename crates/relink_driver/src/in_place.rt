@@ -8,7 +8,7 @@ ghost use Rattle.ldmodel_laws.specs.Outline.{DiffersInContents};
 ghost use Rattle.emit.specs.declared.rewrite.Rewrite.TheVariants.{Done, Faulty};
 ghost use Rattle.relink_driver.specs.RelinkOutcome.{HasPreviousImage};
 ghost use Rattle.relink_driver.specs.Context.{project_of};
-ghost use Rattle.relink_driver.specs.InPlace.{IsNextLink, IsKeptLink, IsInPlaceOutcome, origin_beside};
+ghost use Rattle.relink_driver.specs.InPlace.{IsNextLink, HasSameOutlines, IsInPlaceOutcome, origin_beside};
 ghost use Rattle.relink_driver.specs.Rewritable.{IsRewritable};
 ghost use Rattle.relink_driver.specs.StayedSections.{ReplacedObjectState, previous_of, previous_state, replaced_state};
 ghost use Rattle.relink_driver.specs.Reads.{ReadsNothing};
@@ -19,7 +19,7 @@ use crate::located::locate_sections;
 use crate::outline::{same_outline, same_targets};
 use crate::stayed_sections::{PreviousView, ReplacedObject};
 use emit::Canvas;
-use emit::good::is_good;
+use emit::good::faultless_link_is_good;
 use emit::located_section::nobits_are_bare;
 use emit::rewrite::{Rewrite, rewrite_in_place};
 use emit::rewritten::{
@@ -37,7 +37,7 @@ use std::alloc::Global;
 
 /// Whether each of the first `count` objects has the place that it had in the previous link, except for the object at
 /// `place`: that one is not in the previous link.
-fn is_alone(previous: &PreviousView<'_>, count: usize, place: ObjectPlace) -> bool
+fn others_in_place(previous: &PreviousView<'_>, count: usize, place: ObjectPlace) -> bool
     ensures { (result ≡ true) ↔ ((i : ℕ) → i < count
         → slice_index_or previous.now.from.now i None ≡ origin_beside place.0 i) }
 {
@@ -61,7 +61,7 @@ fn find_replaced<'a>(
     ensures none { IfNone result ((r : ReplacedObjectState)
         → IsNextLink (previous_state previous.now) project.now r → ⊥) }
 {
-    if !previous.same_script || !previous.is_current {
+    if !previous.same_script || !previous.is_answered {
         return None;
     }
     let replaced = previous.replaced?;
@@ -70,7 +70,7 @@ fn find_replaced<'a>(
     if replaced.old != replaced.new || previous.objects != count {
         return None;
     }
-    if !is_alone(previous, count, replaced.new) || !same_outline(replaced.object, object) {
+    if !others_in_place(previous, count, replaced.new) || !same_outline(replaced.object, object) {
         return None;
     }
     if project.options().gc() && !same_targets(replaced.object, object) {
@@ -83,7 +83,7 @@ fn find_replaced<'a>(
 /// does nothing.
 fn outlines_decide()
     ensures { (old : GoodLink) (project : Project) (i : ℕ) → DiffersInContents old.project project i
-        → IsKeptLink old.project project old.layout }
+        → HasSameOutlines old.project project old.layout }
 {
     // for the prover: brings in the laws of `emit::rewritten`
     rewritten_names();
@@ -132,7 +132,7 @@ fn rewrite_object(
     // for the prover: brings in the invariant of `context.project`
     let _inputs = context.project.inputs();
     let indexed_layout = &previous.snapshot.indexed_layout;
-    is_good(context.project, &indexed_layout.link_layout);
+    faultless_link_is_good(context.project, &indexed_layout.link_layout);
     let Some(object) = context.project.object(replaced.new) else {
         // `find_replaced` has compared it with the object that it replaced
         unreachable!()
@@ -141,7 +141,7 @@ fn rewrite_object(
     let values = previous
         .snapshot
         .symbols
-        .row(replaced.new, object.symbols().len());
+        .slice(replaced.new, object.symbols().len());
     rewrite_in_place(
         context.alloc,
         canvas,
@@ -159,7 +159,7 @@ fn rewrite_object(
 /// # Errors
 ///
 /// If memory runs out. Then the canvas is as it was.
-pub(crate) fn rewrite_if_alone(
+pub(crate) fn rewrite_if_only_contents_differ(
     context: PassContext<'_, '_>,
     canvas: &mut Canvas,
     meter: &mut Meter,

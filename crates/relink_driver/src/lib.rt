@@ -1,9 +1,9 @@
 //! Links, from scratch or over a previous one. Takes a project; gives image, map, fault lines and status, or out of
 //! memory; and keeps of a link without faults what the next one needs.
 //!
-//! - `driver` over `passes`, `context`, `pass_error`: all passes of a link, in their order, over resolved names,
+//! - `driver` over `passes`, `context`, `pass_end`: all passes of a link, in their order, over resolved names,
 //!   matches, and the previous link;
-//! - `link_snapshot`: what is kept of a link; `stayed_sections` over `stayed_column` and `fixed_outputs`: which input
+//! - `link_snapshot`: what is kept of a link; `stayed_sections` over `stayed_column` and `same_starts`: which input
 //!   sections stayed, as `emit_relocate` asks; `resume` over `row_changes` and `section_names`: the first row that
 //!   differs; `dirty`: objects with a symbol of another value;
 //! - `in_place` over `outline`, `located`: the fast path, for a link that differs from the previous one only in the
@@ -22,7 +22,6 @@ pub mod driver;
 pub mod exit_report;
 pub mod fault;
 pub mod file;
-mod fixed_outputs;
 pub mod from_files;
 mod from_scratch;
 mod in_place;
@@ -31,11 +30,12 @@ mod located;
 pub mod name_faults;
 mod outline;
 pub mod output;
-mod pass_error;
+mod pass_end;
 mod passes;
 pub mod plain;
 pub mod resume;
 mod row_changes;
+mod same_starts;
 mod section_location;
 mod section_names;
 mod stayed_column;

@@ -5,7 +5,7 @@ ghost use Rattle.ldmodel.specs.Link.{link};
 ghost use Rattle.ldmodel.specs.Project.{Project};
 ghost use Rattle.symres.specs.SymbolTable.{IsSymbolTable};
 
-use crate::pass_error::{PassError, end_if_faulty};
+use crate::pass_end::{PassEnd, end_if_faulty};
 use emit::fault_text;
 use ldmodel::fault::Fault;
 use ldmodel::memory::NoMemory;
@@ -34,8 +34,8 @@ pub fn name_fault_lines(
     let faults = symbol_table.faults(alloc, project)?;
     match end_if_faulty(alloc, project, &faults) {
         Ok(()) => Ok(None),
-        Err(PassError::Faulty(lines)) => Ok(Some(lines)),
-        Err(PassError::NoMemory) => Err(AllocError),
+        Err(PassEnd::Faulty(lines)) => Ok(Some(lines)),
+        Err(PassEnd::NoMemory) => Err(AllocError),
     }
 }
 

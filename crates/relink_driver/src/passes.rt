@@ -18,16 +18,16 @@ ghost use Rattle.relink_driver.specs.Phases.{HasPreviousLink, IsBeside, IsFaultl
 ghost use Rattle.relink_driver.specs.Phases.{IsLaidOut, IsPlaced};
 ghost use Rattle.relink_driver.specs.Phases.{IsShort};
 ghost use Rattle.relink_driver.specs.Reads.{EndsReadingNothing, ReadsNothing};
-ghost use Rattle.relink_driver.specs.PassErrors.{IsPassError};
-ghost use Rattle.relink_driver.specs.declared.pass_error.PassError.TheVariants.{NoMemory};
+ghost use Rattle.relink_driver.specs.PassEnds.{IsPassEnd};
+ghost use Rattle.relink_driver.specs.declared.pass_end.PassEnd.TheVariants.{NoMemory};
 
 use crate::context::PassContext;
-use crate::pass_error::{PassError, end_if_faulty};
+use crate::pass_end::{PassEnd, end_if_faulty};
 use crate::resume::resume_point;
 use crate::stayed_sections::StayedSections;
 use crate::symbol_values::SymbolValues;
 use emit::drawing::draw_image;
-use emit::good::is_good;
+use emit::good::faultless_link_is_good;
 use emit::length::image_length;
 use emit::relocate::asserting::assertion_faults;
 use emit::relocate::given::GivenValues;
@@ -49,12 +49,12 @@ use std::alloc::Global;
 
 /// Names: ends the link if they have faults.
 #[tactic(auto, unfolding(ldmodel::specs::Link::link))]
-pub(crate) fn check_names(context: PassContext<'_, '_>) -> Result<(), PassError>
+pub(crate) fn check_names(context: PassContext<'_, '_>) -> Result<(), PassEnd>
     requires { IsPassContext context }
     ensures rest { OnOk result (link (project_of context.entry)
         ≡ unless (gathering_faults (project_of context.entry))
         (placed (project_of context.entry) (layout (project_of context.entry)))) }
-    ensures stop { IfErr result (λ stop. IsPassError (link (project_of context.entry)) stop) }
+    ensures stop { IfErr result (λ stop. IsPassEnd (link (project_of context.entry)) stop) }
 {
     let faults = context.symbol_table.faults(context.alloc, context.project)?;
     end_if_faulty(context.alloc, context.project, &faults)?;
@@ -73,14 +73,14 @@ fn orphan_faults(alloc: Global, orphans: &[SectionKey]) -> Result<Vec<Fault>, No
 }
 
 /// Gathering: the numbers of the input sections, and the row of each output section.
-pub(crate) fn gather_inputs(context: PassContext<'_, '_>) -> Result<Gathering, PassError>
+pub(crate) fn gather_inputs(context: PassContext<'_, '_>) -> Result<Gathering, PassEnd>
     requires context { IsPassContext context }
     requires rest { link (project_of context)
         ≡ unless (gathering_faults (project_of context)) (placed (project_of context) (layout (project_of context))) }
     ensures gathering { IfOk result (λ g. IsGathering (project_of context.entry) g) }
     ensures rest { OnOk result (link (project_of context.entry)
         ≡ placed (project_of context.entry) (layout (project_of context.entry))) }
-    ensures stop { IfErr result (λ stop. IsPassError (link (project_of context.entry)) stop) }
+    ensures stop { IfErr result (λ stop. IsPassEnd (link (project_of context.entry)) stop) }
 {
     let gathering = Gathering::of(
         context.alloc,
@@ -98,13 +98,13 @@ pub(crate) fn assign_addresses(
     context: PassContext<'_, '_>,
     rows: &[Vec<Piece>],
     meter: &mut Meter,
-) -> Result<LinkLayout, PassError>
+) -> Result<LinkLayout, PassEnd>
     requires context { IsPassContext context }
     requires rows { rows_in (project_of context) rows.now ≡ model.rows (project_of context) }
     requires rest { link (project_of context) ≡ placed (project_of context) (layout (project_of context)) }
     requires previous { IfSome (previous_of context.previous) (HasPreviousLink (project_of context)) }
     ensures good { IfOk result (λ link_layout. HasLayout (project_of context.entry) link_layout) }
-    ensures stop { IfErr result (λ stop. IsPassError (link (project_of context.entry)) stop) }
+    ensures stop { IfErr result (λ stop. IsPassEnd (link (project_of context.entry)) stop) }
     ensures reads { ReadsNothing meter.old meter.new }
     ensures counted { OnOk result
         (ArePlaced (project_of context.entry) (previous_of context.entry.previous) meter.old meter.new) }
@@ -119,10 +119,10 @@ pub(crate) fn assign_addresses(
     let kept = resume_point(context.previous, context.project, rows);
     match LinkLayout::of(context.alloc, context.project, &in_force, rows, kept, meter) {
         Ok(link_layout) => Ok(link_layout),
-        Err(LayoutFault::NoMemory) => Err(PassError::NoMemory),
+        Err(LayoutFault::NoMemory) => Err(PassEnd::NoMemory),
         Err(LayoutFault::Faulty(faults)) => {
             let lines = fault_text(context.alloc, context.project, &faults)?;
-            Err(PassError::Faulty(lines))
+            Err(PassEnd::Faulty(lines))
         }
     }
 }
@@ -132,7 +132,7 @@ pub(crate) fn index_layout(
     context: PassContext<'_, '_>,
     gathering: Gathering,
     link_layout: LinkLayout,
-) -> Result<IndexedLayout, PassError>
+) -> Result<IndexedLayout, PassEnd>
     requires gathering { IsGathering (project_of context) gathering }
     requires link_layout { HasLayout (project_of context) link_layout }
     requires rest { link (project_of context) ≡ placed (project_of context) (layout (project_of context)) }
@@ -142,7 +142,7 @@ pub(crate) fn index_layout(
     let Gathering { table, rows, .. } = gathering;
     match IndexedLayout::of(context.alloc, context.project, table, rows, link_layout) {
         Ok(indexed_layout) => Ok(indexed_layout),
-        Err(_) => Err(PassError::NoMemory),
+        Err(_) => Err(PassEnd::NoMemory),
     }
 }
 
@@ -152,17 +152,17 @@ fn check_length(
     link_layout: &LinkLayout,
     view: &LinkView<'_, '_>,
     values: &Values<'_>,
-) -> Result<(), PassError>
+) -> Result<(), PassEnd>
     requires { IsPlaced (project_of context) link_layout.now view.now values.now }
     ensures good { OnOk result (IsShort (project_of context.entry) link_layout.now view.now values.now) }
-    ensures stop { IfErr result (λ stop. IsPassError (link (project_of context.entry)) stop) }
+    ensures stop { IfErr result (λ stop. IsPassEnd (link (project_of context.entry)) stop) }
 {
     let length = image_length(context.alloc, context.project, link_layout, values)?;
     match length_fault(length) {
         None => Ok(()),
         Some(fault) => {
             let lines = fault_text(context.alloc, context.project, &[fault])?;
-            Err(PassError::Faulty(lines))
+            Err(PassEnd::Faulty(lines))
         }
     }
 }
@@ -173,12 +173,12 @@ pub(crate) fn compute_values<'a>(
     link_layout: &LinkLayout,
     view: &LinkView<'_, '_>,
     given: &GivenValues<'a>,
-) -> Result<Values<'a>, PassError>
+) -> Result<Values<'a>, PassEnd>
     requires context { IsPassContext context }
     requires given { IsGiven (project_of context) context.symbol_table.now link_layout.now given.now }
     requires known { IsKnown (project_of context) context.symbol_table.now link_layout.now view.now }
     ensures good { IfOk result (λ values. IsShort (project_of context.entry) link_layout.now view.now values) }
-    ensures stop { IfErr result (λ stop. IsPassError (link (project_of context.entry)) stop) }
+    ensures stop { IfErr result (λ stop. IsPassEnd (link (project_of context.entry)) stop) }
 {
     let values = Values::of(
         context.alloc,
@@ -199,7 +199,7 @@ pub(crate) fn evaluate_relocations(
     values: &Values<'_>,
     symbols: &SymbolValues,
     meter: &mut Meter,
-) -> Result<Relocated, PassError>
+) -> Result<Relocated, PassEnd>
     requires short { IsShort (project_of context) stayed_sections.now.indexed_layout.now.link_layout view.now
         values.now }
     requires beside { IsBeside (project_of context) stayed_sections.now }
@@ -207,7 +207,7 @@ pub(crate) fn evaluate_relocations(
         (project_of context) layout stayed_sections.now.indexed_layout.now.link_layout
         → AreSymbolValues (project_of context) layout symbols.now }
     ensures good { IfOk result (λ r. IsFilled (project_of context.entry) stayed_sections.now values.now r) }
-    ensures stop { IfErr result (λ stop. IsPassError (link (project_of context.entry)) stop) }
+    ensures stop { IfErr result (λ stop. IsPassEnd (link (project_of context.entry)) stop) }
     ensures reads { OnOk result (ReadsNothing meter.old meter.new) }
     ensures counted { IfOk result (λ r. HasEvaluated
         (project_of context.entry) stayed_sections.now r meter.old meter.new) }
@@ -215,7 +215,7 @@ pub(crate) fn evaluate_relocations(
 {
     // for the prover: bring in these laws
     stayed_sections.is_complete();
-    is_good(context.project, &stayed_sections.indexed_layout.link_layout);
+    faultless_link_is_good(context.project, &stayed_sections.indexed_layout.link_layout);
     // for the prover: brings in the invariant of `context.project`
     let _inputs = context.project.inputs();
     // for the prover: brings in that the count of fields fits a u64
@@ -239,10 +239,10 @@ pub(crate) fn check_assertions(
     stayed_sections: &StayedSections<'_>,
     values: &Values<'_>,
     fields: &Relocated,
-) -> Result<(), PassError>
+) -> Result<(), PassEnd>
     requires { IsFilled (project_of context) stayed_sections.now values.now fields.now }
     ensures good { OnOk result (IsFaultless (project_of context.entry) stayed_sections.now values.now fields.now) }
-    ensures stop { IfErr result (λ stop. IsPassError (link (project_of context.entry)) stop) }
+    ensures stop { IfErr result (λ stop. IsPassEnd (link (project_of context.entry)) stop) }
 {
     let faults = assertion_faults(
         context.alloc,

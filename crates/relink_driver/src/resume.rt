@@ -6,7 +6,7 @@ ghost use Rattle.relink_driver.specs.StayedSections.{IsPreviousOf, PreviousState
 ghost use Rattle.ldmodel.specs.Rows as model;
 ghost use Rattle.ldmodel.specs.Stayed.{GoodLink};
 ghost use Rattle.ldmodel_project.specs.ByPlace.{rows_in};
-ghost use Rattle.place.specs.sections.Kept.{IsKept};
+ghost use Rattle.place.specs.sections.Resumable.{IsResumable};
 
 use crate::row_changes::first_changed;
 use crate::stayed_sections::PreviousView;
@@ -25,7 +25,7 @@ pub fn resume_point<'a>(
     requires rows { rows_in project.now rows.now ≡ model.rows project.now }
     ensures kept { (old : GoodLink) → IfSome (previous_of previous.entry) (IsPreviousOf old project.now)
         → IfSome result (λ point.
-        IsKept project.now.script (model.rows project.now) point.placement.now point.first_row) }
+        IsResumable project.now.script (model.rows project.now) point.placement.now point.first_row) }
     ensures same { (old : GoodLink) (x : PreviousState) → previous_of previous.entry ≡ Some x
         → IsPreviousOf old project.now x
         → IfSome result (λ point. AreSameBefore old.project project.now point.first_row) }

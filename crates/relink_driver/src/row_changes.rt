@@ -1,7 +1,8 @@
 //! Which input sections of a link are those of a previous one.
 
 ghost use Rattle.std.specs.Prelude.{◌≡◌, ◌==◌, position, zip};
-ghost use Rattle.relink_driver.specs.SameRows.{are_same_pieces, came_for, first_changed, is_changed, is_of_same_object};
+ghost use Rattle.relink_driver.specs.SameRows.{are_same_pieces, replaced_part, first_changed, is_changed};
+ghost use Rattle.relink_driver.specs.SameRows.{is_of_same_object};
 ghost use Rattle.relink_driver.specs.SameRows.{is_same_piece, is_same_row, is_same_section, kind_number};
 ghost use Rattle.relink_driver.specs.StayedSections.{last_place, previous_state, replaced_state};
 ghost use Rattle.ldmodel.specs.Sections as model;
@@ -28,13 +29,13 @@ fn is_same_kind(before: SectionKind, now: SectionKind) -> bool
 }
 
 /// Whether the object of `now` replaced that of `before`, and the part `before` has the same name in both objects.
-fn came_for(
+fn replaced_part(
     replaced: &ReplacedObject<'_>,
     project: &ProjectView<'_>,
     before: SectionKey,
     now: SectionKey,
 ) -> bool
-    ensures { result ≡ came_for (replaced_state replaced.now) project.now before now }
+    ensures { result ≡ replaced_part (replaced_state replaced.now) project.now before now }
 {
     if replaced.old != before.object || replaced.new != now.object {
         return false;
@@ -60,7 +61,7 @@ fn is_of_same_object(
     match previous.place(now.object) {
         Some(place) => place == before.object.0,
         None => match previous.replaced {
-            Some(replaced) => came_for(&replaced, project, before, now),
+            Some(replaced) => replaced_part(&replaced, project, before, now),
             None => false,
         },
     }

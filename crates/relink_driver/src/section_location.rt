@@ -2,7 +2,7 @@
 
 ghost use Rattle.std.specs.Prelude.{◌≡◌};
 ghost use Rattle.relink_driver.specs.SectionLocation.{range_at, range_from, location_in, location_of};
-ghost use Rattle.relink_driver.specs.StayedSections.{kept_at};
+ghost use Rattle.relink_driver.specs.StayedSections.{range_if_same};
 
 use emit::relocate::previous_link_info::FileRange;
 use ldmodel::placed::Placed;
@@ -45,13 +45,13 @@ fn range_from(section: &Placed, offset: u128, start: u64, size: u64) -> Option<F
 
 /// The bytes in the file of the input section at this address; `None` if they begin past 2^64.
 #[inline(always)]
-pub(crate) fn range_at(link_layout: &LinkLayout, place: SectionAddress) -> Option<FileRange>
-    ensures { result ≡ range_at link_layout.now place }
+pub(crate) fn range_at(link_layout: &LinkLayout, address: SectionAddress) -> Option<FileRange>
+    ensures { result ≡ range_at link_layout.now address }
 {
-    let number = place.section.0 as usize;
+    let number = address.section.0 as usize;
     let section = link_layout.placement.sections().get(number)?;
     let offset = link_layout.offsets.get(number)?;
-    range_from(section, *offset, place.start, place.size)
+    range_from(section, *offset, address.start, address.size)
 }
 
 /// The location of the input section at this address; `None` if its bytes in the file begin past 2^64.
@@ -88,7 +88,7 @@ pub(crate) fn range_if_stayed(
     link_layout: &LinkLayout,
     now: SectionAddress,
 ) -> Option<FileRange>
-    ensures { result ≡ kept_at (location_of previous.now before) (location_of link_layout.now now) }
+    ensures { result ≡ range_if_same (location_of previous.now before) (location_of link_layout.now now) }
 {
     if before.start != now.start {
         return None;

@@ -2,7 +2,7 @@
 
 ghost use Rattle.std.specs.Prelude.{◌≡◌, ℕ, IsSome, None, Option, Some, is_some, length, slice_get, slice_index_or};
 ghost use Rattle.std.specs.Prelude.{true};
-ghost use Rattle.emit.specs.Kept.{IsSound};
+ghost use Rattle.emit.specs.StayedPieces.{IsSound};
 ghost use Rattle.ldmodel.specs.Layout.{Layout};
 ghost use Rattle.ldmodel.specs.Project.{NamedObject, Project};
 ghost use Rattle.ldmodel.specs.Stayed.{GoodLink};
@@ -10,7 +10,7 @@ ghost use Rattle.emit.specs.relocate.PreviousLinkInfo.{IsComplete};
 ghost use Rattle.emit.specs.relocate.KnownLink.{KnownLink};
 ghost use Rattle.emit.specs.relocate.SymbolValues.{AreSymbolValues, AreValuesOf};
 ghost use Rattle.relink_driver.specs.PreviousLink.{previous_address, previous_of, previous_state};
-ghost use Rattle.relink_driver.specs.StayedColumn.{IsStayedColumn, IsStillColumn};
+ghost use Rattle.relink_driver.specs.StayedColumn.{IsStayedColumn, IsWhollyStayedColumn};
 
 use crate::link_snapshot::LinkSnapshot;
 use crate::section_location::{range_at, range_if_stayed};
@@ -48,7 +48,7 @@ pub struct PreviousView<'a> {
     /// The object that was replaced, if one is known.
     pub replaced: Option<ReplacedObject<'a>>,
     /// Whether queries are answered from this link: if the new one has the same map, only the image need change.
-    pub is_current: bool,
+    pub is_answered: bool,
 }
 
 impl<'a> PreviousView<'a> {
@@ -82,12 +82,14 @@ impl<'a> PreviousView<'a> {
     {
         match self.place(object) {
             None => &[],
-            Some(place) => self.snapshot.symbols.row(ObjectPlace(place), count),
+            Some(place) => self.snapshot.symbols.slice(ObjectPlace(place), count),
         }
     }
 }
 
-/// Which input sections of a link stayed where the previous one has them, if there is one.
+/// Which input sections of a link stayed where the previous one has them, if there is one. One stayed if its object has
+/// the same name and bytes in both links, as `PreviousView::place` tells, and it has the same address, size and file
+/// offset, which `StayedColumn` compares (`has_same_location`) and, for a common block, `find_range`.
 #[derive(Clone, Copy)]
 pub struct StayedSections<'a> {
     /// The previous link, if there is one.
@@ -100,7 +102,7 @@ pub struct StayedSections<'a> {
     /// Which sections of objects stayed.
     pub(crate) column: &'a StayedColumn,
     ghost found: { IsStayedColumn (previous_of previous) indexed_layout.now column.now },
-    ghost found_still: { IsStillColumn (previous_of previous) indexed_layout.now column.now },
+    ghost found_all_stayed: { IsWhollyStayedColumn (previous_of previous) indexed_layout.now column.now },
 }
 
 impl<'a> StayedSections<'a> {
@@ -125,9 +127,9 @@ impl<'a> StayedSections<'a> {
         range_if_stayed(layout_before, before, &self.indexed_layout.link_layout, now)
     }
 
-    /// Whether an input section stayed. For a section of an object this is read from the column.
+    /// Finds whether an input section stayed. For a section of an object this is read from the column.
     #[inline(always)]
-    fn is_known(&self, section: SectionKey) -> bool
+    fn find_stayed(&self, section: SectionKey) -> bool
         ensures { result ≡ is_some (range_of self.now section) }
     {
         match section.part {
@@ -160,7 +162,7 @@ impl<'a> PreviousLinkInfo for StayedSections<'a> {
     ghost range = { range_of };
 
     fn stayed(&self, section: SectionKey) -> Option<FileRange> {
-        if !self.is_known(section) {
+        if !self.find_stayed(section) {
             return None;
         }
         let now = self.indexed_layout.find(section)?;
@@ -169,11 +171,11 @@ impl<'a> PreviousLinkInfo for StayedSections<'a> {
 
     #[inline(always)]
     fn has_stayed(&self, section: SectionKey) -> bool {
-        self.is_known(section)
+        self.find_stayed(section)
     }
 
-    fn is_still(&self, object: ObjectPlace) -> bool {
-        self.column.is_still(object)
+    fn has_wholly_stayed(&self, object: ObjectPlace) -> bool {
+        self.column.has_wholly_stayed(object)
     }
 
     fn is_dirty(&self, object: ObjectPlace) -> bool {

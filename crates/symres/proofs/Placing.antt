@@ -21,7 +21,7 @@ use Rattle.ldmodel_project.specs.Tables.{place_or_0}
 use Rattle.symres_table.specs.State as keyed
 use Rattle.symres_table.specs.State.{IsNamed, entries_of}
 use Rattle.symres_decisions.specs.Decided.{HasCase, case_at, decision_in}
-use Rattle.symres_decisions.specs.Decisions.{AreKept, DecisionsState, IsCaseNamed}
+use Rattle.symres_decisions.specs.Decisions.{AreDecisionsOf, DecisionsState, IsCaseNamed}
 use Rattle.symres.specs.SymbolTable.{IsNameAt, IsSymbolTable, IsSeenAt, state_of}
 use Rattle.symres.specs.Placed.{by_place, keys_of, place_case}
 use Rattle.symres.proofs.Entering.{Table, seconds}
@@ -126,7 +126,7 @@ ByKeys p d name =
 
 -- kept cases of the objects of a project are what its names stand for
 pub kept_naming : (p : Project) (d : DecisionsState) (order : List ℕ) → keys_of d.names.objects ≡ order
-    → ((name : List ℕ) → ByKeys p d name) → AreKept p.script d
+    → ((name : List ℕ) → ByKeys p d name) → AreDecisionsOf p.script d
     → symbol_tables p.objects ≡ map (λ (t : Table). t.1) d.names.objects → IsSymbolTable p (state_of d order)
 kept_naming p d order keys by kept same = record {
   objects = ap (λ (ts : List (List NamedSymbol)). enumerate_from 0 ts) (sym same);

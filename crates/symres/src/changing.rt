@@ -5,7 +5,7 @@ ghost use Rattle.ldscript.specs.statements.declared.statement.Statement.{Stateme
 ghost use Rattle.symres_decisions.specs.Change.{changed_tables, declared_by, Fits, IsReadyFor, reversed, symbols_or};
 ghost use Rattle.symres_decisions.specs.Counted.{CountsNames, declared_names};
 ghost use Rattle.symres_decisions.specs.Decided.{case_at};
-ghost use Rattle.symres_decisions.specs.Decisions.{AreKept};
+ghost use Rattle.symres_decisions.specs.Decisions.{AreDecisionsOf};
 ghost use Rattle.symres_decisions.specs.Room.{AreOldOrNew, KeepsUsed, OnlyDrops};
 ghost use Rattle.symres_decisions.specs.Texts.{declares};
 ghost use Rattle.symres.specs.Placed.{keys_of};
@@ -28,9 +28,9 @@ impl SymbolTable {
     /// be forgotten.
     pub fn room_for(&mut self, script: &Script, change: &ObjectChange<'_>) -> Result<(), NoMemory>
         requires fits { Fits self.old.kept.names.objects change.now }
-        requires kept { AreKept script.now self.old.kept }
+        requires kept { AreDecisionsOf script.now self.old.kept }
         ensures objects { self.new.kept.names.objects ≡ self.old.kept.names.objects }
-        ensures kept { AreKept script.now self.new.kept }
+        ensures kept { AreDecisionsOf script.now self.new.kept }
         ensures used { KeepsUsed self.old.kept.names self.new.kept.names }
         ensures ready { OnOk result (IsReadyFor self.new.kept change.now) }
         ensures fresh { AreOldOrNew self.old.kept.names self.new.kept.names }
@@ -48,11 +48,11 @@ impl SymbolTable {
         meter: &mut Meter,
     ) -> Order
         requires ready { IsReadyFor self.old.kept change.now }
-        requires kept { AreKept script.now self.old.kept }
+        requires kept { AreDecisionsOf script.now self.old.kept }
         requires order { order ≡ keys_of (changed_tables self.old.kept.names.objects change.now) }
         ensures objects { self.new.kept.names.objects ≡ changed_tables self.old.kept.names.objects change.now }
         ensures names { self.new.kept.names.names ≡ self.old.kept.names.names }
-        ensures kept { AreKept script.now self.new.kept }
+        ensures kept { AreDecisionsOf script.now self.new.kept }
         ensures counted { CountsNames meter.old meter.new (declared_by change.now.out ++ declared_by change.now.into) }
         ensures back { IsReadyFor self.new.kept (reversed change.now) }
         ensures frame { (k : ℕ) (name : List ℕ) → IsNamed self.old.kept.names.names k name
@@ -74,12 +74,12 @@ impl SymbolTable {
         meter: &mut Meter,
     )
         requires ready { IsReadyFor self.old.kept (reversed change.now) }
-        requires kept { AreKept script.now self.old.kept }
+        requires kept { AreDecisionsOf script.now self.old.kept }
         requires order { order ≡ keys_of (changed_tables self.old.kept.names.objects (reversed change.now)) }
         ensures objects { self.new.kept.names.objects
             ≡ changed_tables self.old.kept.names.objects (reversed change.now) }
         ensures names { self.new.kept.names.names ≡ self.old.kept.names.names }
-        ensures kept { AreKept script.now self.new.kept }
+        ensures kept { AreDecisionsOf script.now self.new.kept }
         ensures counted { CountsNames meter.old meter.new (declared_by change.now.into ++ declared_by change.now.out) }
         ensures again { IsReadyFor self.new.kept change.now }
         ensures frame { (k : ℕ) (name : List ℕ) → IsNamed self.old.kept.names.names k name
@@ -94,7 +94,7 @@ impl SymbolTable {
     /// counted, each once. It takes no memory.
     pub fn redecide(&mut self, script: &Script, meter: &mut Meter)
         ensures names { self.new.kept.names ≡ self.old.kept.names }
-        ensures kept { AreKept script.now self.new.kept }
+        ensures kept { AreDecisionsOf script.now self.new.kept }
         ensures counted { CountsNames meter.old meter.new (declared_names self.old.kept.names.objects) }
     {
         self.decisions.redecide(script, meter);
@@ -114,7 +114,8 @@ impl SymbolTable {
         ensures forgets { Forgets self.old.kept.names self.new.kept.names }
         ensures objects { self.new.kept.names.objects ≡ self.old.kept.names.objects }
         ensures used { KeepsUsed self.old.kept.names self.new.kept.names }
-        ensures kept { (script : List Statement) → AreKept script self.old.kept → AreKept script self.new.kept }
+        ensures kept { (script : List Statement) → AreDecisionsOf script self.old.kept
+            → AreDecisionsOf script self.new.kept }
         ensures frame { OnlyDrops self.old.kept.names.names self.new.kept.names.names self.old.kept.cases
             self.new.kept.cases }
     {

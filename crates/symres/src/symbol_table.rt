@@ -7,7 +7,7 @@ ghost use Rattle.ldmodel.specs.Names.{decision, symbol_tables};
 ghost use Rattle.ldmodel.specs.Project.{Project};
 ghost use Rattle.ldmodel_laws.specs.Renumbering.{renumbered_decision};
 ghost use Rattle.symres_decisions.specs.Decided.{case_at, decision_in, HasCase};
-ghost use Rattle.symres_decisions.specs.Decisions.{AreKept};
+ghost use Rattle.symres_decisions.specs.Decisions.{AreDecisionsOf};
 ghost use Rattle.symres.specs.Entered.{tables_of};
 ghost use Rattle.symres.specs.SymbolTable.{IsNameAt, IsSymbolTable, IsSeenAt};
 ghost use Rattle.symres.specs.Placed.{keys_of};
@@ -68,7 +68,7 @@ impl SymbolTable {
             ≡ shown_inputs inputs.now
             → project.script ≡ script.now → IsSymbolTable project symbol_table) }
         ensures objects { IfOk result (λ a. a.kept.names.objects ≡ tables_of inputs.now) }
-        ensures kept { IfOk result (λ a. AreKept script.now a.kept) }
+        ensures kept { IfOk result (λ a. AreDecisionsOf script.now a.kept) }
     {
         let objects = by_place(alloc, inputs)?;
         let keys = keys_of(alloc, &objects)?;
@@ -110,7 +110,7 @@ impl SymbolTable {
     /// If the cases are kept for the script of a project and for its objects, they are how the names of the project are
     /// resolved. The call does nothing.
     pub fn names_kept(&self)
-        ensures { (project : Project) → AreKept project.script self.now.kept
+        ensures { (project : Project) → AreDecisionsOf project.script self.now.kept
             → symbol_tables project.objects ≡ map (λ (t : ℕ × List NamedSymbol). t.1) self.now.kept.names.objects
             → IsSymbolTable project self.now }
     {

@@ -35,8 +35,8 @@ pub record AreUsedBelow (s : State) (count : ℕ) : Type 0 where
   pub used : (i : ℕ) (e : List ℕ × ℕ) → i < count → is_used s.objects (slice_index_or s.order i e).0 ≡ true
 
 -- each case is what its name stands for over the entered objects and this script
-abbrev pub AreKept : List Statement → DecisionsState → Type 0
-AreKept script d = AreCases script d.names d.cases
+abbrev pub AreDecisionsOf : List Statement → DecisionsState → Type 0
+AreDecisionsOf script d = AreCases script d.names d.cases
 
 -- the case of a name: that of its key; or what the script alone makes of it, where it has no entries
 abbrev pub IsCaseNamed : List Statement → DecisionsState → List ℕ → Case ObjectKey → Type 0

@@ -5,7 +5,7 @@ ghost use Rattle.symres_decisions.specs.Change.{AreThere, changed_tables, declar
 ghost use Rattle.symres_decisions.specs.Change.{symbols_or};
 ghost use Rattle.symres_decisions.specs.Counted.{CountsNames};
 ghost use Rattle.symres_decisions.specs.Decided.{AreCases, case_at};
-ghost use Rattle.symres_decisions.specs.Decisions.{AreKept, AreUsedBelow};
+ghost use Rattle.symres_decisions.specs.Decisions.{AreDecisionsOf, AreUsedBelow};
 ghost use Rattle.symres_decisions.specs.Room.{HaveEntries};
 ghost use Rattle.symres_decisions.specs.Texts.{AreDone, AreKnown, AreNoted, AreOpen, DecidedFor, HasPlaces, IsCleared};
 ghost use Rattle.symres_decisions.specs.Texts.{declares};
@@ -128,10 +128,10 @@ impl Decisions {
     /// takes no memory.
     pub fn change(&mut self, script: &Script, change: &ObjectChange<'_>, meter: &mut Meter)
         requires ready { IsReadyFor self.old change.now }
-        requires kept { AreKept script.now self.old }
+        requires kept { AreDecisionsOf script.now self.old }
         ensures objects { self.new.names.objects ≡ changed_tables self.old.names.objects change.now }
         ensures names { self.new.names.names ≡ self.old.names.names }
-        ensures kept { AreKept script.now self.new }
+        ensures kept { AreDecisionsOf script.now self.new }
         ensures counted { CountsNames meter.old meter.new (declared_by change.now.out ++ declared_by change.now.into) }
         ensures back { IsReadyFor self.new (reversed change.now) }
         ensures frame { (k : ℕ) (name : List ℕ) → IsNamed self.old.names.names k name
@@ -162,10 +162,10 @@ impl Decisions {
     /// Makes the change back, after a change was made: the objects are as they were before it. It takes no memory.
     pub fn undo(&mut self, script: &Script, change: &ObjectChange<'_>, meter: &mut Meter)
         requires ready { IsReadyFor self.old (reversed change.now) }
-        requires kept { AreKept script.now self.old }
+        requires kept { AreDecisionsOf script.now self.old }
         ensures objects { self.new.names.objects ≡ changed_tables self.old.names.objects (reversed change.now) }
         ensures names { self.new.names.names ≡ self.old.names.names }
-        ensures kept { AreKept script.now self.new }
+        ensures kept { AreDecisionsOf script.now self.new }
         ensures counted { CountsNames meter.old meter.new (declared_by change.now.into ++ declared_by change.now.out) }
         ensures again { IsReadyFor self.new change.now }
         ensures frame { (k : ℕ) (name : List ℕ) → IsNamed self.old.names.names k name

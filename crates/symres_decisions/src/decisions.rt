@@ -8,7 +8,7 @@ ghost use Rattle.ldmodel.specs.HandedOver.{decision_under_keys};
 ghost use Rattle.ldscript.specs.statements.declared.statement.Statement.{Statement};
 ghost use Rattle.symres_decisions.specs.Counted.{CountsNames, declared_names};
 ghost use Rattle.symres_decisions.specs.Decided.{case_at, decision_in, HasCase, is_doubled};
-ghost use Rattle.symres_decisions.specs.Decisions.{AreKept, IsCaseNamed};
+ghost use Rattle.symres_decisions.specs.Decisions.{AreDecisionsOf, IsCaseNamed};
 ghost use Rattle.symres_decisions.specs.Keyed.{AreApart, tables_of};
 ghost use Rattle.symres_decisions.specs.NameText.{AreInOrder, compared_number};
 ghost use Rattle.symres_table.specs.Known.{entry_spelled};
@@ -74,7 +74,7 @@ impl Decisions {
     ) -> Result<Decisions, NoMemory>
         requires { AreApart objects.now }
         ensures objects { IfOk result (λ d. d.names.objects ≡ tables_of objects.now) }
-        ensures kept { IfOk result (λ d. AreKept script.now d) }
+        ensures kept { IfOk result (λ d. AreDecisionsOf script.now d) }
         ensures counted { IfOk result (λ d. CountsNames meter.old meter.new
             (declared_names (tables_of objects.now))) }
     {
@@ -94,7 +94,7 @@ impl Decisions {
     /// counted, each once; the others follow from the script alone. It takes no memory.
     pub fn redecide(&mut self, script: &Script, meter: &mut Meter)
         ensures names { self.new.names ≡ self.old.names }
-        ensures kept { AreKept script.now self.new }
+        ensures kept { AreDecisionsOf script.now self.new }
         ensures counted { CountsNames meter.old meter.new (declared_names self.old.names.objects) }
     {
         decide_all(&self.names, script, &mut self.cases, meter);
@@ -148,7 +148,7 @@ impl Decisions {
 
     /// How any name is resolved: it is hashed and looked up.
     pub fn case_named(&self, script: &Script, name: &[u8]) -> Case<ObjectKey>
-        ensures case { AreKept script.now self.now → decision_under_keys result
+        ensures case { AreDecisionsOf script.now self.now → decision_under_keys result
             ≡ decision_in script.now self.now.names name.now }
         ensures found { IsCaseNamed script.now self.now name.now result }
     {

@@ -5,7 +5,7 @@ ghost use Rattle.ldscript.specs.statements.declared.statement.Statement.{Stateme
 ghost use Rattle.symres_decisions.specs.Change.{CanGo, Fits, IsReadyFor};
 ghost use Rattle.symres_decisions.specs.Counted.{is_used};
 ghost use Rattle.symres_decisions.specs.Decided.{AreCases, case_at, HasCase};
-ghost use Rattle.symres_decisions.specs.Decisions.{AreKept, AreUsedBelow, IsTextOf, IsWhole};
+ghost use Rattle.symres_decisions.specs.Decisions.{AreDecisionsOf, AreUsedBelow, IsTextOf, IsWhole};
 ghost use Rattle.symres_decisions.specs.Room.{AreKeptWhere, AreUnused, HaveCasesBelow, HaveCasesFrom, kept_where};
 ghost use Rattle.symres_decisions.specs.Room.{KeepsUsed};
 ghost use Rattle.symres_decisions.specs.Room.{AreOldOrNew, OnlyDrops};
@@ -170,9 +170,9 @@ impl Decisions {
     /// as before; names without entries may be forgotten.
     pub fn room_for(&mut self, script: &Script, change: &ObjectChange<'_>) -> Result<(), NoMemory>
         requires fits { Fits self.old.names.objects change.now }
-        requires kept { AreKept script.now self.old }
+        requires kept { AreDecisionsOf script.now self.old }
         ensures objects { self.new.names.objects ≡ self.old.names.objects }
-        ensures kept { AreKept script.now self.new }
+        ensures kept { AreDecisionsOf script.now self.new }
         ensures used { KeepsUsed self.old.names self.new.names }
         ensures ready { OnOk result (IsReadyFor self.new change.now) }
         ensures fresh { AreOldOrNew self.old.names self.new.names }
@@ -197,7 +197,7 @@ impl Decisions {
         ensures forgets { Forgets self.old.names self.new.names }
         ensures objects { self.new.names.objects ≡ self.old.names.objects }
         ensures used { KeepsUsed self.old.names self.new.names }
-        ensures kept { (script : List Statement) → AreKept script self.old → AreKept script self.new }
+        ensures kept { (script : List Statement) → AreDecisionsOf script self.old → AreDecisionsOf script self.new }
         ensures frame { OnlyDrops self.old.names.names self.new.names.names self.old.cases self.new.cases }
     {
         // for the prover: brings in the invariant of `self.names`

@@ -12,7 +12,7 @@ use Rattle.symres_table.specs.declared.symbol.Declared.{Declared}
 use Rattle.symres_table.specs.declared.symbol.Numbered.{Numbered}
 use Rattle.symres_table.specs.Numbers.{Entered, declared, own, is_named, named, entries, HasRoom, HasRow, RowsGrow}
 use Rattle.symres_table.specs.declared.places.PlacedKey.{PlacedKey}
-use Rattle.symres_table.specs.Objects.{IsKept, CanEnter}
+use Rattle.symres_table.specs.Objects.{IsObjectTable, CanEnter}
 use Rattle.symres_table.proofs.Naming.{named_past}
 
 -- a name that no symbol has
@@ -65,7 +65,7 @@ grow_push old mid new row g e r = subst (RowsGrow old) (sym e) record {
 }
 
 pub kept_grown : (os : List Entered) (rows rows' : List (Vec Declared Global)) (place : List PlacedKey)
-    → IsKept os rows place → RowsGrow rows rows' → IsKept os rows' place
+    → IsObjectTable os rows place → RowsGrow rows rows' → IsObjectTable os rows' place
 kept_grown os rows rows' place k g = record {
   table = record {
     row = λ n d h. ⊎_elim
@@ -100,7 +100,7 @@ all_ok (Err e) a b c f = tt
 
 -- what the rows say of the room, the state says
 pub can_enter : (os : List Entered) (rows : List (Vec Declared Global)) (place : List PlacedKey) (left free : ℕ)
-    (symbols : List Numbered) → IsKept os rows place → ((v : Vec Declared Global) → vec_len v ≡ length v.items)
+    (symbols : List Numbered) → IsObjectTable os rows place → ((v : Vec Declared Global) → vec_len v ≡ length v.items)
     → HasRoom rows symbols → All (HasRow (length rows)) symbols → 0 < left → 0 < free
     → CanEnter (record {
       objects = os;
@@ -155,7 +155,7 @@ entries_removed k (x ∷ os) (suc n) o h e =
     )
 
 pub again : (os : List Entered) (rows : List (Vec Declared Global)) (place : List PlacedKey) (left free at : ℕ)
-    (o : Entered) → IsKept os rows place
+    (o : Entered) → IsObjectTable os rows place
     → ((v : Vec Declared Global) → (vec_len v ≡ length v.items) × (vec_len v ≤ vec_capacity v))
     → at < length os → ((d : Entered) → get_or os at d ≡ o) → 0 < left → 0 < free
     → CanEnter (record {

@@ -17,7 +17,7 @@ use Rattle.symres_table.specs.declared.places.PlacedKey.{PlacedKey}
 use Rattle.symres_table.specs.declared.symbol.Declared.{Declared}
 use Rattle.symres_table.specs.Places.{place_of, AreSorted, IsBelow, is_below, up, down, AreMoved}
 use Rattle.symres_table.specs.Numbers.{Entered, HasRow, IsSplit, IsTable, HasSymbols, without}
-use Rattle.symres_table.specs.Objects.{IsNumbered, IsKept, HasKey}
+use Rattle.symres_table.specs.Objects.{IsNumbered, IsObjectTable, HasKey}
 use Rattle.symres_table.proofs.Finding.{place_none, place_at, found_here, found_other, found_past}
 
 -- a place found in the first part, or else in the second
@@ -500,12 +500,12 @@ rooms (x ∷ old) (y ∷ new) e h =
     ap (λ c. c ∷ map (λ (row : Vec Declared Global). vec_capacity row) new) here ∙ ap (λ l. vec_capacity x ∷ l) rest
 
 pub kept_after : (old mid : List PlacedKey) (number at : ℕ) (new : Entered) (os : List Entered)
-    (table rows : List (Vec Declared Global)) → IsKept os table old → AreMoved (up at) old mid
+    (table rows : List (Vec Declared Global)) → IsObjectTable os table old → AreMoved (up at) old mid
     → IsBelow old new.key number → at ≤ length os
     → All (λ (o : Entered). eqb o.key new.key ≡ false) os → All (HasRow (length table)) new.symbols → length rows
     ≡ length table
     → IsTable rows (insert os at new)
-    → IsKept (insert os at new) rows (insert mid number (record { key = record { 0 = new.key }; at = at }))
+    → IsObjectTable (insert os at new) rows (insert mid number (record { key = record { 0 = new.key }; at = at }))
 kept_after old mid number at new os table rows k m b h f n r t = record {
   table = t;
   known = subst (λ c. All (λ (o : Entered). All (HasRow c) o.symbols) (insert os at new)) (sym r)
@@ -521,9 +521,9 @@ all_removed P os at h = All-append P _ _ (All-take P at os h) (All-drop P (suc a
 
 pub kept_without : (places new : List PlacedKey) (os : List Entered) (key at : ℕ)
     (table rows : List (Vec Declared Global))
-    → IsKept os table places → Here places os key at
+    → IsObjectTable os table places → Here places os key at
     → length rows ≡ length table → IsTable rows (without key os) → IsNumbered new (remove os at)
-    → IsKept (remove os at) rows new
+    → IsObjectTable (remove os at) rows new
 kept_without places new os key at table rows k h r t n = record {
   table = subst (IsTable rows) (without_is places os key at k.numbered h) t;
   known = subst (λ c. All (λ (o : Entered). All (HasRow c) o.symbols) (remove os at)) (sym r)

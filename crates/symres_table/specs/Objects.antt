@@ -31,7 +31,8 @@ pub record IsNumbered (places : List PlacedKey) (os : List Entered) : Type 0 whe
   pub only : (key j : ℕ) → place_of places key ≡ Some j → (j < length os)
       × ((o : Entered) → (slice_index_or os j o).key ≡ key)
 
-pub record IsKept (os : List Entered) (rows : List (Vec Declared Global)) (places : List PlacedKey) : Type 0 where
+pub record IsObjectTable (os : List Entered) (rows : List (Vec Declared Global))
+    (places : List PlacedKey) : Type 0 where
   pub table : IsTable rows os
   pub known : All (λ (o : Entered). All (HasRow (length rows)) o.symbols) os
   pub numbered : IsNumbered places os

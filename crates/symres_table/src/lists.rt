@@ -104,7 +104,7 @@ fn place_after(at: usize, guess: Option<usize>) -> usize {
     }
 }
 
-fn is_same_place(one: Span, other: Span) -> bool
+fn is_same_span(one: Span, other: Span) -> bool
     ensures { result ≡ true → one ≡ other }
 {
     one.start == other.start && one.end == other.end
@@ -123,7 +123,7 @@ fn number_at(object: &Object, number: u32, list: &[Numbered], at: usize) -> Opti
     }
     let earlier = list[at];
     let place = object.name_place(SymbolIndex(earlier.number));
-    if is_visible(&earlier.symbol) && is_same_place(place, object.name_place(SymbolIndex(number))) {
+    if is_visible(&earlier.symbol) && is_same_span(place, object.name_place(SymbolIndex(number))) {
         return Some(earlier.name);
     }
     None

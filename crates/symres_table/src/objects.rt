@@ -44,7 +44,7 @@ pub struct Objects {
 
 impl Model for Objects {
     ghost use Rattle.std.specs.Prelude.{◌-◌, map, length, vec_len, vec_capacity};
-    ghost use Rattle.symres_table.specs.Objects.{ObjectsState, IsKept};
+    ghost use Rattle.symres_table.specs.Objects.{ObjectsState, IsObjectTable};
 
     ghost Value = { ObjectsState };
 
@@ -55,7 +55,7 @@ impl Model for Objects {
       place_room = vec_capacity a.places - vec_len a.places;
     } };
 
-    ghost invariant = { λ a. IsKept a.order.items a.rows.items a.places.items };
+    ghost invariant = { λ a. IsObjectTable a.order.items a.rows.items a.places.items };
 }
 
 fn reserve_fields(

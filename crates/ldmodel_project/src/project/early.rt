@@ -10,10 +10,7 @@ ghost use Rattle.ldmodel_project.specs.Listing.{objects_of};
 use crate::edit::{is_object_name, is_too_long};
 use crate::keyed_objects::KeyedObjects;
 use crate::project::Project;
-use ldmodel::edit::EditRefusal;
-
-/// The greatest number of objects of a project.
-pub const MAX_OBJECTS: usize = 4096;
+use ldmodel::edit::{EditRefusal, MAX_OBJECTS};
 
 impl KeyedObjects {
     /// Whether no more object may be added.

@@ -1,6 +1,6 @@
 //! What to do about an object that is refused.
 
-use crate::why::explain::Place;
+use crate::why::explain::Subject;
 use crate::why::look::{entry, header, symbol_of};
 use crate::why::psabi::{SHF_GROUP, SHF_TLS, STB_GNU_UNIQUE, STT_GNU_IFUNC, STT_TLS};
 use elfobj::ObjectRefusal;
@@ -90,24 +90,24 @@ fn of_relocation(number: u32) -> Option<&'static str> {
 }
 
 /// What to do about a refusal at a place, if anything is known.
-pub fn advice(bytes: &[u8], refusal: ObjectRefusal, place: Place) -> Option<&'static str> {
-    match place {
-        Place::Header => match refusal {
+pub fn advice(bytes: &[u8], refusal: ObjectRefusal, subject: Subject) -> Option<&'static str> {
+    match subject {
+        Subject::Header => match refusal {
             ObjectRefusal::Short | ObjectRefusal::NotElf => of_format(bytes),
             ObjectRefusal::Machine => of_machine(bytes),
             _ => None,
         },
-        Place::Section(number) if refusal == ObjectRefusal::SectionProfile => {
+        Subject::Section(number) if refusal == ObjectRefusal::SectionProfile => {
             of_flags(header(bytes, number).sh_flags)
         }
-        Place::Symbol(number) if refusal == ObjectRefusal::Symbol => {
+        Subject::Symbol(number) if refusal == ObjectRefusal::Symbol => {
             let entry = symbol_of(bytes, number)?;
             of_symbol(entry.bind(), entry.kind_number())
         }
-        Place::Entry(table, number) if refusal == ObjectRefusal::RelocationType => {
+        Subject::Entry(table, number) if refusal == ObjectRefusal::RelocationType => {
             let entry = entry(bytes, &header(bytes, table), number)?;
             of_relocation((entry.r_info & 0xffff_ffff) as u32)
         }
-        Place::Section(_) | Place::Symbol(_) | Place::Entry(_, _) => None,
+        Subject::Section(_) | Subject::Symbol(_) | Subject::Entry(_, _) => None,
     }
 }

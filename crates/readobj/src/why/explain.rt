@@ -21,7 +21,7 @@ use std::alloc::{AllocError, Global};
 
 /// What a refusal is about.
 #[derive(Clone, Copy)]
-pub enum Place {
+pub enum Subject {
     /// The ELF header.
     Header,
     /// The section with this header number.
@@ -36,7 +36,7 @@ pub enum Place {
 #[derive(Clone, Copy)]
 pub struct Explanation {
     /// What is wrong.
-    pub place: Place,
+    pub subject: Subject,
     /// What is wrong with it.
     pub reason: &'static str,
 }
@@ -105,7 +105,7 @@ fn bounds(bytes: &[u8]) -> Option<Explanation> {
         if header(bytes, names).sh_type != SHT_STRTAB {
             let reason = "it is to have the names of sections, but is no string table";
             return Some(Explanation {
-                place: Place::Section(names),
+                subject: Subject::Section(names),
                 reason,
             });
         }
@@ -113,7 +113,7 @@ fn bounds(bytes: &[u8]) -> Option<Explanation> {
     for number in 0..header_count(bytes) {
         if let Some(reason) = bounds_reason(&header(bytes, number), bytes.len() as u64) {
             return Some(Explanation {
-                place: Place::Section(number),
+                subject: Subject::Section(number),
                 reason,
             });
         }
@@ -149,7 +149,7 @@ fn profile(bytes: &[u8]) -> Option<Explanation> {
     for number in 0..header_count(bytes) {
         if let Some(reason) = profile_reason(bytes, &header(bytes, number), &names) {
             return Some(Explanation {
-                place: Place::Section(number),
+                subject: Subject::Section(number),
                 reason,
             });
         }
@@ -187,13 +187,13 @@ fn misplaced(bytes: &[u8], table: &SectionHeader) -> Option<Explanation> {
         let is_local = symbol(bytes, table, number)?.is_local();
         if is_first && !is_local {
             return Some(Explanation {
-                place: Place::Symbol(number),
+                subject: Subject::Symbol(number),
                 reason: "it is not local, but stands below sh_info",
             });
         }
         if !is_first && is_local {
             return Some(Explanation {
-                place: Place::Symbol(number),
+                subject: Subject::Symbol(number),
                 reason: "it is local, but does not stand below sh_info",
             });
         }
@@ -207,7 +207,7 @@ fn symbols(bytes: &[u8]) -> Option<Explanation> {
     for number in first..header_count(bytes) {
         if number > first && header(bytes, number).is_symbol_table() {
             return Some(Explanation {
-                place: Place::Section(number),
+                subject: Subject::Section(number),
                 reason: "it is a second symbol table",
             });
         }
@@ -215,7 +215,7 @@ fn symbols(bytes: &[u8]) -> Option<Explanation> {
     let table = header(bytes, first);
     match symbol_table_reason(bytes, &table) {
         Some(reason) => Some(Explanation {
-            place: Place::Section(first),
+            subject: Subject::Section(first),
             reason,
         }),
         None => misplaced(bytes, &table),
@@ -244,15 +244,15 @@ fn symbol_reason(
     sections: u16,
     strings: &SectionHeader,
 ) -> Option<&'static str> {
-    let place = entry.st_shndx;
+    let subject = entry.st_shndx;
     let kind = entry.kind_number();
     if entry.bind() > STB_WEAK {
         Some("its binding is not LOCAL, GLOBAL or WEAK")
     } else if kind > STT_COMMON {
         Some("its type is above 5 (COMMON)")
-    } else if place >= sections && place != SHN_ABS && place != SHN_COMMON {
+    } else if subject >= sections && subject != SHN_ABS && subject != SHN_COMMON {
         Some("its section is not one of the object's, ABS or COMMON")
-    } else if entry.is_local() && (place == SHN_UNDEF || place == SHN_COMMON) {
+    } else if entry.is_local() && (subject == SHN_UNDEF || subject == SHN_COMMON) {
         Some("it is local, but UNDEF or COMMON")
     } else if !entry.is_local() && (kind == STT_SECTION || kind == STT_FILE) {
         Some("it is of type SECTION or FILE, but not local")
@@ -271,7 +271,7 @@ fn symbol_entries(bytes: &[u8]) -> Option<Explanation> {
         let entry = symbol(bytes, &table, number)?;
         if let Some(reason) = symbol_reason(bytes, &entry, header_count(bytes), &strings) {
             return Some(Explanation {
-                place: Place::Symbol(number),
+                subject: Subject::Symbol(number),
                 reason,
             });
         }
@@ -335,7 +335,7 @@ fn relocation_sections(bytes: &[u8]) -> Option<Explanation> {
         if table.is_relocation_section() {
             if let Some(reason) = relocation_section_reason(bytes, number, &table) {
                 return Some(Explanation {
-                    place: Place::Section(number),
+                    subject: Subject::Section(number),
                     reason,
                 });
             }
@@ -381,7 +381,7 @@ fn entries(bytes: &[u8], refusal: ObjectRefusal) -> Option<Explanation> {
             let entry = entry(bytes, &table, k)?;
             if let Some(reason) = entry_reason(refusal, &entry, &section, symbols) {
                 return Some(Explanation {
-                    place: Place::Entry(number, k),
+                    subject: Subject::Entry(number, k),
                     reason,
                 });
             }
@@ -427,7 +427,7 @@ fn overlap(alloc: Global, bytes: &[u8]) -> Result<Option<Explanation>, AllocErro
             && is_shared(alloc, bytes, &table)?
         {
             return Ok(Some(Explanation {
-                place: Place::Section(number),
+                subject: Subject::Section(number),
                 reason: "two of its entries share a byte",
             }));
         }
@@ -462,7 +462,7 @@ fn find_explanation(
         ObjectRefusal::NoMemory => return Ok(None),
     };
     Ok(Some(Explanation {
-        place: Place::Header,
+        subject: Subject::Header,
         reason,
     }))
 }

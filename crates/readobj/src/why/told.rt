@@ -1,7 +1,7 @@
-//! The message on a refused object: the place with its name, the reason with numbers and names, and what to do.
+//! The message on a refused object: what it is about with its name, the reason with numbers and names, and what to do.
 
 use crate::why::advice::advice;
-use crate::why::explain::{Explanation, Place};
+use crate::why::explain::{Explanation, Subject};
 use crate::why::look::{entry, header, section_name, symbol_name, symbol_of};
 use crate::why::psabi::{FLAGS, binding_name, relocation_name, symbol_kind_name};
 use elfobj::ObjectRefusal;
@@ -9,7 +9,7 @@ use elfobj::file::constants::{PROFILE_FLAGS, STB_WEAK, STT_COMMON};
 use elfobj::section::SectionKind;
 use std::fmt;
 
-/// Details of the place of a refusal.
+/// Details of what a refusal is about.
 #[derive(Clone, Copy)]
 enum Detail {
     /// None.
@@ -93,27 +93,27 @@ pub struct Told<'a> {
     advice: Option<&'static str>,
 }
 
-impl fmt::Display for Place {
+impl fmt::Display for Subject {
     fn fmt<W: fmt::Write>(&self, f: &mut fmt::Formatter<W>) -> fmt::Result {
         match self {
-            Place::Header => write!(f, "the ELF header"),
-            Place::Section(number) => write!(f, "section {number}"),
-            Place::Symbol(number) => write!(f, "symbol {number}"),
-            Place::Entry(section, number) => write!(f, "entry {number} of section {section}"),
+            Subject::Header => write!(f, "the ELF header"),
+            Subject::Section(number) => write!(f, "section {number}"),
+            Subject::Symbol(number) => write!(f, "symbol {number}"),
+            Subject::Entry(section, number) => write!(f, "entry {number} of section {section}"),
         }
     }
 }
 
 impl<'a> fmt::Display for Told<'a> {
     fn fmt<W: fmt::Write>(&self, f: &mut fmt::Formatter<W>) -> fmt::Result {
-        let (place, reason, detail) = (
-            &self.explanation.place,
+        let (subject, reason, detail) = (
+            &self.explanation.subject,
             self.explanation.reason,
             &self.detail,
         );
         match self.name {
-            Some(name) => write!(f, "{place} ({name}): {reason}{detail}")?,
-            None => write!(f, "{place}: {reason}{detail}")?,
+            Some(name) => write!(f, "{subject} ({name}): {reason}{detail}")?,
+            None => write!(f, "{subject}: {reason}{detail}")?,
         }
         if let Some(symbol) = self.symbol {
             write!(f, " ({symbol})")?;
@@ -125,12 +125,12 @@ impl<'a> fmt::Display for Told<'a> {
     }
 }
 
-/// The name of the section or the symbol at a place.
-fn place_name(bytes: &[u8], place: Place) -> Option<&str> {
-    match place {
-        Place::Header => None,
-        Place::Section(number) | Place::Entry(number, _) => section_name(bytes, number),
-        Place::Symbol(number) => symbol_name(bytes, number),
+/// The name of the section or the symbol that a refusal is about.
+fn subject_name(bytes: &[u8], subject: Subject) -> Option<&str> {
+    match subject {
+        Subject::Header => None,
+        Subject::Section(number) | Subject::Entry(number, _) => section_name(bytes, number),
+        Subject::Symbol(number) => symbol_name(bytes, number),
     }
 }
 
@@ -166,10 +166,10 @@ fn entry_detail(bytes: &[u8], table: u16, number: u64) -> Detail {
     }
 }
 
-/// The name of the symbol of a relocation, if the place is one.
-fn target_name(bytes: &[u8], place: Place) -> Option<&str> {
-    match place {
-        Place::Entry(table, number) => {
+/// The name of the symbol of a relocation, if the refusal is about one.
+fn target_name(bytes: &[u8], subject: Subject) -> Option<&str> {
+    match subject {
+        Subject::Entry(table, number) => {
             let entry = entry(bytes, &header(bytes, table), number)?;
             symbol_name(bytes, entry.r_info >> 32)
         }
@@ -177,26 +177,26 @@ fn target_name(bytes: &[u8], place: Place) -> Option<&str> {
     }
 }
 
-/// The details of a place for a refusal.
-fn detail_of(bytes: &[u8], refusal: ObjectRefusal, place: Place) -> Detail {
-    match place {
-        Place::Header => Detail::Nothing,
-        Place::Section(number) if refusal == ObjectRefusal::SectionProfile => {
+/// The details of a refusal about this.
+fn detail_of(bytes: &[u8], refusal: ObjectRefusal, subject: Subject) -> Detail {
+    match subject {
+        Subject::Header => Detail::Nothing,
+        Subject::Section(number) if refusal == ObjectRefusal::SectionProfile => {
             section_detail(bytes, number)
         }
-        Place::Symbol(number) if refusal == ObjectRefusal::Symbol => symbol_detail(bytes, number),
-        Place::Section(_) | Place::Symbol(_) => Detail::Nothing,
-        Place::Entry(table, number) => entry_detail(bytes, table, number),
+        Subject::Symbol(number) if refusal == ObjectRefusal::Symbol => symbol_detail(bytes, number),
+        Subject::Section(_) | Subject::Symbol(_) => Detail::Nothing,
+        Subject::Entry(table, number) => entry_detail(bytes, table, number),
     }
 }
 
 /// The message on bytes that are refused for this reason.
 pub fn tell(bytes: &[u8], refusal: ObjectRefusal, explanation: Explanation) -> Told<'_> {
-    let place = explanation.place;
-    let name = place_name(bytes, place);
-    let detail = detail_of(bytes, refusal, place);
-    let symbol = target_name(bytes, place);
-    let advice = advice(bytes, refusal, place);
+    let subject = explanation.subject;
+    let name = subject_name(bytes, subject);
+    let detail = detail_of(bytes, refusal, subject);
+    let symbol = target_name(bytes, subject);
+    let advice = advice(bytes, refusal, subject);
     Told {
         explanation,
         name,

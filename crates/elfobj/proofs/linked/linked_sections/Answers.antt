@@ -1,6 +1,6 @@
 use Rattle.std.proofs.Common.{◌≡◌, ◌<◌, sym, ◌∙◌, subst, arith, rules, get_or}
 use Rattle.elfobj_file.specs.ElfHeader.{e_shnum}
-use Rattle.elfobj.specs.Places.{AreRead}
+use Rattle.elfobj.specs.PartSpans.{AreRead}
 use Rattle.elfobj_file.specs.Sections.{sections_of, sections_below}
 use Rattle.elfobj_file.specs.SectionHeaders.{null_header}
 use Rattle.elfobj_file.proofs.Headers.{header_of, count_of}
@@ -15,8 +15,8 @@ overflow_cast-number c =
     let below : c.loop-number.number < 65536 = omega arith in
     search rules
 
-pub placed_section-requires-clause-linkable : goal.placed_section-requires-clause-linkable
-placed_section-requires-clause-linkable c =
+pub section_and_spans-requires-clause-linkable : goal.section_and_spans-requires-clause-linkable
+section_and_spans-requires-clause-linkable c =
     let count = count_of c.args.bytes.now c.args.headers.now c.requires.headers in
     linkable c.args.bytes.now c.loop-number.number c.in-Some.kind _ c.requires.tests (omega arith)
     (header_of c.args.bytes.now c.args.headers.now c.loop-number.number null_header c.requires.headers
@@ -31,10 +31,10 @@ loop-number-preserved c =
       | in-Some+in_ok-push w ↦ rw w.linked-is
           (read_more c.args.bytes.now c.loop-number.number
           (get_or c.args.headers.now c.loop-number.number null_header) w.in-Some.kind
-          c.loop-number.linked.sections.items _ c.loop-number.linked.places.items _ w.placed_section.result.0
-          w.placed_section.result.1
-          h (sym c.linked_kind.ensures ∙ w.in-Some.is) c.loop-number.invariant w.placed_section.ensures
-          w.in_ok-push.ensures.sections w.in_ok-push.ensures.places)
+          c.loop-number.linked.sections.items _ c.loop-number.linked.part_spans.items _ w.section_and_spans.result.0
+          w.section_and_spans.result.1
+          h (sym c.linked_kind.ensures ∙ w.in-Some.is) c.loop-number.invariant w.section_and_spans.ensures
+          w.in_ok-push.ensures.sections w.in_ok-push.ensures.part_spans)
       | in_default w ↦ rw w.linked-is
           (read_same c.args.bytes.now c.loop-number.number
           (get_or c.args.headers.now c.loop-number.number null_header) _ _
@@ -47,5 +47,5 @@ returns c =
     let count = count_of c.args.bytes.now c.args.headers.now c.requires.headers in
     let e : c.loop-number.number ≡ e_shnum c.args.bytes.now = omega arith in
     subst (λ n. AreRead c.args.bytes.now
-    (sections_below c.args.bytes.now n) c.loop-number.linked.sections.items c.loop-number.linked.places.items) e
+    (sections_below c.args.bytes.now n) c.loop-number.linked.sections.items c.loop-number.linked.part_spans.items) e
     c.loop-number.invariant

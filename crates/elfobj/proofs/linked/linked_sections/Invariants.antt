@@ -1,7 +1,7 @@
-use Rattle.elfobj.specs.Places.{AreRead}
+use Rattle.elfobj.specs.PartSpans.{AreRead}
 use Rattle.elfobj_file.specs.Sections.{sections_below}
 use Rattle.elfobj.proofs.linked.linked_sections.Given as goal
 
 abbrev pub invariant-loop-number : goal.invariant-loop-number
 invariant-loop-number l = AreRead l.bytes
-    (sections_below l.bytes l.number) l.linked.sections.items l.linked.places.items
+    (sections_below l.bytes l.number) l.linked.sections.items l.linked.part_spans.items

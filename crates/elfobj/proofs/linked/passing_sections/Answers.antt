@@ -5,7 +5,7 @@ use Rattle.elfobj_file.specs.Refusal.{is_outside_profile}
 use Rattle.elfobj_file.specs.SectionHeaders.{header, null_header}
 use Rattle.elfobj_file.specs.Sections.{sections_below, sections_of}
 use Rattle.elfobj_file.proofs.Headers.{count_of, header_of}
-use Rattle.elfobj.specs.Places.{AreRead}
+use Rattle.elfobj.specs.PartSpans.{AreRead}
 use Rattle.elfobj.proofs.PassingSections.{below_more, linked_within, names_are, not_linked, not_outside, profile_passes}
 use Rattle.elfobj.proofs.PassingSections.{right_by}
 use Rattle.elfobj.proofs.Steps.{read_more, read_same}
@@ -44,9 +44,9 @@ loop-number-preserved c =
     elim c.if-is_alloc.branch [
       | then-is_alloc+in-Some+else-left-length+in_ok-push w ↦ rw w.linked-is record {
         read = read_more bytes k h w.in-Some.kind c.loop-number.linked.sections.items _
-            c.loop-number.linked.places.items _ w.section_at.result.0 w.section_at.result.1 e
+            c.loop-number.linked.part_spans.items _ w.section_at.result.0 w.section_at.result.1 e
             w.in-Some.ensures.kind c.loop-number.invariant.read w.section_at.ensures
-            w.in_ok-push.ensures.sections w.in_ok-push.ensures.places;
+            w.in_ok-push.ensures.sections w.in_ok-push.ensures.part_spans;
         passes = below_more (λ j. is_outside_profile bytes (header bytes j) ≡ false) k
             (ap (is_outside_profile bytes) (sym e)
             ∙ right_by bytes c.args.names.now h c.requires.names w.in-Some.ensures.right)
@@ -73,5 +73,5 @@ returns-clause-read c =
     let count = count_of c.args.bytes.now c.args.headers.now c.requires.headers in
     let e : c.loop-number.number ≡ e_shnum c.args.bytes.now = omega arith in
     subst (λ n. AreRead c.args.bytes.now
-    (sections_below c.args.bytes.now n) c.loop-number.linked.sections.items c.loop-number.linked.places.items) e
+    (sections_below c.args.bytes.now n) c.loop-number.linked.sections.items c.loop-number.linked.part_spans.items) e
     c.loop-number.invariant.read

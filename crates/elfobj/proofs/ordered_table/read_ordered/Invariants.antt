@@ -1,7 +1,7 @@
 use Rattle.std.proofs.Common.{◌≡◌, false, map, take}
 use Rattle.std.specs.List.{All, list_any}
 use Rattle.elfobj_file.specs.Relocations.{relocation_of, share_bytes}
-use Rattle.elfobj.specs.Places.{AreRelocated}
+use Rattle.elfobj.specs.PartSpans.{AreRelocated}
 use Rattle.elfobj.specs.Runs.{is_refused_for, table_entries}
 use Rattle.elfobj.specs.declared.relocation_fault.EntryFault.TheVariants.{Any}
 use Rattle.elfobj.specs.declared.relocation_run.SectionTable.{SectionTable}

@@ -1,5 +1,5 @@
 use Rattle.std.proofs.Common.{map, take}
-use Rattle.elfobj.specs.Places.{AreRelocated}
+use Rattle.elfobj.specs.PartSpans.{AreRelocated}
 use Rattle.elfobj_file.specs.Relocations.{relocation_of}
 use Rattle.elfobj.specs.Runs.{table_entries}
 use Rattle.elfobj.specs.declared.relocation_run.SectionTable.{SectionTable}

@@ -1,5 +1,5 @@
 use Rattle.std.proofs.Common.{◌∷◌, map, take}
-use Rattle.elfobj.specs.Places.{AreNamed}
+use Rattle.elfobj.specs.PartSpans.{AreNamed}
 use Rattle.elfobj_file.specs.TableOf.{table_of}
 use Rattle.elfobj_file.specs.Symbols.{named_symbol, null_symbol}
 use Rattle.elfobj.proofs.symbol_table.named_symbols.Given as goal

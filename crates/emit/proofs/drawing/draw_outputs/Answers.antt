@@ -20,12 +20,12 @@ redraw-requires-clause-drawing c =
     (drawing_joined p s h.stays x _ (record {
       headers = c.deref.ensures.value;
       sections = c.deref-2.ensures.value;
-      tail = c.image_parts-tail.ensures;
+      tail = c.lend_parts-tail.ensures;
     }) are)
     (whole_stands p s h.stays x _ (record {
       headers = c.deref.ensures.value;
       sections = c.deref-2.ensures.value;
-      tail = c.image_parts-tail.ensures;
+      tail = c.lend_parts-tail.ensures;
     }) are
     (c.drawing_stands.ensures p s)
     (c.placement_is_in_memory.ensures p.script (rows p) (provided p) s h.are.indexed_layout.link_layout.placed)
@@ -36,9 +36,9 @@ redraw-requires-clause-patches c =
     let p = c.args.project.now in
     let h = c.requires.outputs in
     let s = h.layout in
-    ends_in p s h.stays c.in_ok-parts.parts c.deref.result c.deref-2.result c.image_parts-tail.result c.args.patches.now
+    ends_in p s h.stays c.in_ok-parts.parts c.deref.result c.deref-2.result c.lend_parts-tail.result c.args.patches.now
     (c.drawing_is_image.ensures.end p s) c.joined_is_whole.ensures.alike c.deref.ensures.value c.deref-2.ensures.value
-    c.image_parts-tail.ensures
+    c.lend_parts-tail.ensures
     (c.in_ok-parts.ensures s h.stays h.are) (c.requires.patches s h.are.indexed_layout)
 
 pub returns-clause-image : goal.returns-clause-image
@@ -52,18 +52,18 @@ returns-clause-image c =
     (whole p s stays x _ (record {
       headers = c.deref.ensures.value;
       sections = c.deref-2.ensures.value;
-      tail = c.image_parts-tail.ensures;
+      tail = c.lend_parts-tail.ensures;
     }) are)
     (c.joined_is_whole.ensures.alike _ _ (drawing_joined p s stays x _ (record {
       headers = c.deref.ensures.value;
       sections = c.deref-2.ensures.value;
-      tail = c.image_parts-tail.ensures;
+      tail = c.lend_parts-tail.ensures;
     }) are))
     (none_stays p s stays are.drawn.wholes none are.drawn.kept)
     (drawing_of p s stays x _ (record {
       headers = c.deref.ensures.value;
       sections = c.deref-2.ensures.value;
-      tail = c.image_parts-tail.ensures;
+      tail = c.lend_parts-tail.ensures;
     }) are))
     c.redraw.ensures.image
 
@@ -78,18 +78,18 @@ returns-clause-redrawn c =
     (whole new.project new.layout stays x _ (record {
       headers = c.deref.ensures.value;
       sections = c.deref-2.ensures.value;
-      tail = c.image_parts-tail.ensures;
+      tail = c.lend_parts-tail.ensures;
     }) are)
     (c.joined_is_whole.ensures.alike _ _ (drawing_joined new.project new.layout stays x _ (record {
       headers = c.deref.ensures.value;
       sections = c.deref-2.ensures.value;
-      tail = c.image_parts-tail.ensures;
+      tail = c.lend_parts-tail.ensures;
     }) are))
     good_old good_new (record {
       drawing = drawing_of new.project new.layout stays x _ (record {
         headers = c.deref.ensures.value;
         sections = c.deref-2.ensures.value;
-        tail = c.image_parts-tail.ensures;
+        tail = c.lend_parts-tail.ensures;
       }) are;
       kept = have_stayed (record {
         linked = c.stayed_in_both.ensures.linked;
@@ -111,17 +111,17 @@ returns-clause-work c =
     (whole new.project new.layout stays x _ (record {
       headers = c.deref.ensures.value;
       sections = c.deref-2.ensures.value;
-      tail = c.image_parts-tail.ensures;
+      tail = c.lend_parts-tail.ensures;
     }) are)
     (c.joined_is_whole.ensures.alike _ _ (drawing_joined new.project new.layout stays x _ (record {
       headers = c.deref.ensures.value;
       sections = c.deref-2.ensures.value;
-      tail = c.image_parts-tail.ensures;
+      tail = c.lend_parts-tail.ensures;
     }) are))
     (whole_stands new.project new.layout stays x _ (record {
       headers = c.deref.ensures.value;
       sections = c.deref-2.ensures.value;
-      tail = c.image_parts-tail.ensures;
+      tail = c.lend_parts-tail.ensures;
     }) are
     (c.drawing_stands.ensures new.project new.layout)
     (c.placement_is_in_memory.ensures p.script (rows p)
@@ -131,7 +131,7 @@ returns-clause-work c =
     (drawing_of new.project new.layout stays x _ (record {
       headers = c.deref.ensures.value;
       sections = c.deref-2.ensures.value;
-      tail = c.image_parts-tail.ensures;
+      tail = c.lend_parts-tail.ensures;
     }) are)
     (are_kept (record { linked = c.stayed_in_both.ensures.linked; all = c.sections_in_file.ensures.all })
     old new stays are.drawn.wholes are.drawn.kept all)
@@ -150,17 +150,17 @@ returns-clause-spent c =
     (whole new.project new.layout stays x _ (record {
       headers = c.deref.ensures.value;
       sections = c.deref-2.ensures.value;
-      tail = c.image_parts-tail.ensures;
+      tail = c.lend_parts-tail.ensures;
     }) are)
     (c.joined_is_whole.ensures.alike _ _ (drawing_joined new.project new.layout stays x _ (record {
       headers = c.deref.ensures.value;
       sections = c.deref-2.ensures.value;
-      tail = c.image_parts-tail.ensures;
+      tail = c.lend_parts-tail.ensures;
     }) are))
     (whole_stands new.project new.layout stays x _ (record {
       headers = c.deref.ensures.value;
       sections = c.deref-2.ensures.value;
-      tail = c.image_parts-tail.ensures;
+      tail = c.lend_parts-tail.ensures;
     }) are
     (c.drawing_stands.ensures new.project new.layout)
     (c.placement_is_in_memory.ensures p.script (rows p)
@@ -170,7 +170,7 @@ returns-clause-spent c =
     (drawing_of new.project new.layout stays x _ (record {
       headers = c.deref.ensures.value;
       sections = c.deref-2.ensures.value;
-      tail = c.image_parts-tail.ensures;
+      tail = c.lend_parts-tail.ensures;
     }) are)
     (are_kept (record { linked = c.stayed_in_both.ensures.linked; all = c.sections_in_file.ensures.all })
     old new stays are.drawn.wholes are.drawn.kept all)

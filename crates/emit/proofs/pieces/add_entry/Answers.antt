@@ -11,7 +11,7 @@ pub returns-then-has_stayed : goal.returns-then-has_stayed
 returns-then-has_stayed g c =
     let p = c.args.project.now in
     let stays : SectionKey → Bool = λ k. is_some (g.E.PreviousLinkInfo.range c.args.previous.now k) in
-    on_ok_weaker c.add_kept.result
+    on_ok_weaker c.add_stayed.result
     (λ h l w whole same sources at stand.
     let kept = h whole stand in (
       kept.0,
@@ -20,7 +20,7 @@ returns-then-has_stayed g c =
           (sym c.has_stayed.ensures ∙ c.if-has_stayed.true) kept.1),
       kept.2,
     ))
-    c.add_kept.ensures
+    c.add_stayed.ensures
 
 pub returns : goal.returns
 returns g c =

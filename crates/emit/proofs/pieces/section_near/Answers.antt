@@ -5,6 +5,6 @@ use Rattle.emit.proofs.pieces.section_near.Goals as goal
 
 pub returns-then-section-number-clause-found : goal.returns-then-section-number-clause-found
 returns-then-section-number-clause-found c =
-    numbered_near c.args.object.now.sections c.sections.result.now c.args.number c.args.likely c.in-Some.section.now
+    numbered_near c.args.object.now.sections c.sections.result.now c.args.number c.args.hint c.in-Some.section.now
     c.sections.ensures.value (search (rules, sym c.in-Some.ensures.lookup.0)) c.in-Some.ensures.lookup.1
     c.if-section-number.true

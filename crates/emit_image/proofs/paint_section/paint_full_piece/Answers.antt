@@ -1,6 +1,6 @@
 use Rattle.std.proofs.Common.{◌+◌, ◌<◌, ◌≤◌, ℕ, get_or, subst, arith}
 use Rattle.emit_image.specs.Drawing.{piece_byte, piece_end}
-use Rattle.emit_image.specs.Reached.{IsReached, place_of, section_image}
+use Rattle.emit_image.specs.Reached.{IsReached, file_offset_of, section_image}
 use Rattle.emit_image.specs.declared.section.ImagePiece.{ImagePiece}
 use Rattle.emit_image.proofs.Adding.{gap_and_part}
 use Rattle.emit_image.proofs.Painting.{painted_then}
@@ -17,21 +17,21 @@ overflow_add-end c =
     c.requires.some in
     omega (arith, within, c.requires.orderly.end)
 
-pub place-from-requires-clause-high : goal.place-from-requires-clause-high
-place-from-requires-clause-high c =
+pub file_offset-from-requires-clause-high : goal.file_offset-from-requires-clause-high
+file_offset-from-requires-clause-high c =
     let within = piece-within c.args.x.now c.args.cursor.pieces c.index-x-cursor.result c.requires.orderly
     c.requires.some in
     omega (arith, within)
 
-pub place-reach-requires-clause-high : goal.place-reach-requires-clause-high
-place-reach-requires-clause-high c =
+pub file_offset-reach-requires-clause-high : goal.file_offset-reach-requires-clause-high
+file_offset-reach-requires-clause-high c =
     piece-within c.args.x.now c.args.cursor.pieces c.index-x-cursor.result c.requires.orderly c.requires.some
 
 pub paint_gap-requires-clause-within : goal.paint_gap-requires-clause-within
 paint_gap-requires-clause-within c =
     let within = piece-within c.args.x.now c.args.cursor.pieces c.index-x-cursor.result c.requires.orderly
     c.requires.some in
-    omega (arith, within, c.place-reach.ensures, c.requires.within)
+    omega (arith, within, c.file_offset-reach.ensures, c.requires.within)
 
 pub paint_piece-requires-clause-within : goal.paint_piece-requires-clause-within
 paint_piece-requires-clause-within c =
@@ -44,7 +44,14 @@ paint_piece-requires-clause-within c =
     subst (λ (n : ℕ). IsReached x n now.data_commands now.at) e.pieces e.reached in
     let above = start_above x k now.data_commands now.at c.index-x-cursor.result q.orderly r q.some
     (q.full c.index-x-cursor.result) e.data_commands in
-    omega (arith, above, e.reached.low, c.place-from.ensures, c.place-reach.ensures, c.paint_gap.ensures.reached)
+    omega (
+      arith,
+      above,
+      e.reached.low,
+      c.file_offset-from.ensures,
+      c.file_offset-reach.ensures,
+      c.paint_gap.ensures.reached,
+    )
 
 pub returns-clause-reached : goal.returns-clause-reached
 returns-clause-reached c =
@@ -73,18 +80,19 @@ returns-clause-painted c =
     e.data_commands in
     let up : y.start ≤ piece_end y = omega arith in
     let low : x.start ≤ y.start = omega (arith, above, e.reached.low) in
-    let first : place_of x c.args.cursor.at ≤ place_of x now.at = omega (arith, e.up, q.reached.low) in
-    let second : place_of x now.at ≤ place_of x (piece_end y) = omega (arith, above, up) in
+    let first : file_offset_of x c.args.cursor.at ≤ file_offset_of x now.at = omega (arith, e.up, q.reached.low) in
+    let second : file_offset_of x now.at ≤ file_offset_of x (piece_end y) = omega (arith, above, up) in
     painted_then c.args.canvas.now.bytes c.paint_data_before-now.new.canvas.bytes c.paint_piece.new.canvas.bytes
     c.args.meter.now c.paint_data_before-now.new.meter c.paint_piece.new.meter
-    (place_of x c.args.cursor.at) (place_of x now.at) (place_of x (piece_end y)) (section_image x) first second
+    (file_offset_of x c.args.cursor.at) (file_offset_of x now.at) (file_offset_of x (piece_end y))
+    (section_image x) first second
     e.painted
     (gap_and_part x k now.data_commands now.at y.start (piece_end y) (λ a.
     record { byte = piece_byte a y; stays = y.stays }) c.paint_data_before-now.new.canvas.bytes
     c.paint_gap.new.canvas.bytes c.paint_piece.new.canvas.bytes c.paint_data_before-now.new.meter
     c.paint_gap.new.meter c.paint_piece.new.meter
-    c.place.result c.place-from.result (c.place-from.result + y.size) r above up
+    c.file_offset.result c.file_offset-from.result (c.file_offset-from.result + y.size) r above up
     (pieces-from x k c.index-x-cursor.result q.orderly q.some) e.data_commands
     (piece_spot x k now.data_commands now.at c.index-x-cursor.result q.orderly r q.some full e.data_commands)
-    c.place.ensures c.place-from.ensures (omega (arith, c.place-from.ensures, low))
+    c.file_offset.ensures c.file_offset-from.ensures (omega (arith, c.file_offset-from.ensures, low))
     c.paint_gap.ensures.painted c.paint_piece.ensures.painted)

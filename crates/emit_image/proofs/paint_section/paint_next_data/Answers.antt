@@ -3,7 +3,7 @@ use Rattle.ldmodel.specs.declared.placed.PlacedData.{PlacedData}
 use Rattle.ldscript.specs.statements.declared.section.Width.TheVariants.{Byte}
 use Rattle.emit_image.specs.Drawing.{data_byte, data_end}
 use Rattle.emit_image.specs.Painted.{IsPainted}
-use Rattle.emit_image.specs.Reached.{IsReached, place_of, section_image}
+use Rattle.emit_image.specs.Reached.{IsReached, file_offset_of, section_image}
 use Rattle.emit_image.proofs.Adding.{gap_and_part}
 use Rattle.emit_image.proofs.InSection.{data_above, data_from, data_spot, data_within, pieces_at, reached-data}
 use Rattle.emit_image.proofs.paint_section.paint_next_data.Goals as goal
@@ -18,15 +18,15 @@ overflow_add-end c =
     c.args.below none q.orderly q.reached q.some q.pieces (q.below none) in
     omega (arith, within, q.orderly.end, c.from.ensures, c.byte_count.ensures)
 
-pub place-from-requires-clause-high : goal.place-from-requires-clause-high
-place-from-requires-clause-high c =
+pub file_offset-from-requires-clause-high : goal.file_offset-from-requires-clause-high
+file_offset-from-requires-clause-high c =
     let q = c.requires in
     let within = data_within c.args.x.now c.args.cursor.pieces c.args.cursor.data_commands c.args.cursor.at
     c.args.below none q.orderly q.reached q.some q.pieces (q.below none) in
     omega (arith, within)
 
-pub place-requires-2-clause-high : goal.place-requires-2-clause-high
-place-requires-2-clause-high c =
+pub file_offset-requires-2-clause-high : goal.file_offset-requires-2-clause-high
+file_offset-requires-2-clause-high c =
     let q = c.requires in
     let within = data_within c.args.x.now c.args.cursor.pieces c.args.cursor.data_commands c.args.cursor.at
     c.args.below none q.orderly q.reached q.some q.pieces (q.below none) in
@@ -37,14 +37,14 @@ paint_fill-requires-clause-within c =
     let q = c.requires in
     let within = data_within c.args.x.now c.args.cursor.pieces c.args.cursor.data_commands c.args.cursor.at
     c.args.below none q.orderly q.reached q.some q.pieces (q.below none) in
-    omega (arith, within, c.place-from.ensures, q.within)
+    omega (arith, within, c.file_offset-from.ensures, q.within)
 
 pub paint_data-requires-clause-within : goal.paint_data-requires-clause-within
 paint_data-requires-clause-within c =
     let q = c.requires in
     let within = data_within c.args.x.now c.args.cursor.pieces c.args.cursor.data_commands c.args.cursor.at
     c.args.below none q.orderly q.reached q.some q.pieces (q.below none) in
-    omega (arith, within, c.place-2.ensures, c.from.ensures, c.byte_count.ensures, q.within)
+    omega (arith, within, c.file_offset-2.ensures, c.from.ensures, c.byte_count.ensures, q.within)
 
 pub returns-clause-reached : goal.returns-clause-reached
 returns-clause-reached c =
@@ -69,13 +69,14 @@ returns-clause-painted c =
     let above = data_above x k j at c.args.below none q.orderly q.reached q.some q.pieces (q.below none) in
     let up : d.start ≤ data_end d = omega arith in
     subst (λ (n : ℕ). IsPainted c.args.canvas.now.bytes c.paint_data.new.canvas.bytes c.args.meter.now
-    c.paint_data.new.meter (place_of x at) (place_of x n) (section_image x)) end
+    c.paint_data.new.meter (file_offset_of x at) (file_offset_of x n) (section_image x)) end
     (gap_and_part x k j at d.start (data_end d) (λ a. record { byte = data_byte a d; stays = false })
     c.args.canvas.now.bytes c.paint_fill.new.canvas.bytes c.paint_data.new.canvas.bytes c.args.meter.now
     c.paint_fill.new.meter c.paint_data.new.meter
-    c.place.result c.place-from.result c.place-2.result q.reached above up
+    c.file_offset.result c.file_offset-from.result c.file_offset-2.result q.reached above up
     (pieces_at x k j at c.args.below none q.orderly q.reached q.some q.pieces (q.below none))
     (data_from x k j at c.args.below none q.orderly q.reached q.some q.pieces (q.below none))
     (data_spot x k j at c.args.below none q.orderly q.reached q.some q.pieces (q.below none))
-    c.place.ensures c.place-from.ensures (c.place-2.ensures ∙ ap (λ (n : ℕ). place_of x n) (sym end))
+    c.file_offset.ensures c.file_offset-from.ensures (c.file_offset-2.ensures
+    ∙ ap (λ (n : ℕ). file_offset_of x n) (sym end))
     c.paint_fill.ensures.painted c.paint_data.ensures.painted)

@@ -1,6 +1,6 @@
 use Rattle.std.proofs.Common.{◌+◌, ◌≤◌, ℕ, refl, subst, arith}
 use Rattle.emit_image.specs.Painted.{IsPainted}
-use Rattle.emit_image.specs.Reached.{PiecesFrom, place_of, section_image}
+use Rattle.emit_image.specs.Reached.{PiecesFrom, file_offset_of, section_image}
 use Rattle.emit_image.proofs.Adding.{begins, ends, fill_section}
 use Rattle.emit_image.proofs.InSection.{reached-none}
 use Rattle.emit_image.proofs.Painting.{painted_none, painted_then}
@@ -13,7 +13,8 @@ loop-k-init c =
       reached = reached-none x c.requires.orderly;
       pieces = refl;
       ready = c.requires.ready;
-      painted = painted_none c.args.canvas.now.bytes c.args.meter.now (place_of x x.start) (place_of x x.start)
+      painted = painted_none c.args.canvas.now.bytes c.args.meter.now (file_offset_of x x.start)
+          (file_offset_of x x.start)
           (section_image x) refl;
     }
 
@@ -27,8 +28,8 @@ loop-k-preserved c =
       pieces = omega (arith, e.pieces, i.pieces);
       ready = e.ready;
       painted = painted_then c.args.canvas.now.bytes c.loop-k.canvas.bytes c.paint_next_piece-cursor.new.canvas.bytes
-          c.args.meter.now c.loop-k.meter c.paint_next_piece-cursor.new.meter (place_of x x.start)
-          (place_of x c.loop-k.cursor.at) (place_of x c.paint_next_piece-cursor.result.at) (section_image x)
+          c.args.meter.now c.loop-k.meter c.paint_next_piece-cursor.new.meter (file_offset_of x x.start)
+          (file_offset_of x c.loop-k.cursor.at) (file_offset_of x c.paint_next_piece-cursor.result.at) (section_image x)
           (omega (arith, i.reached.low)) (omega (arith, e.up, i.reached.low)) i.painted e.painted;
     }
 
@@ -50,15 +51,16 @@ returns-clause-painted c =
     let q = c.paint_data_before-last.new.meter in
     let n = c.paint_fill.new.meter in
     let filled = fill_section x last.pieces last.data_commands last.at to mid new q n e.reached none e.data_commands
-    e.reached.high (rw (c.place.ensures, c.place-2.ensures) at c.paint_fill.ensures.painted) in
-    let first : place_of x x.start ≤ place_of x c.loop-k.cursor.at = omega (arith, i.reached.low) in
-    let second : place_of x c.loop-k.cursor.at ≤ place_of x last.at = omega (arith, i.reached.low, e.up) in
-    let third : place_of x last.at ≤ place_of x to = omega (arith, e.reached.low, e.reached.high) in
-    let begun : place_of x x.start ≤ place_of x last.at = omega (arith, e.reached.low) in
-    let all = painted_then old mid new m q n (place_of x x.start) (place_of x last.at) (place_of x to)
+    e.reached.high (rw (c.file_offset.ensures, c.file_offset-2.ensures) at c.paint_fill.ensures.painted) in
+    let first : file_offset_of x x.start ≤ file_offset_of x c.loop-k.cursor.at = omega (arith, i.reached.low) in
+    let second : file_offset_of x c.loop-k.cursor.at ≤ file_offset_of x last.at = omega (arith, i.reached.low, e.up) in
+    let third : file_offset_of x last.at ≤ file_offset_of x to = omega (arith, e.reached.low, e.reached.high) in
+    let begun : file_offset_of x x.start ≤ file_offset_of x last.at = omega (arith, e.reached.low) in
+    let all = painted_then old mid new m q n (file_offset_of x x.start) (file_offset_of x last.at) (file_offset_of x to)
     (section_image x) begun third
-    (painted_then old before mid m p q (place_of x x.start) (place_of x c.loop-k.cursor.at) (place_of x last.at)
+    (painted_then old before mid m p q (file_offset_of x x.start) (file_offset_of x c.loop-k.cursor.at)
+    (file_offset_of x last.at)
     (section_image x) first second i.painted e.painted)
     filled in
     subst (λ (k : ℕ). IsPainted old new m n k (x.offset + x.size) (section_image x)) (begins x)
-    (subst (λ (k : ℕ). IsPainted old new m n (place_of x x.start) k (section_image x)) (ends x) all)
+    (subst (λ (k : ℕ). IsPainted old new m n (file_offset_of x x.start) k (section_image x)) (ends x) all)

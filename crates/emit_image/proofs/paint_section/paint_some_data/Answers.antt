@@ -1,7 +1,7 @@
 use Rattle.std.proofs.Common.{◌∙◌, arith}
 use Rattle.ldmodel.specs.declared.placed.PlacedData.{PlacedData}
 use Rattle.ldscript.specs.statements.declared.section.Width.TheVariants.{Byte}
-use Rattle.emit_image.specs.Reached.{place_of, section_image}
+use Rattle.emit_image.specs.Reached.{file_offset_of, section_image}
 use Rattle.emit_image.proofs.InSection.{data-from}
 use Rattle.emit_image.proofs.Painting.{painted_then}
 use Rattle.emit_image.proofs.paint_section.paint_some_data.Goals as goal
@@ -25,8 +25,8 @@ loop-k-preserved c =
       data_commands = omega (arith, e.data_commands, i.data_commands);
       ready = e.ready;
       painted = painted_then c.args.canvas.now.bytes c.loop-k.canvas.bytes c.paint_next_data-now.new.canvas.bytes
-          c.args.meter.now c.loop-k.meter c.paint_next_data-now.new.meter (place_of x c.args.cursor.at)
-          (place_of x c.loop-k.now.at) (place_of x c.paint_next_data-now.result.at) (section_image x)
+          c.args.meter.now c.loop-k.meter c.paint_next_data-now.new.meter (file_offset_of x c.args.cursor.at)
+          (file_offset_of x c.loop-k.now.at) (file_offset_of x c.paint_next_data-now.result.at) (section_image x)
           (omega (arith, i.up, c.requires.reached.low)) (omega (arith, e.up, i.reached.low)) i.painted e.painted;
       up = omega (arith, e.up, i.up);
     }

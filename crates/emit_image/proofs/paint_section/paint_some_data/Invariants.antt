@@ -1,6 +1,6 @@
 use Rattle.std.proofs.Common.{◌≡◌, ◌≤◌}
 use Rattle.emit_image.specs.Painted.{IsPainted, IsReady}
-use Rattle.emit_image.specs.Reached.{IsReached, place_of, section_image}
+use Rattle.emit_image.specs.Reached.{IsReached, file_offset_of, section_image}
 use Rattle.emit_image.proofs.paint_section.paint_some_data.Given as goal
 
 abbrev pub invariant-loop-k : goal.invariant-loop-k
@@ -9,7 +9,7 @@ invariant-loop-k l = record {
   pieces : l.now.pieces ≡ l.fn.cursor.pieces;
   data_commands : l.now.data_commands ≡ l._k;
   ready : IsReady l.limit l.canvas;
-  painted : IsPainted l.fn.canvas.bytes l.canvas.bytes l.fn.meter l.meter (place_of l.x l.fn.cursor.at)
-      (place_of l.x l.now.at) (section_image l.x);
+  painted : IsPainted l.fn.canvas.bytes l.canvas.bytes l.fn.meter l.meter (file_offset_of l.x l.fn.cursor.at)
+      (file_offset_of l.x l.now.at) (section_image l.x);
   up : l.fn.cursor.at ≤ l.now.at;
 }

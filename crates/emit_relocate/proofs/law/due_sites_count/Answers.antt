@@ -8,7 +8,7 @@ use Rattle.ldmodel_laws.specs.Untouched.{HasField}
 use Rattle.ldmodel.specs.Relocations.{Site, sites}
 use Rattle.ldmodel.specs.Stayed.{retargeted}
 use Rattle.ldmodel.specs.WorkBound.{sites_outside}
-use Rattle.emit_relocate.specs.PreviousLinkInfo.{good_link, has_moved}
+use Rattle.emit_relocate.specs.PreviousLinkInfo.{good_link, has_new_value}
 use Rattle.emit_relocate.proofs.Changing.{sites_of}
 use Rattle.emit_relocate.proofs.Evaluations.{all_evaluated}
 use Rattle.ldmodel_laws.proofs.Members.{in_filter}
@@ -22,7 +22,7 @@ returns c =
     let by_piece = c.sites_by_piece.ensures.same l.project l.layout placed in
     let outside = length_permutation _ _ (c.stayed_by_part.ensures.outside old new placed) in
     let moved = length_permutation _ _
-    (c.stayed_by_part.ensures.valued old new placed before after (has_moved old l)
+    (c.stayed_by_part.ensures.valued old new placed before after (has_new_value old l)
     (λ t among inside. same_where old l t))
     in
     let due = how_many old l range complete by_piece

@@ -1,4 +1,4 @@
-use Rattle.emit_relocate.specs.PreviousLinkInfo.{good_link, has_moved}
+use Rattle.emit_relocate.specs.PreviousLinkInfo.{good_link, has_new_value}
 use Rattle.emit_relocate.proofs.Patching.{all_patches, one_each}
 use Rattle.emit_relocate.proofs.Settling.{same_where}
 use Rattle.emit_relocate.proofs.law.patches_are_those_retargeted.Goals as goal
@@ -19,5 +19,5 @@ returns-clause-exact c =
     (λ x t field within is. c.fields_in_image.ensures.wide new x t field within is)
     (λ x among. c.stayed_by_part.ensures.piece old new placed x among) profile filed
     (λ x among t within. c.fields_in_image.ensures.found new after x among t within) a b none h
-    (c.stayed_by_part.ensures.valued old new placed before after (has_moved old l)
+    (c.stayed_by_part.ensures.valued old new placed before after (has_new_value old l)
     (λ t among inside. same_where old l t))

@@ -2,7 +2,7 @@ use Rattle.std.proofs.Common.{◌≡◌, ◌+◌, ◌-◌, ◌≤◌, length, ma
 use Rattle.std.specs.List.{All}
 use Rattle.ldscript_tokens.specs.CodeTokens.{lexeme_of}
 use Rattle.ldscript_tokens.specs.Modes.{line_at}
-use Rattle.ldscript_tokens.specs.CodeTokens.{IsPlace, IsShallow}
+use Rattle.ldscript_tokens.specs.CodeTokens.{IsInText, IsShallow}
 use Rattle.ldscript_tokens.proofs.Cut.{IsCutTo}
 use Rattle.ldscript_tokens.proofs.lexer.cut.Given as goal
 
@@ -11,7 +11,7 @@ invariant-loop-tokens l = record {
   cut : IsCutTo l.text (map (lexeme_of l.text) l.tokens.items) l.at l.state;
   many : length l.tokens.items ≤ l.at;
   within : l.at ≤ length l.text;
-  places : All (IsPlace (length l.text)) l.tokens.items;
+  places : All (IsInText (length l.text)) l.tokens.items;
   shallow : IsShallow l.at l.state;
   lines : l.line ≡ line_at l.text l.at;
   few : l.line ≤ 1 + l.at;

@@ -28,7 +28,7 @@ link_next-updated-requires-clause-previous c =
     (sym c.next-next.ensures.next)
     (subst (λ (o : Option PreviousState). IfSome o (HasPreviousImage (project_of (next_listing h s)) bytes))
     (sym c.lend_previous.ensures.lent)
-    (last_lent h s same bytes c.args.seen.now e x.edit c.args.previous.now e.known refl x.kept x.effect))
+    (last_lent h s same bytes c.args.seen.now e x.edit c.args.previous.now e.puts_none refl x.kept x.effect))
 
 pub returns-in-Ok-clause-updated : goal.returns-in-Ok-clause-updated
 returns-in-Ok-clause-updated c =

@@ -12,13 +12,13 @@ use Rattle.relink.proofs.DeferredCounts.{nothing_counted}
 use Rattle.relink.proofs.Deferring.{any_last_good, later_lent, linked_later}
 use Rattle.relink.proofs.deferred.link_unstaged.Goals as goal
 
-pub returns-then-is_settled-clause-last : goal.returns-then-is_settled-clause-last
-returns-then-is_settled-clause-last c =
+pub returns-then-is_up_to_date-clause-last : goal.returns-then-is_up_to_date-clause-last
+returns-then-is_up_to_date-clause-last c =
     subst (λ (b : Bool). IsLastGood b (listing_of c.args.project.now) c.args.canvas.now.bytes c.args.outcome.now
-    c.args.previous.now) (c.is_settled.ensures.yes c.if-is_settled.true).0 c.requires.last
+    c.args.previous.now) (c.is_up_to_date.ensures.yes c.if-is_up_to_date.true).0 c.requires.last
 
-pub link_later-updated-requires-clause-previous : goal.link_later-updated-requires-clause-previous
-link_later-updated-requires-clause-previous c =
+pub link_committed-updated-requires-clause-previous : goal.link_committed-updated-requires-clause-previous
+link_committed-updated-requires-clause-previous c =
     let h = c.args.project.now in
     let bytes = c.args.canvas.now.bytes in
     subst (λ (x : Option PreviousState). IfSome x (HasPreviousImage (held h) bytes)) (sym c.lend_later.ensures)
@@ -30,7 +30,7 @@ pub returns-clause-answers : goal.returns-clause-answers
 returns-clause-answers c =
     let l = listing_of c.args.project.now in
     let old = c.args.canvas.now.bytes in
-    let new = c.link_later-updated.new.canvas.bytes in
+    let new = c.link_committed-updated.new.canvas.bytes in
     (linked_later l c.keys.result.now old new c.in_ok-updated.updated c.args.previous.now c.record_outcome.new.previous
     c.args.outcome.now c.record_outcome.new.outcome
     (subst (λ (x : Option PreviousState). HasUpdateOutcome l x old new c.in_ok-updated.updated) c.lend_later.ensures
@@ -43,7 +43,7 @@ pub returns-clause-last : goal.returns-clause-last
 returns-clause-last c =
     let l = listing_of c.args.project.now in
     let old = c.args.canvas.now.bytes in
-    let new = c.link_later-updated.new.canvas.bytes in
+    let new = c.link_committed-updated.new.canvas.bytes in
     (linked_later l c.keys.result.now old new c.in_ok-updated.updated c.args.previous.now c.record_outcome.new.previous
     c.args.outcome.now c.record_outcome.new.outcome
     (subst (λ (x : Option PreviousState). HasUpdateOutcome l x old new c.in_ok-updated.updated) c.lend_later.ensures
@@ -52,10 +52,10 @@ returns-clause-last c =
     c.args.outcome.now c.record_outcome.new.outcome) c.no_effect.ensures c.record_outcome.ensures)
     (any_last_good c.args.is_linked.now l old c.args.outcome.now c.args.previous.now c.requires.last)).1
 
-pub returns-then-is_settled-clause-reads : goal.returns-then-is_settled-clause-reads
-returns-then-is_settled-clause-reads c = λ made. nothing_counted c.args.meter.now
+pub returns-then-is_up_to_date-clause-reads : goal.returns-then-is_up_to_date-clause-reads
+returns-then-is_up_to_date-clause-reads c = λ made. nothing_counted c.args.meter.now
 
 pub returns-clause-reads : goal.returns-clause-reads
 returns-clause-reads c = λ made.
-    subst (λ (m : Counts). ReadsNothing m c.link_later-updated.new.meter)
+    subst (λ (m : Counts). ReadsNothing m c.link_committed-updated.new.meter)
     (c.tables_of_project.ensures.kept (ap is_some c.take.ensures.value ∙ made)) c.in_ok-updated.ensures.reads

@@ -6,9 +6,9 @@ pub returns-in-Some : goal.returns-in-Some
 returns-in-Some c =
     let get = c.in-Some.ensures.lookup in
     c.as_bytes.ensures.value
-    ∙ at_some (codes "script") string_bytes c.args.words.now c.args.place c.in-Some.word.now (omega arith) get.3.0 get.1
+    ∙ at_some (codes "script") string_bytes c.args.words.now c.args.input c.in-Some.word.now (omega arith) get.3.0 get.1
 
 pub returns-in-None : goal.returns-in-None
 returns-in-None c =
     let get = c.in-None.ensures.lookup in
-    at_none (codes "script") string_bytes c.args.words.now c.args.place (omega arith) (omega arith)
+    at_none (codes "script") string_bytes c.args.words.now c.args.input (omega arith) (omega arith)

@@ -44,9 +44,9 @@ returns-clause-link c =
     ap length c.symbols.ensures.value ∙ length-map c.in-Some.object.now.symbols (λ (y : NamedSymbol). y.symbol)
     ∙ ap (λ (d : ObjectData). length d.symbols) (sym object) in
     let l : KnownLink = touching.link_at p x r f names keeps s in
-    let row : IsRow l f.after c.row-values.result.now =
-    touching.values p x r f names keeps old is (length c.symbols.result.now) c.row-values.result.now count
-    c.row-values.ensures.is in
+    let row : IsRow l f.after c.slice-values.result.now =
+    touching.values p x r f names keeps old is (length c.symbols.result.now) c.slice-values.result.now count
+    c.slice-values.ensures.is in
     let order = c.files_in_order.ensures s.sections in
     let all = c.sections_in_file.ensures.all s.sections in
     let offset_is = c.sections_in_file.ensures.offset s.sections is.table.indexed_layout.link_layout.named in
@@ -60,7 +60,7 @@ returns-clause-link c =
     let none = faultless yes old.project l f.after rewrite object row located
     (touching.before_faultless p x r f names keeps old is) in
     touching.rewritten_end p x r f names keeps old is c.rewrite_in_place.new.canvas.bytes none
-    (c.is_good.ensures s (touching.indexed_layout p x r f names keeps old is).link_layout
+    (c.faultless_link_is_good.ensures s (touching.indexed_layout p x r f names keeps old is).link_layout
     (touching.short p x r f names keeps old is) none)
     (image yes old.project l f.after rewrite object row located c.requires.previous.image))
     c.rewrite_in_place.ensures.image c.rewrite_in_place.ensures.faultless
@@ -85,9 +85,9 @@ returns-clause-counted c =
     touching.if_both _ _ _ c.rewrite_in_place.result (λ done counted faultless yes old t is laid_at.
     let s : Layout = old.layout in
     let l : KnownLink = touching.link_at p x r f names keeps s in
-    let row : IsRow l f.after c.row-values.result.now =
-    touching.values p x r f names keeps old is (length c.symbols.result.now) c.row-values.result.now count
-    c.row-values.ensures.is in
+    let row : IsRow l f.after c.slice-values.result.now =
+    touching.values p x r f names keeps old is (length c.symbols.result.now) c.slice-values.result.now count
+    c.slice-values.ensures.is in
     let order = c.files_in_order.ensures s.sections in
     let all = c.sections_in_file.ensures.all s.sections in
     let offset_is = c.sections_in_file.ensures.offset s.sections is.table.indexed_layout.link_layout.named in
@@ -97,7 +97,7 @@ returns-clause-counted c =
     let rewrite = touching.rewriting_of p x r f names keeps old is c.nobits_are_bare.ensures in
     let none = faultless yes old.project l f.after rewrite object row located
     (touching.before_faultless p x r f names keeps old is) in
-    let good = c.is_good.ensures s (touching.indexed_layout p x r f names keeps old is).link_layout
+    let good = c.faultless_link_is_good.ensures s (touching.indexed_layout p x r f names keeps old is).link_layout
     (touching.short p x r f names keeps old is) none in
     let raised_by = counted yes l f.after f.at object row located
     ∙ ap (λ (d : ObjectData). raised (raised c.args.meter.now Fields (evaluations l (sites_of s f.after))) Bytes
@@ -130,9 +130,9 @@ returns-clause-faulty c =
     ap length c.symbols.ensures.value ∙ length-map c.in-Some.object.now.symbols (λ (y : NamedSymbol). y.symbol)
     ∙ ap (λ (d : ObjectData). length d.symbols) (sym object) in
     let l : KnownLink = touching.link_at p x r f names keeps s in
-    let row : IsRow l f.after c.row-values.result.now =
-    touching.values p x r f names keeps old is (length c.symbols.result.now) c.row-values.result.now count
-    c.row-values.ensures.is in
+    let row : IsRow l f.after c.slice-values.result.now =
+    touching.values p x r f names keeps old is (length c.symbols.result.now) c.slice-values.result.now count
+    c.slice-values.ensures.is in
     let order = c.files_in_order.ensures s.sections in
     let all = c.sections_in_file.ensures.all s.sections in
     let offset_is = c.sections_in_file.ensures.offset s.sections is.table.indexed_layout.link_layout.named in
@@ -163,9 +163,9 @@ returns-clause-reads c =
     ap length c.symbols.ensures.value ∙ length-map c.in-Some.object.now.symbols (λ (y : NamedSymbol). y.symbol)
     ∙ ap (λ (d : ObjectData). length d.symbols) (sym object) in
     let l : KnownLink = touching.link_at p x r f names keeps s in
-    let row : IsRow l f.after c.row-values.result.now =
-    touching.values p x r f names keeps old is (length c.symbols.result.now) c.row-values.result.now count
-    c.row-values.ensures.is in
+    let row : IsRow l f.after c.slice-values.result.now =
+    touching.values p x r f names keeps old is (length c.symbols.result.now) c.slice-values.result.now count
+    c.slice-values.ensures.is in
     let order = c.files_in_order.ensures s.sections in
     let all = c.sections_in_file.ensures.all s.sections in
     let offset_is = c.sections_in_file.ensures.offset s.sections is.table.indexed_layout.link_layout.named in

@@ -3,7 +3,7 @@ use Rattle.std.proofs.lemmas.Result.{err_from_is_err_and}
 use Rattle.ldmodel.specs.Assertions.{assertion_faults}
 use Rattle.ldmodel.specs.Link.{Link, good}
 use Rattle.ldmodel_project.specs.ByPlace.{faults_in}
-use Rattle.relink_driver.specs.PassErrors.{IsPassError}
+use Rattle.relink_driver.specs.PassEnds.{IsPassEnd}
 use Rattle.relink_driver.proofs.passes.check_assertions.Goals as goal
 
 pub returns-clause-good : goal.returns-clause-good
@@ -27,7 +27,7 @@ returns-in_err-end_if_faulty-clause-stop c =
     let e = err_from_is_err_and c.from_residual-in_err-end_if_faulty.result
     c.from_residual-in_err-end_if_faulty.ensures.1 in
     rw (e.1, e.2)
-    (subst (λ (l : Link). IsPassError l c.in_err-end_if_faulty.field-0.0) (sym c.requires.rest)
+    (subst (λ (l : Link). IsPassEnd l c.in_err-end_if_faulty.field-0.0) (sym c.requires.rest)
     (c.in_err-end_if_faulty.ensures.stop (assertion_faults p s) (good p s)
     (ap (faults_in p) c.deref.ensures.value ∙ c.in_ok-faults.ensures s h.symbol_table h.known.link_layout
     h.values)))

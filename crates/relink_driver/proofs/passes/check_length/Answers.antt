@@ -4,7 +4,7 @@ use Rattle.ldmodel.specs.Fault as model
 use Rattle.ldmodel.specs.Link.{max_image_length, of_length, placed, relocated}
 use Rattle.ldmodel.specs.SectionHeaders.{image_length}
 use Rattle.ldmodel.specs.declared.fault.Fault.TheVariants as variant
-use Rattle.relink_driver.specs.PassErrors.{faulty_link}
+use Rattle.relink_driver.specs.PassEnds.{faulty_link}
 use Rattle.relink_driver.proofs.Stopping.{fitting, short_of, too_long_of}
 use Rattle.relink_driver.proofs.passes.check_length.Goals as goal
 

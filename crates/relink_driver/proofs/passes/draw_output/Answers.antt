@@ -3,7 +3,7 @@ use Rattle.std.specs.List.{All}
 use Rattle.elfobj.specs.Raised.{raised}
 use Rattle.elfobj.specs.declared.meter.Count.TheVariants.{Bytes}
 use Rattle.emit.specs.fields.declared.patch.Patch.{Patch}
-use Rattle.emit.specs.image.Kept.{ArePatchesOf}
+use Rattle.emit.specs.image.Redrawings.{ArePatchesOf}
 use Rattle.emit.specs.image.Stretches.{EndsBy, patch_bytes}
 use Rattle.ldmodel.specs.Image.{image}
 use Rattle.ldmodel.specs.Layout.{Layout}

@@ -4,7 +4,7 @@ use Rattle.ldmodel.specs.Assertions.{assertion_faults}
 use Rattle.ldmodel.specs.Link.{Link, good, unless}
 use Rattle.ldmodel.specs.Relocations.{relocation_faults}
 use Rattle.ldmodel_project.specs.ByPlace.{faults_in}
-use Rattle.relink_driver.specs.PassErrors.{IsPassError}
+use Rattle.relink_driver.specs.PassEnds.{IsPassEnd}
 use Rattle.relink_driver.proofs.Beside.{evaluated_at, known_beside}
 use Rattle.relink_driver.proofs.Reading.{ends_reading}
 use Rattle.relink_driver.proofs.Stopping.{none_of}
@@ -20,7 +20,7 @@ returns-clause-good c =
     (c.requires.symbols s h.link_layout) c.inputs-inputs.ensures.distinct c.in_ok-relocated.ensures
     c.is_complete.ensures.complete c.is_complete.ensures.none in
     let same = ap (faults_in p) c.deref.ensures.value ∙ b.faults in
-    let new = c.is_good.ensures s h.link_layout c.requires.short.length
+    let new = c.faultless_link_is_good.ensures s h.link_layout c.requires.short.length
     (none_of (relocation_faults p s) (λ next. c.in_ok-end_if_faulty.ensures.good (relocation_faults p s) next same)) in
     record {
       known_by = c.args.view.now;
@@ -46,7 +46,7 @@ returns-in_err-end_if_faulty-clause-stop c =
     let e = err_from_is_err_and c.from_residual-in_err-end_if_faulty.result
     c.from_residual-in_err-end_if_faulty.ensures.1 in
     rw (e.1, e.2)
-    (subst (λ (l : Link). IsPassError l c.in_err-end_if_faulty.field-0.0) (sym c.requires.short.rest)
+    (subst (λ (l : Link). IsPassEnd l c.in_err-end_if_faulty.field-0.0) (sym c.requires.short.rest)
     (c.in_err-end_if_faulty.ensures.stop (relocation_faults p s) (unless (assertion_faults p s) (good p s))
     (ap (faults_in p) c.deref.ensures.value ∙ b.faults)))
 

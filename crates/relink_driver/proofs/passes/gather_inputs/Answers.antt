@@ -3,7 +3,7 @@ use Rattle.std.proofs.lemmas.Result.{err_from_is_err_and}
 use Rattle.ldmodel.specs.Link.{Link, gathering_faults, layout, placed}
 use Rattle.ldmodel.specs.declared.fault.Fault.TheVariants.{Orphan}
 use Rattle.ldmodel_project.specs.ByPlace.{faults_in}
-use Rattle.relink_driver.specs.PassErrors.{IsPassError}
+use Rattle.relink_driver.specs.PassEnds.{IsPassEnd}
 use Rattle.relink_driver.proofs.Stopping.{orphans_as_faults}
 use Rattle.relink_driver.proofs.passes.gather_inputs.Goals as goal
 
@@ -23,7 +23,7 @@ returns-in_err-end_if_faulty-clause-stop c =
     let e = err_from_is_err_and c.from_residual-in_err-end_if_faulty.result
     c.from_residual-in_err-end_if_faulty.ensures.1 in
     rw (e.1, e.2)
-    (subst (λ (l : Link). IsPassError l c.in_err-end_if_faulty.field-0.0) (sym c.requires.rest)
+    (subst (λ (l : Link). IsPassEnd l c.in_err-end_if_faulty.field-0.0) (sym c.requires.rest)
     (c.in_err-end_if_faulty.ensures.stop (gathering_faults p) (placed p (layout p))
     (ap (faults_in p) (c.deref-2.ensures.value ∙ (c.in_ok-faults.ensures ∙ ap (map Orphan) c.deref.ensures.value))
     ∙ (orphans_as_faults p keys ∙ c.in_ok-gathering.ensures.orphans))))

@@ -5,7 +5,7 @@ use Rattle.ldmodel.specs.Names.{provided}
 use Rattle.ldmodel.specs.Project.{Project}
 use Rattle.ldmodel.specs.Rows as model
 use Rattle.ldmodel.specs.SessionWork.{entries_from}
-use Rattle.place.specs.sections.Kept.{IsKept}
+use Rattle.place.specs.sections.Resumable.{IsResumable}
 use Rattle.relink_driver.specs.Resume.{AreSameBefore, IsNext}
 use Rattle.relink_driver.specs.SameRows.{first_changed}
 use Rattle.relink_driver.specs.StayedSections.{IsPreviousOf, PreviousState, previous_of, previous_state}
@@ -20,7 +20,7 @@ returns-clause-kept c = λ old h.
     (λ m. IfSome (previous_of m) (IsPreviousOf old new)) c.in_ok-previous.was h in
     let first = c.first_changed-first_row.ensures
     ∙ ap (λ l. first_changed x new l c.args.rows.now) c.deref.ensures.value in
-    subst (λ n. IsKept new.script (model.rows new) x.snapshot.indexed_layout.link_layout.placement n) (sym first)
+    subst (λ n. IsResumable new.script (model.rows new) x.snapshot.indexed_layout.link_layout.placement n) (sym first)
     (is_kept old new x previous c.args.rows.now c.requires.rows c.if-not-previous.false)
 
 pub returns-clause-same : goal.returns-clause-same

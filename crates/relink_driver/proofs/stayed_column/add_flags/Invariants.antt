@@ -1,6 +1,6 @@
 use Rattle.std.proofs.Common.{◌+◌, ◌≤◌, vec_len}
 use Rattle.std.specs.Prelude.{None, is_some, slice_index_or, vec_capacity}
-use Rattle.relink_driver.specs.StayedColumn.{kept_between}
+use Rattle.relink_driver.specs.StayedColumn.{stayed_between}
 use Rattle.relink_driver.proofs.Columns.{RowSoFar}
 use Rattle.relink_driver.proofs.Still.{StillSoFar}
 use Rattle.relink_driver.proofs.stayed_column.add_flags.Given as goal
@@ -8,8 +8,8 @@ use Rattle.relink_driver.proofs.stayed_column.add_flags.Given as goal
 abbrev pub invariant-loop-number : goal.invariant-loop-number
 invariant-loop-number l = record {
   room : vec_len l.flags + l.count ≤ vec_capacity l.flags + l.number;
-  row : RowSoFar (λ k. is_some (kept_between l.previous (slice_index_or l.before k None) l.link_layout
+  slice : RowSoFar (λ k. is_some (stayed_between l.previous (slice_index_or l.before k None) l.link_layout
       (slice_index_or l.now k None))) l.fn.flags.items l.flags.items l.number;
-  still : StillSoFar (λ k. is_some (kept_between l.previous (slice_index_or l.before k None) l.link_layout
-      (slice_index_or l.now k None))) l.now l.still l.number;
+  all_stayed : StillSoFar (λ k. is_some (stayed_between l.previous (slice_index_or l.before k None) l.link_layout
+      (slice_index_or l.now k None))) l.now l.all_stayed l.number;
 }

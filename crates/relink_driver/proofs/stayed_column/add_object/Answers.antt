@@ -17,13 +17,13 @@ returns-clause-flags c =
     row_as _ _ _ _
     (λ k. same_number x c.args.indexed_layout.now c.args.object.0 k c.in-Some.from _ _ c.in-Some.ensures
     (c.addresses_of-before.ensures.are (record { 0 = k })) (c.addresses_of-now.ensures.are (record { 0 = k })))
-    c.in_ok-still.ensures.flags
+    c.in_ok-all_stayed.ensures.flags
 
-pub returns-clause-still : goal.returns-clause-still
-returns-clause-still c = λ so k.
+pub returns-clause-all_stayed : goal.returns-clause-all_stayed
+returns-clause-all_stayed c = λ so k.
     let x = previous_state c.args.previous.now in
-    let lies = c.addresses_of-now.ensures.are (record { 0 = k }) in
+    let address_now = c.addresses_of-now.ensures.are (record { 0 = k }) in
     still_as _ _ _ _
     (same_number x c.args.indexed_layout.now c.args.object.0 k c.in-Some.from _ _ c.in-Some.ensures
-    (c.addresses_of-before.ensures.are (record { 0 = k })) lies)
-    lies (c.in_ok-still.ensures.still so k)
+    (c.addresses_of-before.ensures.are (record { 0 = k })) address_now)
+    address_now (c.in_ok-all_stayed.ensures.all_stayed so k)

@@ -1,7 +1,7 @@
 use Rattle.std.proofs.Common.{None, arith}
 use Rattle.std.proofs.lemmas.List.{get_or_past}
 use Rattle.relink_driver.specs.PreviousLink.{previous_state}
-use Rattle.relink_driver.specs.StayedColumn.{key_at, kept_number}
+use Rattle.relink_driver.specs.StayedColumn.{key_at, has_stayed_number}
 use Rattle.relink_driver.proofs.Columns.{column_done, none_where_new}
 use Rattle.relink_driver.proofs.Still.{rows_done}
 use Rattle.relink_driver.proofs.stayed_column.column_beside.Goals as goal
@@ -10,12 +10,12 @@ pub returns-clause-flags : goal.returns-clause-flags
 returns-clause-flags c = λ object number.
     let x = previous_state c.args.previous.now in
     let t = c.args.indexed_layout.now in
-    column_done (kept_number x t) _ _ c.loop-place.place object.0 number.0
+    column_done (has_stayed_number x t) _ _ c.loop-place.place object.0 number.0
     (λ past. none_where_new x t (key_at object.0 number.0)
     (get_or_past x.from object.0 None (omega (arith, past, c.loop-place-test.false))))
     c.loop-place.invariant.flags
 
-pub returns-clause-still : goal.returns-clause-still
-returns-clause-still c = λ object so number.
+pub returns-clause-all_stayed : goal.returns-clause-all_stayed
+returns-clause-all_stayed c = λ object so number.
     rows_done (previous_state c.args.previous.now) c.args.indexed_layout.now _ c.loop-place.place object.0
-    c.loop-place.invariant.still so number.0
+    c.loop-place.invariant.all_stayed so number.0

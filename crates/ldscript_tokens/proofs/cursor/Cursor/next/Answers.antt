@@ -1,11 +1,11 @@
 use Rattle.std.proofs.Common.{length, subst}
 use Rattle.std.specs.List.{All}
 use Rattle.std.proofs.lemmas.List.Elements.{All-tail}
-use Rattle.ldscript_tokens.specs.CodeTokens.{IsPlace}
+use Rattle.ldscript_tokens.specs.CodeTokens.{IsInText}
 use Rattle.ldscript_tokens.proofs.cursor.Cursor.next.Goals as goal
 
 pub invariant_of-result : goal.invariant_of-result
 invariant_of-result c =
     let size = length c.self.inside.text.now in
-    All-tail (IsPlace size) c.in_ok-first.first c.in_ok-first.rest.now
-    (subst (λ tokens. All (IsPlace size) tokens) c.in_ok-first.ensures c.self.invariant)
+    All-tail (IsInText size) c.in_ok-first.first c.in_ok-first.rest.now
+    (subst (λ tokens. All (IsInText size) tokens) c.in_ok-first.ensures c.self.invariant)

@@ -18,7 +18,8 @@ invariant_of-self-in-Elsewhere c =
           c.requires.fits
           (omega (arith, c.in_ok-count.ensures, c.len-2.ensures, length-map c.args.section.pieces.items keyed_piece))
           (omega (arith, c.in_ok-data_count.ensures, c.len-3.ensures))
-          c.len.result c.kept_at-kept_at.result (omega (arith, c.len.ensures)) c.in-Elsewhere.is c.kept_at-kept_at.ensures,
+          c.len.result c.difference_slot-difference_slot.result
+          (omega (arith, c.len.ensures)) c.in-Elsewhere.is c.difference_slot-difference_slot.ensures,
       c.self.invariant.1,
     )
 
@@ -35,7 +36,8 @@ invariant_of-self-in-Nowhere c =
           c.requires.fits
           (omega (arith, c.in_ok-count.ensures, c.len-2.ensures, length-map c.args.section.pieces.items keyed_piece))
           (omega (arith, c.in_ok-data_count.ensures, c.len-3.ensures))
-          c.len.result c.kept_at-kept_at.result (omega (arith, c.len.ensures)) c.in-Nowhere.is c.kept_at-kept_at.ensures,
+          c.len.result c.difference_slot-difference_slot.result
+          (omega (arith, c.len.ensures)) c.in-Nowhere.is c.difference_slot-difference_slot.ensures,
       c.self.invariant.1,
     )
 
@@ -52,7 +54,7 @@ invariant_of-self-in-At c =
           c.requires.fits
           (omega (arith, c.in_ok-count.ensures, c.len-2.ensures, length-map c.args.section.pieces.items keyed_piece))
           (omega (arith, c.in_ok-data_count.ensures, c.len-3.ensures))
-          c.in-At.number c.len.result c.kept_at-kept_at.result (omega (arith, c.len.ensures)) c.in-At.is
-          c.kept_at-kept_at.ensures,
+          c.in-At.number c.len.result c.difference_slot-difference_slot.result (omega (arith, c.len.ensures)) c.in-At.is
+          c.difference_slot-difference_slot.ensures,
       c.self.invariant.1,
     )

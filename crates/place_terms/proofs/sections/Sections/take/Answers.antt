@@ -6,7 +6,7 @@ use Rattle.place_terms.proofs.TakenOver.{commands_more, counted_more, taken_more
 use Rattle.place_terms.specs.PreviousLayout.{earlier_of}
 use Rattle.place_terms.specs.Keyed.{section_of}
 use Rattle.place_terms.specs.Outputs.{IsOutput}
-use Rattle.place_terms.specs.SectionTable.{both, keyed_taken, nameless, AreSectionsOf, IsKeptAt}
+use Rattle.place_terms.specs.SectionTable.{both, keyed_taken, nameless, AreSectionsOf, IsDifferenceSlot}
 use Rattle.place_terms.proofs.sections.Sections.take.Goals as goal
 
 pub invariant_of-self-in-Elsewhere : goal.invariant_of-self-in-Elsewhere
@@ -43,9 +43,10 @@ invariant_of-self-in-Elsewhere c = (
       c.self.invariant.0 c.self.invariant.1 c.len-number.result c.args.output.now c.args.row.now
       c.in-Some.section.data_commands.now c.in-Some.section (omega (arith, c.len-number.ensures)) c.in-Some.ensures.is
       c.args.data_end c.in-Some.ensures.long)
-      c.len.result c.kept_at-kept_at.result (omega (arith, c.len.ensures)) c.in-Elsewhere.is
-      (subst (λ (x : OutputSection). IsKeptAt c.self.inside.script.now c.len.result x.region c.kept_at-kept_at.result)
-      (sym c.in-Some.ensures.is.output) c.kept_at-kept_at.ensures)),
+      c.len.result c.difference_slot-difference_slot.result (omega (arith, c.len.ensures)) c.in-Elsewhere.is
+      (subst (λ (x : OutputSection). IsDifferenceSlot c.self.inside.script.now c.len.result x.region
+      c.difference_slot-difference_slot.result)
+      (sym c.in-Some.ensures.is.output) c.difference_slot-difference_slot.ensures)),
   taken_more c.self.inside.script.now c.self.inside.earlier c.self.inside.taken.items
       c.self.inside.list.items c.self.inside.differences.items c.self.inside.elsewhere c.self.inside.count
       c.self.inside.data_count c.self.inside.taken_count
@@ -88,9 +89,10 @@ invariant_of-self-in-Nowhere c = (
       c.self.invariant.0 c.self.invariant.1 c.len-number.result c.args.output.now c.args.row.now
       c.in-Some.section.data_commands.now c.in-Some.section (omega (arith, c.len-number.ensures)) c.in-Some.ensures.is
       c.args.data_end c.in-Some.ensures.long)
-      c.len.result c.kept_at-kept_at.result (omega (arith, c.len.ensures)) c.in-Nowhere.is
-      (subst (λ (x : OutputSection). IsKeptAt c.self.inside.script.now c.len.result x.region c.kept_at-kept_at.result)
-      (sym c.in-Some.ensures.is.output) c.kept_at-kept_at.ensures)),
+      c.len.result c.difference_slot-difference_slot.result (omega (arith, c.len.ensures)) c.in-Nowhere.is
+      (subst (λ (x : OutputSection). IsDifferenceSlot c.self.inside.script.now c.len.result x.region
+      c.difference_slot-difference_slot.result)
+      (sym c.in-Some.ensures.is.output) c.difference_slot-difference_slot.ensures)),
   taken_more c.self.inside.script.now c.self.inside.earlier c.self.inside.taken.items
       c.self.inside.list.items c.self.inside.differences.items c.self.inside.elsewhere c.self.inside.count
       c.self.inside.data_count c.self.inside.taken_count
@@ -135,9 +137,10 @@ invariant_of-self-in-At c = (
       c.self.invariant.0 c.self.invariant.1 c.len-number.result c.args.output.now c.args.row.now
       c.in-Some.section.data_commands.now c.in-Some.section (omega (arith, c.len-number.ensures)) c.in-Some.ensures.is
       c.args.data_end c.in-Some.ensures.long)
-      c.in-At.number c.len.result c.kept_at-kept_at.result (omega (arith, c.len.ensures)) c.in-At.is
-      (subst (λ (x : OutputSection). IsKeptAt c.self.inside.script.now c.len.result x.region c.kept_at-kept_at.result)
-      (sym c.in-Some.ensures.is.output) c.kept_at-kept_at.ensures)),
+      c.in-At.number c.len.result c.difference_slot-difference_slot.result (omega (arith, c.len.ensures)) c.in-At.is
+      (subst (λ (x : OutputSection). IsDifferenceSlot c.self.inside.script.now c.len.result x.region
+      c.difference_slot-difference_slot.result)
+      (sym c.in-Some.ensures.is.output) c.difference_slot-difference_slot.ensures)),
   taken_more c.self.inside.script.now c.self.inside.earlier c.self.inside.taken.items
       c.self.inside.list.items c.self.inside.differences.items c.self.inside.elsewhere c.self.inside.count
       c.self.inside.data_count c.self.inside.taken_count

@@ -2,14 +2,14 @@ use Rattle.std.proofs.Common.{◌∙◌, ℕ, List, Option, ap, arith, length, m
 use Rattle.std.specs.VecDeque.{deque_len}
 use Rattle.gather.specs.declared.matches.Matches.{Matches}
 use Rattle.symres.specs.decisions.Change.{Table, changed_tables}
-use Rattle.symres.specs.decisions.Decisions.{AreKept}
+use Rattle.symres.specs.decisions.Decisions.{AreDecisionsOf}
 use Rattle.ldmodel_project.specs.ProjectState.{Listing, next_listing}
 use Rattle.ldmodel_project.specs.Listing.{keys_of}
 use Rattle.ldmodel_project.specs.Next.{next_entries}
 use Rattle.ldscript.specs.statements.declared.statement.Statement.{Statement}
 use Rattle.symres.specs.decisions.Counted.{CountsNames}
 use Rattle.relink.specs.Change.{place_at}
-use Rattle.relink.specs.Kept.{IsKept}
+use Rattle.relink.specs.KeptTables.{AreTablesOf}
 use Rattle.relink.specs.Matches.{exchanged}
 use Rattle.relink.proofs.Exchanged.{MayStand, Stands, added_within, exchanged_as, into_within, out_within}
 use Rattle.relink.proofs.Following.{coming_of, kept_after, kept_forgetting, keys_of_tables, may_stand, stands}
@@ -79,14 +79,14 @@ returns-clause-kept c =
     (place_at x.into) coming coming c.make_room.ensures.same.matches c.place_of-out.ensures c.place_of-into.ensures refl
     in
     let put : List Matches = exchanged ms (place_at x.out) (place_at x.into) coming in
-    subst (λ (l : List Matches). IsKept (next_listing h s) c.forget_if.new.symbol_table l) (sym items)
+    subst (λ (l : List Matches). AreTablesOf (next_listing h s) c.forget_if.new.symbol_table l) (sym items)
     (kept_forgetting (next_listing h s) c.change-order.new.self c.forget_if.new.symbol_table put
     c.forget_if.ensures.tables c.forget_if.ensures.kept
     (kept_after h s c.args.key.0 x c.args.self.now.symbol_table c.change-order.new.self ms coming
     c.requires.given.arranged c.requires.given.one c.requires.edited c.object_change-change.ensures
     c.requires.given.kept
     (c.change-order.ensures.objects ∙ ap (λ (ts : List Table). changed_tables ts x) c.make_room.ensures.same.objects)
-    (subst (λ (t : List Statement). AreKept t c.change-order.new.self.kept)
+    (subst (λ (t : List Statement). AreDecisionsOf t c.change-order.new.self.kept)
     (c.script-script.ensures ∙ ap (λ (l : Listing). l.script) c.next-next.ensures.next) c.change-order.ensures.kept)
     (coming_of h s c.args.key.0 c.next-next.result x coming c.next-next.ensures.next c.object_change-change.ensures.is
     c.in_ok-coming.ensures.room.coming)))

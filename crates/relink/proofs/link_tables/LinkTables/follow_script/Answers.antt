@@ -1,7 +1,7 @@
 use Rattle.std.proofs.Common.{◌∙◌, ℕ, List, ap, subst, sym}
 use Rattle.symres.specs.decisions.Counted.{CountsNames, declared_names}
 use Rattle.relink.specs.Change.{names_of_step}
-use Rattle.symres.specs.decisions.Decisions.{AreKept}
+use Rattle.symres.specs.decisions.Decisions.{AreDecisionsOf}
 use Rattle.ldmodel_project.specs.ProjectState.{Listing}
 use Rattle.ldscript.specs.statements.declared.statement.Statement.{Statement}
 use Rattle.relink.proofs.Following.{kept_renewed}
@@ -9,7 +9,7 @@ use Rattle.relink.proofs.link_tables.LinkTables.follow_script.Goals as goal
 
 pub returns-clause-kept : goal.returns-clause-kept
 returns-clause-kept c =
-    let names = subst (λ (t : List Statement). AreKept t c.redecide.new.self.kept)
+    let names = subst (λ (t : List Statement). AreDecisionsOf t c.redecide.new.self.kept)
     (c.script-2.ensures ∙ ap (λ (l : Listing). l.script) c.next-next.ensures.next) c.redecide.ensures.kept in
     kept_renewed c.args.project.now c.args.staged.now c.next-next.result c.script.result.now
     c.args.self.now.symbol_table c.redecide.new.self c.args.self.now.matches.items c.put_new-before.new.list.items

@@ -1,12 +1,12 @@
 use Rattle.std.proofs.Common.{subst}
-use Rattle.relink.specs.PreviousLink.{IsNamedAt, origin_of}
+use Rattle.relink.specs.PreviousLink.{IsNowhereButAt, origin_of}
 use Rattle.relink.proofs.Since.{none_of, of_one}
 use Rattle.relink.proofs.previous.PreviousLink.is_new.Goals as goal
 
 pub returns : goal.returns
 returns c = λ ok old same since.
     none_of old c.args.self.now.names.names c.args.named.now c.place_of_other-place.result same
-    (subst (λ n. IsNamedAt c.args.self.now.names.names n c.place_of_other-place.result) c.name.ensures
-    (c.is_named_at.ensures ok))
+    (subst (λ n. IsNowhereButAt c.args.self.now.names.names n c.place_of_other-place.result) c.name.ensures
+    (c.is_nowhere_but_at.ensures ok))
     (of_one old (origin_of c.args.self.now.origins.items) c.args.project.now.contents.entries c.args.named.now
     c.place_of_other-place.result c.place_of_other-place.ensures since)

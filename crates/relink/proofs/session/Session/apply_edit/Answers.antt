@@ -12,7 +12,7 @@ use Rattle.ldmodel_project.specs.declared.staged.Staged.{Staged}
 use Rattle.relink_driver.specs.RelinkOutcome.{HasPreviousImage}
 use Rattle.relink.specs.Outcome.{shown}
 use Rattle.relink.specs.Change.{names_of_edit}
-use Rattle.relink.specs.Kept.{IsKept}
+use Rattle.relink.specs.KeptTables.{AreTablesOf}
 use Rattle.relink.specs.PreviousLink.{HasUpdateOutcome, IsPreviousLink}
 use Rattle.relink.specs.Work.{HasWorked, IsWholeWork}
 use Rattle.relink.specs.declared.outcome.LinkOutcome.{LinkOutcome}
@@ -42,8 +42,8 @@ returns-then-is_unchanged-clause-counted c =
     (change_of c.args.edit) c.args.meter.now c.stage.new.meter is is small read
     (c.self.invariant.0 ∙ ap link c.self.view_is) kept
 
-pub update-requires : goal.update-requires
-update-requires c =
+pub update_and_link-requires : goal.update_and_link-requires
+update_and_link-requires c =
     let h : ProjectState = c.stage.new.self in
     let s : Staged = c.in_ok-staged.staged in
     let same = c.puts_same-same.result in
@@ -62,11 +62,11 @@ update-requires c =
       fits = c.in_ok-staged.ensures.staged.0;
       arranged = c.in_ok-staged.ensures.staged.2;
       one = c.in_ok-staged.ensures.staged.3;
-      kept = subst (λ (l : Listing). IsKept l c.self.inside.tables.symbol_table c.self.inside.tables.matches.items)
+      kept = subst (λ (l : Listing). AreTablesOf l c.self.inside.tables.symbol_table c.self.inside.tables.matches.items)
           (same_listing c.self.inside.project h c.stage.ensures.same) c.self.invariant.1;
       previous = subst (λ (x : Option PreviousState). IfSome x (HasPreviousImage (project_of next) bytes))
           (sym c.lend_previous.ensures.lent)
-          (last_lent h s same bytes a e given.edit previous e.known refl given.kept given.effect);
+          (last_lent h s same bytes a e given.edit previous e.puts_none refl given.kept given.effect);
     }
 
 pub invariant_of-self-in-Ok : goal.invariant_of-self-in-Ok
@@ -87,12 +87,12 @@ invariant_of-self-in-Ok c =
     let next : Listing = next_listing h s in
     let answers : shown bytes a ≡ link (held h) =
     c.self.invariant.0 ∙ ap link (sym (same_held c.self.inside.project h c.stage.ensures.same)) in
-    let updated = subst (λ (x : Option PreviousState). HasUpdateOutcome next x bytes c.update.new.canvas.bytes
+    let updated = subst (λ (x : Option PreviousState). HasUpdateOutcome next x bytes c.update_and_link.new.canvas.bytes
     c.in-Ok.updated) c.lend_previous.ensures.lent c.in-Ok.ensures.updated.link in
-    ended_after h s same bytes c.update.new.canvas.bytes a c.record_outcome.new.outcome e previous
+    ended_after h s same bytes c.update_and_link.new.canvas.bytes a c.record_outcome.new.outcome e previous
     c.record_outcome.new.previous
-    c.in-Ok.updated c.commit.new.self c.update.new.self.symbol_table
-    c.update.new.self.matches.items given answers updated c.record_outcome.ensures
+    c.in-Ok.updated c.commit.new.self c.update_and_link.new.self.symbol_table
+    c.update_and_link.new.self.matches.items given answers updated c.record_outcome.ensures
     c.in-Ok.ensures.updated.kept
     c.commit.ensures.next
 
@@ -120,23 +120,26 @@ returns-in-Ok-clause-counted c =
     c.in_ok-staged.ensures.named stable in
     let small = c.counts_fit.ensures in
     let read = objects_of_edit change c.args.meter.now c.stage.new.meter small.objects c.in_ok-staged.ensures.read in
-    let exact = decided_from (held h) change (project_of next) c.args.meter.now c.stage.new.meter c.update.new.meter
+    let exact = decided_from (held h) change
+    (project_of next) c.args.meter.now c.stage.new.meter c.update_and_link.new.meter
     (names_of_edit h.contents.entries s.objects) read c.in-Ok.ensures.updated.decides edited in
-    let reading = is_work (held h) change (project_of next) c.args.meter.now c.stage.new.meter c.update.new.meter
+    let reading = is_work (held h) change
+    (project_of next) c.args.meter.now c.stage.new.meter c.update_and_link.new.meter
     (names_of_edit h.contents.entries s.objects) small read c.in-Ok.ensures.updated.decides exact
     c.distinct_more.ensures in
     let answers : shown bytes a ≡ link (held h) =
     c.self.invariant.0 ∙ ap link (sym (same_held c.self.inside.project h c.stage.ensures.same)) in
-    let worked = subst (λ (x : Option PreviousState). HasWorked (project_of next) x c.stage.new.meter c.update.new.meter
+    let worked = subst (λ (x : Option PreviousState). HasWorked
+    (project_of next) x c.stage.new.meter c.update_and_link.new.meter
     c.in-Ok.updated) c.lend_previous.ensures.lent c.in-Ok.ensures.updated.worked in
-    let updated = subst (λ (x : Option PreviousState). HasUpdateOutcome next x bytes c.update.new.canvas.bytes
+    let updated = subst (λ (x : Option PreviousState). HasUpdateOutcome next x bytes c.update_and_link.new.canvas.bytes
     c.in-Ok.updated) c.lend_previous.ensures.lent c.in-Ok.ensures.updated.link in
-    let work : IsWholeWork (held h) change (project_of next) c.args.meter.now c.update.new.meter =
-    whole_work h s same bytes c.update.new.canvas.bytes a e previous c.in-Ok.updated change
-    c.args.meter.now c.stage.new.meter c.update.new.meter given answers updated worked small read
+    let work : IsWholeWork (held h) change (project_of next) c.args.meter.now c.update_and_link.new.meter =
+    whole_work h s same bytes c.update_and_link.new.canvas.bytes a e previous c.in-Ok.updated change
+    c.args.meter.now c.stage.new.meter c.update_and_link.new.meter given answers updated worked small read
     c.in-Ok.ensures.updated.decides.objects exact
     (leaves_script h change s c.in_ok-staged.ensures.staged.3 c.in_ok-staged.ensures.named) reading in
     subst (λ (p : Project). IsWholeWork p change (held c.commit.new.self) c.args.meter.now
-    c.update.new.meter) (same_held c.self.inside.project h c.stage.ensures.same ∙ c.self.view_is)
-    (subst (λ (l : Listing). IsWholeWork (held h) change (project_of l) c.args.meter.now c.update.new.meter)
+    c.update_and_link.new.meter) (same_held c.self.inside.project h c.stage.ensures.same ∙ c.self.view_is)
+    (subst (λ (l : Listing). IsWholeWork (held h) change (project_of l) c.args.meter.now c.update_and_link.new.meter)
     (sym c.commit.ensures.next) work)

@@ -2,7 +2,7 @@ use Rattle.std.proofs.Common.{◌∙◌, ap, arith, length, sym}
 use Rattle.std.specs.Prelude.{is_some}
 use Rattle.std.proofs.lemmas.List.{get_or_past}
 use Rattle.place.specs.IndexedLayout.{table_key}
-use Rattle.relink_driver.specs.PreviousLink.{kept_range, previous_of}
+use Rattle.relink_driver.specs.PreviousLink.{stayed_range, previous_of}
 use Rattle.relink_driver.specs.StayedColumn.{flag_of, no_flags}
 use Rattle.relink_driver.proofs.Columns.{empty_column}
 use Rattle.relink_driver.proofs.Still.{no_row_is_still}
@@ -16,8 +16,8 @@ returns-in-None-clause-flags c = λ object number.
     ap (λ r. flag_of flags r number.0) (get_or_past c.new.result.items object.0 no_flags
     (omega (arith, ap length c.new.ensures.items)))
     ∙ empty_column t key flags number.0
-    ∙ ap (λ m. is_some (kept_range m t key)) (sym (ap previous_of c.in-None.is))
+    ∙ ap (λ m. is_some (stayed_range m t key)) (sym (ap previous_of c.in-None.is))
 
-pub returns-in-None-clause-still : goal.returns-in-None-clause-still
-returns-in-None-clause-still c = λ object so number.
+pub returns-in-None-clause-all_stayed : goal.returns-in-None-clause-all_stayed
+returns-in-None-clause-all_stayed c = λ object so number.
     absurd (no_row_is_still c.new-in-None-2.result.items object.0 c.new-in-None-2.ensures.items so)

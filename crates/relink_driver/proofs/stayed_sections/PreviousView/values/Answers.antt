@@ -6,4 +6,4 @@ use Rattle.relink_driver.proofs.stayed_sections.PreviousView.values.Goals as goa
 pub returns-in-Some : goal.returns-in-Some
 returns-in-Some c = λ p layout from o at worth stands many.
     let same = same_Some c.in-Some.place from (sym c.in-Some.is ∙ (c.place.ensures ∙ at)) in
-    c.row.ensures.values p layout o worth (ap (slice_get p.objects) same ∙ stands) many
+    c.slice.ensures.values p layout o worth (ap (slice_get p.objects) same ∙ stands) many

@@ -7,8 +7,8 @@ use Rattle.relink_driver.proofs.Columns.{not_found, range_found}
 use Rattle.relink_driver.proofs.Ranges.{if_known, sound}
 use Rattle.relink_driver.proofs.stayed_sections.StayedSectionsPreviousLinkInfo.stayed.Goals as goal
 
-pub returns-then-not-is_known-clause-range : goal.returns-then-not-is_known-clause-range
-returns-then-not-is_known-clause-range c = not_found _ (sym c.is_known.ensures ∙ c.if-not-is_known.true)
+pub returns-then-not-find_stayed-clause-range : goal.returns-then-not-find_stayed-clause-range
+returns-then-not-find_stayed-clause-range c = not_found _ (sym c.find_stayed.ensures ∙ c.if-not-find_stayed.true)
 
 pub returns-in_err-now-clause-range : goal.returns-in_err-now-clause-range
 returns-in_err-now-clause-range c =
@@ -16,7 +16,7 @@ returns-in_err-now-clause-range c =
     c.from_residual.ensures
     ∙ ap (option_and_then (range_at s.indexed_layout.now.link_layout)) c.in_err-now.ensures.is
     ∙ range_found (previous_of s.previous) s.indexed_layout.now c.args.section
-    (sym c.is_known.ensures ∙ c.if-not-is_known.false)
+    (sym c.find_stayed.ensures ∙ c.if-not-find_stayed.false)
 
 pub returns-clause-range : goal.returns-clause-range
 returns-clause-range c =
@@ -24,7 +24,7 @@ returns-clause-range c =
     c.range_at.ensures
     ∙ ap (option_and_then (range_at s.indexed_layout.now.link_layout)) c.in_ok-now.ensures.is
     ∙ range_found (previous_of s.previous) s.indexed_layout.now c.args.section
-    (sym c.is_known.ensures ∙ c.if-not-is_known.false)
+    (sym c.find_stayed.ensures ∙ c.if-not-find_stayed.false)
 
 pub returns-clause-stayed : goal.returns-clause-stayed
 returns-clause-stayed c = λ old l h.

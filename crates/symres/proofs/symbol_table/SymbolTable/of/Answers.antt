@@ -3,7 +3,7 @@ use Rattle.ldscript.specs.statements.declared.statement.Statement.{Statement}
 use Rattle.ldmodel.specs.Names.{symbol_tables}
 use Rattle.ldmodel_project.specs.Inputs.{shown_inputs}
 use Rattle.ldmodel_project.specs.Listing.{AreKeysDistinct}
-use Rattle.symres_decisions.specs.Decisions.{AreKept}
+use Rattle.symres_decisions.specs.Decisions.{AreDecisionsOf}
 use Rattle.symres_decisions.specs.Keyed.{tables_of}
 use Rattle.symres_decisions.specs.declared.keyed_object.KeyedObject.{KeyedObject}
 use Rattle.symres.specs.Entered as entered
@@ -32,6 +32,7 @@ returns-clause-symbol_table c =
     let d = c.in_ok-decisions.decisions in
     let tables : d.names.objects ≡ entered.tables_of c.args.inputs.now =
     c.in_ok-decisions.ensures.objects ∙ ap tables_of c.deref-3.ensures.value ∙ c.in_ok-objects.ensures.tables in
-    c.names_kept.ensures p (subst (λ (st : List Statement). AreKept st d) (sym same) c.in_ok-decisions.ensures.kept)
+    c.names_kept.ensures p (subst (λ (st : List Statement). AreDecisionsOf st d)
+    (sym same) c.in_ok-decisions.ensures.kept)
     (ap symbol_tables objects ∙ sym (seconds 0 (symbol_tables (shown_inputs c.args.inputs.now)))
     ∙ sym (ap (map (λ (t : Table). t.1)) tables))

@@ -5,7 +5,7 @@ use Rattle.std.specs.Vec.{vec_capacity}
 use Rattle.std.proofs.lemmas.List.{drop_all, length-map, take-append-drop}
 use Rattle.symres_table.specs.declared.symbol.Declared.{Declared}
 use Rattle.symres_table.specs.Numbers.{Entered, IsTable, HasRow}
-use Rattle.symres_table.specs.Objects.{ObjectsState, IsKept}
+use Rattle.symres_table.specs.Objects.{ObjectsState, IsObjectTable}
 use Rattle.symres_table.proofs.Placing.{split_at, kept_after, rooms, places_fit, written}
 use Rattle.symres_table.proofs.objects.Objects.enter.Goals as goal
 
@@ -28,7 +28,7 @@ invariant_of-self c =
     let a = c.self.inside in
     let os = a.order.items in
     let v = c.self.view_is in
-    let k : IsKept os a.rows.items a.places.items = c.self.invariant in
+    let k : IsObjectTable os a.rows.items a.places.items = c.self.invariant in
     let new : Entered =
     record { key = c.args.key.0; symbols = c.args.symbols.items; room = vec_capacity c.args.symbols } in
     let at : c.args.at ≤ length os = rw (← v) at c.requires.at in

@@ -4,7 +4,7 @@ use Rattle.std.specs.Vec.{vec_capacity}
 use Rattle.std.proofs.lemmas.List.{length-map}
 use Rattle.symres_table.specs.declared.symbol.Declared.{Declared}
 use Rattle.symres_table.specs.Numbers.{HasRow}
-use Rattle.symres_table.specs.Objects.{ObjectsState, IsKept}
+use Rattle.symres_table.specs.Objects.{ObjectsState, IsObjectTable}
 use Rattle.symres_table.proofs.Growing.{kept_grown, room_grown, all_ok, can_enter}
 use Rattle.symres_table.proofs.objects.Objects.reserve.Goals as goal
 
@@ -27,7 +27,7 @@ returns-clause-ok c =
       length-map a.rows.items (λ (v : Vec Declared Global). vec_capacity v),
       e.rows.long,
     ) in
-    let kept : IsKept a.order.items rows' a.places.items =
+    let kept : IsObjectTable a.order.items rows' a.places.items =
     kept_grown a.order.items a.rows.items rows' a.places.items c.self.invariant e.rows in
     all_ok c.reserve_fields.result e.room e.order_room e.place_room (λ h o p.
     rw e.order (can_enter a.order.items rows' a.places.items _ _ c.args.symbols.now kept (λ v. omega (arith, v.ok.0)) h

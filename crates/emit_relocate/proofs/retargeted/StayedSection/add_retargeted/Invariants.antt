@@ -1,0 +1,15 @@
+use Rattle.std.proofs.Common.{take}
+use Rattle.ldmodel.specs.Stayed.{GoodLink}
+use Rattle.emit_relocate.specs.Changes.{AreRetargetedFiled}
+use Rattle.emit_relocate.specs.Filled.{ObjectSection}
+use Rattle.emit_relocate.specs.KnownLink.{KnownLink}
+use Rattle.emit_relocate.specs.Links.{IsStayedAt, sites_at_hand}
+use Rattle.emit_relocate.proofs.retargeted.StayedSection.add_retargeted.Given as goal
+
+abbrev pub invariant-loop-entry : goal.invariant-loop-entry
+invariant-loop-entry l =
+    (old : GoodLink) (k : KnownLink) (s : ObjectSection)
+    → IsStayedAt l.self old k s
+    → AreRetargetedFiled old k l.self.range
+    (sites_at_hand l.self.section s (take l.entry l.self.section.relocations.now))
+    l.initial.patches.items l.patches.items l.initial.faults.items l.faults.items l.initial.meter l.meter

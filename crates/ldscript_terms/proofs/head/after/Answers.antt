@@ -1,4 +1,0 @@
-use Rattle.ldscript_terms.proofs.head.after.Goals as goal
-
-pub returns-in_err-mark : goal.returns-in_err-mark
-returns-in_err-mark c = rw c.from_residual.ensures (λ rest b. c.in_err-mark.ensures c.args.wanted rest b)

@@ -1,8 +1,0 @@
-use Rattle.std.proofs.Common.{rules}
-use Rattle.ldscript_terms.proofs.head.binary_ahead.Goals as goal
-
-pub returns-in_err-mark : goal.returns-in_err-mark
-returns-in_err-mark c = rw c.from_residual.ensures (λ op rest b. c.in_err-mark.ensures b.mark rest b.begins)
-
-pub returns-in_err-operator : goal.returns-in_err-operator
-returns-in_err-operator c = rw c.from_residual-in_err-operator.ensures (search rules)
