@@ -86,7 +86,7 @@ pub struct RelocationRule {
     pub name: &'static str,
     /// The bytes of its field.
     pub width: u8,
-    /// The least and the greatest value that fits, where not every value does.
+    /// The least and the greatest value that fits, if not every value does.
     pub range: Option<(i64, i64)>,
     /// Whether it counts from the place of its field.
     pub is_pc_relative: bool,
@@ -107,9 +107,9 @@ pub enum Word {
     Number,
     /// A number of 16 hexadecimal digits.
     Hex,
-    /// All that follows.
+    /// All that follows in the line.
     Text,
-    /// Itself.
+    /// This word itself.
     Literal(&'static str),
 }
 
