@@ -14,8 +14,9 @@ const INDENT: &str = "  ";
 /// The text of `--help`.
 pub fn help() -> String {
     let part = |heading: &str, belongs: fn(&Effect) -> bool| {
-        let written: Vec<String> = OPTIONS.iter().filter(|row| belongs(&row.effect)).map(written).collect();
-        format!("\n{heading}\n{}\n", wrapped(&written.join("; ")))
+        let names_and_value: Vec<String> =
+            OPTIONS.iter().filter(|row| belongs(&row.effect)).map(names_and_value).collect();
+        format!("\n{heading}\n{}\n", wrapped(&names_and_value.join("; ")))
     };
     [
         BEGIN.to_owned(),
@@ -29,7 +30,7 @@ pub fn help() -> String {
 }
 
 /// An option's names with their dashes, and its value.
-fn written(row: &OptionRow) -> String {
+fn names_and_value(row: &OptionRow) -> String {
     let value = match row.argument {
         Argument::Absent => "",
         Argument::Needed => " VALUE",

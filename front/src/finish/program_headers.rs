@@ -313,7 +313,7 @@ impl Writer<'_> {
     fn write(&mut self) -> Result<(), NotWritten> {
         let mut written = Vec::with_capacity(self.entries.len());
         for entry in &self.entries {
-            let mut segment = self.written(entry);
+            let mut segment = self.segment_of(entry);
             let mut align = entry.align;
             if entry.is_load() && entry.wants_headers() {
                 self.put_headers_in(entry, &mut segment)?;
@@ -333,7 +333,7 @@ impl Writer<'_> {
     }
 
     /// A program header by its sections alone.
-    fn written(&self, entry: &Entry<'_>) -> Segment {
+    fn segment_of(&self, entry: &Entry<'_>) -> Segment {
         let mut segment = Segment { kind: entry.wanted.kind, flags: self.rights(entry), ..Segment::default() };
         let parts = || entry.parts.iter().filter_map(|at| self.part(*at));
         if let Some(first) = parts().next() {

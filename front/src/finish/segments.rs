@@ -323,7 +323,7 @@ impl<'a> Writer<'a> {
     }
 
     /// A program header that is no PT_LOAD, after these have their places.
-    fn other(&self, made: &MadeSegment) -> Result<Segment, NotWritten> {
+    fn other_segment(&self, made: &MadeSegment) -> Result<Segment, NotWritten> {
         let flags = |sections: &[usize]| self.sections(sections).fold(0, |flags, one| flags | one.rights());
         let flags = made.flags.unwrap_or_else(|| flags(&made.sections));
         let mut segment = Segment { kind: made.kind, flags, align: made.align, ..Segment::default() };
@@ -398,7 +398,8 @@ impl<'a> Writer<'a> {
 
     /// The program headers in their order.
     fn segments(&self) -> Result<Vec<Segment>, NotWritten> {
-        let others = |made: &[MadeSegment]| made.iter().map(|one| self.other(one)).collect::<Result<Vec<_>, _>>();
+        let others =
+            |made: &[MadeSegment]| made.iter().map(|one| self.other_segment(one)).collect::<Result<Vec<_>, _>>();
         let mut all = others(&self.made.before)?;
         all.extend(&self.written);
         all.extend(others(&self.made.after)?);

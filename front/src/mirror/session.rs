@@ -353,7 +353,7 @@ impl Session {
         let mut answers = Vec::with_capacity(edits.len());
         while answers.len() < edits.len() {
             match self.read.take_line() {
-                Some(line) => answers.push(edited(&line)?),
+                Some(line) => answers.push(edit_answer(&line)?),
                 None => self.step(&mut out)?,
             }
         }
@@ -367,7 +367,7 @@ impl Session {
 
     /// Has the session link what was accepted since its last link; gives why it does not, which is memory.
     pub fn link(&mut self) -> Result<Result<Linked, Refusal>, SessionError> {
-        linked(&self.exchange(b"link\n")?)
+        link_answer(&self.exchange(b"link\n")?)
     }
 
     /// Sends a query, and gives all bytes of the answer.
@@ -510,7 +510,7 @@ impl Session {
 
     /// Sends a query; gives the length of what follows.
     fn ask(&mut self, query: Query) -> Result<usize, SessionError> {
-        asked(&self.exchange(query.line())?)
+        answer_length(&self.exchange(query.line())?)
     }
 
     /// Sends a line; gives the line that answers it.
@@ -624,7 +624,7 @@ fn no_answer(line: &[u8]) -> SessionError {
 }
 
 /// The answer to an edit.
-fn edited(line: &[u8]) -> Result<Answer, SessionError> {
+fn edit_answer(line: &[u8]) -> Result<Answer, SessionError> {
     let read = || match words(line)?.as_slice() {
         ["accepted"] => Some(Answer::Accepted),
         words => refused(words).map(Answer::Refused),
@@ -633,7 +633,7 @@ fn edited(line: &[u8]) -> Result<Answer, SessionError> {
 }
 
 /// The answer to `link`.
-fn linked(line: &[u8]) -> Result<Result<Linked, Refusal>, SessionError> {
+fn link_answer(line: &[u8]) -> Result<Result<Linked, Refusal>, SessionError> {
     let read = || match words(line)?.as_slice() {
         ["linked", status, length] => {
             Some(Ok(Linked { is_good: status.parse::<u32>().ok()? == 0, length: length.parse().ok()? }))
@@ -651,7 +651,7 @@ fn refused(words: &[&str]) -> Option<Refusal> {
 }
 
 /// How many bytes follow the answer to a query.
-fn asked(line: &[u8]) -> Result<usize, SessionError> {
+fn answer_length(line: &[u8]) -> Result<usize, SessionError> {
     let read = || match words(line)?.as_slice() {
         ["bytes", length] => length.parse().ok(),
         _ => None,

@@ -29,11 +29,11 @@ pub fn with_wraps(data: Bytes, wraps: &[BString]) -> Bytes {
     if wraps.is_empty() {
         return data;
     }
-    let changed = Headers::of(&data).and_then(|headers| changed(headers, &data, wraps));
+    let changed = Headers::of(&data).and_then(|headers| with_names_wrapped(headers, &data, wraps));
     changed.unwrap_or(data)
 }
 
-fn changed(headers: Headers<'_>, data: &Bytes, wraps: &[BString]) -> Option<Bytes> {
+fn with_names_wrapped(headers: Headers<'_>, data: &Bytes, wraps: &[BString]) -> Option<Bytes> {
     let (_, table) = headers.iter().find(|(_, header)| header.sh_type.get(Little) == elf::SHT_SYMTAB)?;
     let number = SectionIndex(table.sh_link.get(Little));
     let texts = headers.contents(headers.get(number)?).1;

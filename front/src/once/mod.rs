@@ -47,14 +47,14 @@ fn by_itself(words: &[OsString], environment: &Environment) -> u8 {
     let mut mirror = Mirror::new(find_program("ldi", environment), None);
     let asked = Asked { words, environment, is_verbose: false };
     let mut snapshot = Snapshot::new();
-    let Done(status, planned) = said(run(asked, &mut snapshot, &mut mirror, &Alone));
+    let Done(status, planned) = report_end(run(asked, &mut snapshot, &mut mirror, &Alone));
     // The process ends, by which its memory is given back at once.
     std::mem::forget((planned, snapshot));
     status as u8
 }
 
 /// Says why a link ended, if it did; gives its status, and the plan that it went by.
-pub(crate) fn said(done: Result<Done, LinkFault>) -> Done {
+pub(crate) fn report_end(done: Result<Done, LinkFault>) -> Done {
     match done {
         Ok(done) => done,
         Err(fault) => {

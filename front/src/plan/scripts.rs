@@ -193,14 +193,14 @@ fn default_text(command: &Command, environment: &Environment) -> (&'static str, 
         false => others("ld.bfd".as_ref(), environment),
     };
     let [of_gnu, own] = DEFAULT_NAMES;
-    match programs.iter().find_map(|program| asked(program, command, environment)) {
+    match programs.iter().find_map(|program| ask_linker(program, command, environment)) {
         Some(text) => (of_gnu, text),
         None => (own, own_default(command)),
     }
 }
 
 /// The default script as a linker prints it.
-fn asked(program: &Path, command: &Command, environment: &Environment) -> Option<Vec<u8>> {
+fn ask_linker(program: &Path, command: &Command, environment: &Environment) -> Option<Vec<u8>> {
     let mut process = Process::new(program);
     process.args(["-m", "elf_x86_64", "-static"]).args(command.is_nmagic.then_some("-n"));
     process.args(command.is_omagic.then_some("-N")).args(keywords(command)).arg("--verbose");

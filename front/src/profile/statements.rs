@@ -42,15 +42,15 @@ impl Check<'_> {
             Statement::Assign(assignment) => self.assignment(assignment, Home::Top, at),
             Statement::Assert(assertion) => self.assertion(assertion, at),
             Statement::Sections(statements) => {
-                self.once("SECTIONS", at);
+                self.refuse_second("SECTIONS", at);
                 statements.iter().for_each(|one| self.sections_statement(&one.node, one.span));
             }
             Statement::Memory(regions) => {
-                self.once("MEMORY", at);
+                self.refuse_second("MEMORY", at);
                 regions.iter().for_each(|region| self.memory_region(&region.node, region.span));
             }
             Statement::Entry(name) => {
-                self.once("ENTRY", at);
+                self.refuse_second("ENTRY", at);
                 self.name(name, at);
             }
             other => {
@@ -60,7 +60,8 @@ impl Check<'_> {
         }
     }
 
-    fn once(&mut self, command: &'static str, at: Span) {
+    /// Refuses a command that stands in the script twice.
+    fn refuse_second(&mut self, command: &'static str, at: Span) {
         if !self.commands.insert(command) {
             self.object(Cause::Repeated, at, format!("{command} stands in the script twice: write one"));
         }

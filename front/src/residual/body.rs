@@ -2,7 +2,7 @@
 
 use bstr::ByteSlice;
 
-use super::expression::{binary, difference, has_dot_or_align, number, unplaced, uses_dot, written};
+use super::expression::{binary, difference, has_dot_or_align, number, number_text, unplaced, uses_dot};
 use super::head::{aligned, has_bytes, is_linked};
 use super::note::{NoteKind, Topic};
 use super::relative::Inside;
@@ -89,7 +89,7 @@ impl<'a> Walk<'a> {
         }
         self.inside = None;
         let close = section.body.span.end.saturating_sub(1);
-        self.rest(body, close);
+        self.orphans_of_name(body, close);
         self.bounds(body, close);
         if let Some(place) = body.place {
             if place.size > body.at && !place.is_gone && !body.is_off {
@@ -148,8 +148,8 @@ impl<'a> Walk<'a> {
         })
     }
 
-    /// Input sections that no statement of the section takes: GNU ld puts orphans of its name there.
-    fn rest(&mut self, body: &mut Body<'a>, close: u32) {
+    /// Writes input sections that no statement of the section takes: GNU ld puts orphans of its name there.
+    fn orphans_of_name(&mut self, body: &mut Body<'a>, close: u32) {
         let (evaluation, place) = match (self.request.evaluation, body.place) {
             (Some(evaluation), Some(place)) if self.request.places_orphans => (evaluation, place),
             _ => return,
@@ -245,7 +245,7 @@ impl<'a> Walk<'a> {
                 body.has_bytes = true;
                 data_of(&filled(fill, size))
             }
-            _ => format!(". = {};", written(to)),
+            _ => format!(". = {};", number_text(to)),
         }
     }
 
@@ -506,7 +506,7 @@ impl<'a> Walk<'a> {
         let place = self.value_of(&counted, at).map(|value| value.wrapping_sub(body.start));
         // What GNU ld takes out of the image is elsewhere, and has no bytes wherever it is.
         let to = place.filter(|place| is_gone || Some(*place) == to)?;
-        if !super::expression::is_short(&self.written(&counted)) {
+        if !super::expression::is_short(&self.expr_text(&counted)) {
             return None;
         }
         if !self.is_number(e, at) {
@@ -514,11 +514,11 @@ impl<'a> Walk<'a> {
                 return Some((". += 0;".into(), settled(number(0), None)));
             }
             if let Some(step) = added(&counted) {
-                return Some((format!(". += {};", self.written(&step)), settled(step, None)));
+                return Some((format!(". += {};", self.expr_text(&step)), settled(step, None)));
             }
             if let ExprKind::Call(Function::Align, arguments) = &counted.kind {
                 if arguments.len() == 1 && arguments.iter().all(|align| !uses_dot(align)) {
-                    return Some((format!(". = {};", self.written(&counted)), settled(counted, None)));
+                    return Some((format!(". = {};", self.expr_text(&counted)), settled(counted, None)));
                 }
             }
         }
@@ -526,15 +526,15 @@ impl<'a> Walk<'a> {
         if !has_dot_or_align(&distance) {
             let why = Some(counts).filter(|_| !self.is_number(e, at));
             let distance = if self.is_number(e, at) { self.in_hand(e, at)? } else { distance };
-            return Some((format!(". = {};", self.written(&distance)), settled(distance, why)));
+            return Some((format!(". = {};", self.expr_text(&distance)), settled(distance, why)));
         }
         let line = self.request.source.place(at.at).line;
         let name = self.versions.fresh(&format!("ldi.next.{line}"));
-        self.edits.insert(at.at, 30, format!("{name} = {}; ", self.written(&counted)));
+        self.edits.insert(at.at, 30, format!("{name} = {}; ", self.expr_text(&counted)));
         self.symbols.insert(name.clone(), body.start.wrapping_add(to));
         let e = difference(unplaced(ExprKind::Symbol(name)), start.clone());
         let why = "through a symbol, as `. = e` has neither `.` nor ALIGN in a section";
-        Some((format!(". = {};", self.written(&e)), settled(e, Some(why.into()))))
+        Some((format!(". = {};", self.expr_text(&e)), settled(e, Some(why.into()))))
     }
 
     /// The form of an assignment to `.` in an output section; `None` if it does not move.
@@ -555,7 +555,7 @@ impl<'a> Walk<'a> {
         if let Some(step) = added(&own) {
             let value = self.value_of(&step, at).map(|step| body.at.wrapping_add(step));
             if lands(self, value) {
-                let text = format!(". += {};", self.written(&step));
+                let text = format!(". += {};", self.expr_text(&step));
                 return Some((text, Settled { e: step, reasons }));
             }
         }
@@ -563,7 +563,7 @@ impl<'a> Walk<'a> {
             if let [align] = arguments.as_slice() {
                 let value = self.value_of(&own, at).map(|value| value.wrapping_sub(body.start));
                 if !uses_dot(align) && lands(self, value) {
-                    return Some((format!(". = {};", self.written(&own)), Settled { e: own, reasons }));
+                    return Some((format!(". = {};", self.expr_text(&own)), Settled { e: own, reasons }));
                 }
             }
         }
@@ -573,18 +573,18 @@ impl<'a> Walk<'a> {
             for (form, why) in [(own.clone(), None), (distance, Some(why))] {
                 if lands(self, self.value_of(&form, at)) {
                     reasons.said.extend(why);
-                    return Some((format!(". = {};", self.written(&form)), Settled { e: form, reasons }));
+                    return Some((format!(". = {};", self.expr_text(&form)), Settled { e: form, reasons }));
                 }
             }
         }
         if self.is_without_objects() && !self.is_known(e) {
             reasons.depends = true;
-            return Some((format!(". = {};", self.written(&own)), Settled { e: own, reasons }));
+            return Some((format!(". = {};", self.expr_text(&own)), Settled { e: own, reasons }));
         }
         let to = to.filter(|to| *to != body.at)?;
         let mut reasons = Reasons { is_numeric: true, ..Reasons::default() };
         reasons.say("as the place that GNU ld finds, from the section's start");
-        Some((format!(". = {};", written(to)), Settled { e: number(to), reasons }))
+        Some((format!(". = {};", number_text(to)), Settled { e: number(to), reasons }))
     }
 
     fn hoist_of(&mut self, reasons: &mut Reasons, at: At) {
@@ -635,7 +635,7 @@ impl<'a> Walk<'a> {
         let mut settled = self.settle(e, at, needed);
         self.set_absolute(false);
         if width == DataWidth::SignedQuad {
-            let new = format!("{word}({})", self.written(&settled.e));
+            let new = format!("{word}({})", self.expr_text(&settled.e));
             self.edits.replace(self.text, span, new);
             settled.reasons.say("SQUAD is QUAD");
         } else {

@@ -40,7 +40,7 @@ impl Edits {
     /// Puts another text in place of a span; comments and line ends of the span stay after it.
     pub(super) fn replace(&mut self, text: &[u8], span: Span, new: impl Into<Vec<u8>>) {
         let mut new = new.into();
-        let rest = kept(text.get(span.start as usize..span.end as usize).unwrap_or_default());
+        let rest = comments_and_line_ends(text.get(span.start as usize..span.end as usize).unwrap_or_default());
         if !new.is_empty() && rest.starts_with(b"/") {
             new.push(b' ');
         }
@@ -93,7 +93,7 @@ impl Edits {
             text: Vec::with_capacity(text.len()),
             origins: vec![0],
         };
-        rendering.all();
+        rendering.write_all();
         Rendered { text: rendering.text, origins: rendering.origins }
     }
 }
@@ -114,7 +114,7 @@ fn line_ends(text: &[u8], span: Span) -> Vec<u8> {
 }
 
 /// What stays of a text that is taken out: its comments and its line ends.
-fn kept(text: &[u8]) -> Vec<u8> {
+fn comments_and_line_ends(text: &[u8]) -> Vec<u8> {
     let mut kept = Vec::new();
     let mut rest = text;
     while let Some((byte, after)) = rest.split_first() {
@@ -159,8 +159,8 @@ struct Rendering<'a> {
 }
 
 impl Rendering<'_> {
-    /// The old text with its changes; of what stands elsewhere the line ends alone.
-    fn all(&mut self) {
+    /// Writes the old text with its changes; of what stands elsewhere the line ends alone.
+    fn write_all(&mut self) {
         let (edits, old) = (self.edits, self.old);
         let end = u32::try_from(old.len()).unwrap_or(u32::MAX);
         let is_here = |span: Span| !edits.moved.iter().any(|moved| contains(*moved, span));
@@ -192,7 +192,7 @@ impl Rendering<'_> {
             if span.start < done {
                 continue;
             }
-            done = self.own(done, span.start);
+            done = self.write_old(done, span.start);
             // What is put in place of nothing stands before what is inserted there.
             if change.is_hole {
                 self.inserts_of(span.start, true);
@@ -202,11 +202,11 @@ impl Rendering<'_> {
             self.put(&change.new, span.start, false);
             done = done.max(span.end);
         }
-        self.own(done, to);
+        self.write_old(done, to);
     }
 
-    /// The old text between two offsets, with what is inserted before the bytes of it; gives the second offset.
-    fn own(&mut self, from: u32, to: u32) -> u32 {
+    /// Writes the old text between two offsets, with what is inserted before its bytes; gives the second offset.
+    fn write_old(&mut self, from: u32, to: u32) -> u32 {
         let places: Vec<u32> = match from < to {
             true => self.edits.inserted.range(from..to).map(|(at, _)| *at).collect(),
             false => Vec::new(),

@@ -303,11 +303,11 @@ fn spelled(value: u64, span: Span, text: &[u8]) -> String {
     if number_of(own) == Some(value) {
         return own.to_str_lossy().into_owned();
     }
-    written(value)
+    number_text(value)
 }
 
 /// A number: decimal if that is short, else hexadecimal.
-pub(super) fn written(value: u64) -> String {
+pub(super) fn number_text(value: u64) -> String {
     if value < 4096 {
         value.to_string()
     } else {

@@ -312,7 +312,7 @@ impl<'a> Walk<'a> {
     fn text_of(&self, old: &Expr, settled: &Settled) -> String {
         match says(self.slice(old.span), &settled.e, self.text) {
             true => self.slice(old.span).to_str_lossy().into_owned(),
-            false => self.written(&settled.e),
+            false => self.expr_text(&settled.e),
         }
     }
 
@@ -451,7 +451,7 @@ impl<'a> Walk<'a> {
             None => binary(BinaryOperator::Subtract, start, number(head.start - needed)),
         };
         let e = if self.value_of(&e, at) == Some(needed) { e } else { number(needed) };
-        head.load = Some(self.written(&e));
+        head.load = Some(self.expr_text(&e));
         self.result.has_moving_values = true;
         needed
     }
@@ -494,7 +494,7 @@ impl<'a> Walk<'a> {
         self.edits.insert(at.at, 2, format!("{helper} : {{ }} >{load_region} "));
         let place = format!("ADDR({helper})");
         head.load = Some(match &section.align {
-            Some(e) => format!("ALIGN({place}, {})", self.written(e)),
+            Some(e) => format!("ALIGN({place}, {})", self.expr_text(e)),
             None => place,
         });
         head.load_region = None;
@@ -536,7 +536,7 @@ impl<'a> Walk<'a> {
             }
         };
         let region = head.region.as_ref().map_or_else(String::new, |region| format!(" >{region}"));
-        let load = self.written(&binary(BinaryOperator::Subtract, start, settled.e.clone()));
+        let load = self.expr_text(&binary(BinaryOperator::Subtract, start, settled.e.clone()));
         self.edits.insert(at.at, 2, format!("{front}{helper} : AT({load}) {{ }}{region} "));
         settled.reasons.said.clear();
         settled
@@ -711,7 +711,7 @@ impl<'a> Walk<'a> {
         };
         let at = At { at: span.start, is_assert: false, dot: Some(self.dot) };
         let settled = self.settle(&whole_value(assignment), at, needed);
-        let text = format!("{} = {}; ", version.emitted, self.written(&settled.e));
+        let text = format!("{} = {}; ", version.emitted, self.expr_text(&settled.e));
         self.edits.insert(before, 10, text);
         self.note_reasons(&settled.reasons);
         if let Some(value) = needed.or_else(|| self.value_of(&settled.e, at)) {

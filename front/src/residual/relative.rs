@@ -67,14 +67,14 @@ struct Counting<'w, 'a> {
 
 impl Counting<'_, '_> {
     /// The section around, if numbers count from its start.
-    fn own(&self) -> Option<OutputId> {
+    fn section_around(&self) -> Option<OutputId> {
         self.walk.inside.as_ref().filter(|inside| !inside.is_absolute).map(|inside| inside.id)
     }
 
     /// The kind of a plain number here.
     fn plain(&self) -> Kind {
         let is_sane = |statement: &Statement| matches!(statement, Statement::Feature(word) if *word == "SANE_EXPR");
-        match self.own().is_some() || self.walk.script.statements.iter().any(|one| is_sane(&one.node)) {
+        match self.section_around().is_some() || self.walk.script.statements.iter().any(|one| is_sane(&one.node)) {
             true => Kind::Number,
             false => Kind::Absolute,
         }
@@ -82,7 +82,7 @@ impl Counting<'_, '_> {
 
     /// The kind of an address here (ldexp.c, `new_rel_from_abs`).
     fn address(&self) -> Kind {
-        self.own().map_or(Kind::Absolute, Kind::Section)
+        self.section_around().map_or(Kind::Absolute, Kind::Section)
     }
 
     /// The start of an output section.
@@ -110,7 +110,7 @@ impl Counting<'_, '_> {
     }
 
     fn assigned(&self, term: Term) -> Option<Expr> {
-        match (term.kind, self.own()) {
+        match (term.kind, self.section_around()) {
             (Kind::Number, Some(own)) => Some(self.of_section(own, term.e)?.e),
             _ => Some(term.e),
         }
@@ -131,12 +131,12 @@ impl Counting<'_, '_> {
             }
             ExprKind::Assert(condition, _) => self.term(condition),
             ExprKind::SizeofHeaders if self.walk.is_without_objects() => None,
-            ExprKind::SizeofHeaders => self.known(e),
+            ExprKind::SizeofHeaders => self.number_term(e),
         }
     }
 
     /// A value that does not depend on the objects, such as a number.
-    fn known(&self, e: &Expr) -> Option<Term> {
+    fn number_term(&self, e: &Expr) -> Option<Term> {
         let value = View { walk: self.walk, at: self.at }.value(e)?;
         Some(Term { kind: Kind::Number, e: number(value) })
     }
@@ -296,7 +296,7 @@ impl Counting<'_, '_> {
             Query::Constant => Some(Term { kind: Kind::Number, e: number(view.constant(e, name)?) }),
             Query::Defined if self.walk.is_without_objects() && view.value(e) != Some(1) => None,
             Query::Defined if view.is_provided(name) => None,
-            Query::Alignof | Query::Defined => self.known(e),
+            Query::Alignof | Query::Defined => self.number_term(e),
         }
     }
 }

@@ -4,7 +4,7 @@
 
 use bstr::BString;
 
-use super::expression::{binary, number, unplaced, value, word, written, NoNames};
+use super::expression::{binary, number, number_text, unplaced, value, word, NoNames};
 use crate::script::tree::{BinaryOperator, Expr, ExprKind, Function, Name, Query, UnaryOperator};
 
 /// The file header and three program headers.
@@ -98,7 +98,7 @@ pub(super) fn translate(e: &Expr, around: &dyn Around, reasons: &mut Reasons) ->
             ),
         },
         ExprKind::Call(function, arguments) => return call(e, *function, arguments, around, reasons),
-        ExprKind::Query(query, name) => return asked(e, *query, name, around, reasons),
+        ExprKind::Query(query, name) => return rewritten_query(e, *query, name, around, reasons),
         ExprKind::SegmentStart(name, inner) => {
             reasons.say(format!("SEGMENT_START of {name} is its value"));
             return translate(inner, around, reasons);
@@ -153,7 +153,7 @@ fn headers(e: &Expr, around: &dyn Around, reasons: &mut Reasons) -> Expr {
     let value = around.value(e).unwrap_or(USUAL_HEADERS);
     reasons.changed.push(format!(
         "SIZEOF_HEADERS is taken as {}: GNU ld counts its own program headers; no segment has the headers here",
-        written(value)
+        number_text(value)
     ));
     number(value)
 }
@@ -186,7 +186,7 @@ fn foreign(e: &Expr, name: &Name, around: &dyn Around, reasons: &mut Reasons) ->
 fn numeric(e: &Expr, what: &str, around: &dyn Around, reasons: &mut Reasons) -> Expr {
     match around.value(e) {
         Some(value) => {
-            reasons.say(format!("{what} is {}", written(value)));
+            reasons.say(format!("{what} is {}", number_text(value)));
             reasons.is_numeric = true;
             number(value)
         }
@@ -254,7 +254,7 @@ fn call(e: &Expr, function: Function, arguments: &[Expr], around: &dyn Around, r
     }
 }
 
-fn asked(e: &Expr, query: Query, name: &Name, around: &dyn Around, reasons: &mut Reasons) -> Expr {
+fn rewritten_query(e: &Expr, query: Query, name: &Name, around: &dyn Around, reasons: &mut Reasons) -> Expr {
     match query {
         Query::Addr | Query::Loadaddr | Query::Sizeof => match around.section(name) {
             Some(own) => Expr::new(ExprKind::Query(query, own), e.span),
@@ -269,7 +269,7 @@ fn asked(e: &Expr, query: Query, name: &Name, around: &dyn Around, reasons: &mut
         }
         Query::Constant => match around.constant(e, name) {
             Some(value) => {
-                reasons.say(format!("{} is {}", text_of(query, name), written(value)));
+                reasons.say(format!("{} is {}", text_of(query, name), number_text(value)));
                 number(value)
             }
             None => numeric(e, &text_of(query, name), around, reasons),

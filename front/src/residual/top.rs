@@ -3,7 +3,7 @@
 use bstr::{BStr, ByteSlice};
 
 use super::edits::comment_or_text;
-use super::expression::{folded, is_any, is_short, says, unplaced, uses_dot, with_dot, written};
+use super::expression::{folded, is_any, is_short, number_text, says, unplaced, uses_dot, with_dot};
 use super::note::{NoteKind, Topic};
 use super::orphans::{Extent, Orphans};
 use super::relative::Inside;
@@ -258,7 +258,7 @@ impl<'a> Walk<'a> {
         self.report(span, &settled);
         let text = match says(self.slice(e.span), &settled.e, self.text) {
             true => self.slice(e.span).to_str_lossy().trim().to_owned(),
-            false => self.written(&settled.e),
+            false => self.expr_text(&settled.e),
         };
         (text, needed.or_else(|| self.value_of(&settled.e, at)))
     }
@@ -345,8 +345,8 @@ impl<'a> Walk<'a> {
         self.symbols.insert(version.emitted.clone(), needed);
         let is_provided = matches!(waiting.assignment.provision, Provision::Provide | Provision::ProvideHidden);
         Some(match is_provided && self.is_wanted_of_objects(name) {
-            true => format!("PROVIDE({} = {})", version.emitted, self.written(&e)),
-            false => format!("{} = {};", version.emitted, self.written(&e)),
+            true => format!("PROVIDE({} = {})", version.emitted, self.expr_text(&e)),
+            false => format!("{} = {};", version.emitted, self.expr_text(&e)),
         })
     }
 
@@ -492,7 +492,7 @@ impl<'a> Walk<'a> {
         if before == wanted && is_fine {
             return self.write_over(&assignment.value, settled);
         }
-        let value = self.written(&settled.e);
+        let value = self.expr_text(&settled.e);
         let new = match stays_provided {
             true => format!("PROVIDE({emitted} = {value})"),
             false => format!("{emitted} = {value};"),
@@ -543,7 +543,7 @@ impl<'a> Walk<'a> {
             self.dot = wanted;
             return;
         }
-        self.edits.insert(span.start, BEFORE, format!(". = {}; ", written(wanted)));
+        self.edits.insert(span.start, BEFORE, format!(". = {}; ", number_text(wanted)));
         self.dot = wanted;
         self.result.has_moving_values = true;
     }
@@ -579,7 +579,7 @@ impl<'a> Walk<'a> {
             }
             _ if before == b".=" && ends => self.write_over(&assignment.value, &mut settled),
             _ => {
-                let new = format!(". = {};", self.written(&settled.e));
+                let new = format!(". = {};", self.expr_text(&settled.e));
                 self.edits.replace(self.text, span, new);
                 settled.reasons.say("in the profile's form");
             }
@@ -652,10 +652,10 @@ impl<'a> Walk<'a> {
         if !self.holds(own, at) {
             return "1".into();
         }
-        let written = self.written(own);
+        let written = self.expr_text(own);
         match is_short(&written) {
             true => written,
-            false => self.written(&folded(own)),
+            false => self.expr_text(&folded(own)),
         }
     }
 

@@ -377,7 +377,7 @@ impl<'a> Walk<'a> {
             None => return Settled { e: own, reasons },
             Some(needed) => needed,
         };
-        let is_right = |walk: &Walk<'a>, e: &Expr| walk.value_of(e, at) == Some(needed) && is_short(&walk.written(e));
+        let is_right = |walk: &Walk<'a>, e: &Expr| walk.value_of(e, at) == Some(needed) && is_short(&walk.expr_text(e));
         if !reasons.changed.is_empty() {
             return Settled { e: own, reasons };
         }
@@ -445,7 +445,7 @@ impl<'a> Walk<'a> {
         if says(self.slice(old.span), &settled.e, self.text) {
             return;
         }
-        let new = self.written(&settled.e);
+        let new = self.expr_text(&settled.e);
         if settled.reasons.said.is_empty() {
             settled.reasons.say(format!("as {new}"));
         }
@@ -453,7 +453,7 @@ impl<'a> Walk<'a> {
     }
 
     /// The text of an expression; one with too many signs is its value.
-    pub(super) fn written(&self, e: &Expr) -> String {
+    pub(super) fn expr_text(&self, e: &Expr) -> String {
         write(e, self.text)
     }
 

@@ -117,7 +117,7 @@ impl Call<'_> {
             stream.set_read_timeout(Some(limit * SILENCE))?;
             match message.kind {
                 Kind::Working => {}
-                Kind::Done => return self.placed(&stream, message),
+                Kind::Done => return self.put_files_in_place(&stream, message),
                 Kind::HandOver => return self.handed_over(message),
                 Kind::Refused => {
                     let why = message.texts.first().map(|why| String::from_utf8_lossy(why).into_owned());
@@ -138,7 +138,7 @@ impl Call<'_> {
     }
 
     /// Puts the new files in place while the server still holds this link as the last one, and prints what it said.
-    fn placed(&self, stream: &UnixStream, message: Message) -> Result<u8, Declined> {
+    fn put_files_in_place(&self, stream: &UnixStream, message: Message) -> Result<u8, Declined> {
         let answer = Answer::of(message).ok_or_else(|| Declined::because("it gives another answer"))?;
         stream.set_nonblocking(true)?;
         for place in &answer.places {

@@ -15,7 +15,7 @@ use super::host::{Found, NewFiles, ServerHost};
 use super::wire::{Kind, Message};
 use crate::command::{split_words, Command};
 use crate::mirror::Mirror;
-use crate::once::{make, read_words, run, said, Asked, Done, LinkFault, Planned, Status};
+use crate::once::{make, read_words, report_end, run, Asked, Done, LinkFault, Planned, Status};
 use crate::plan::{find_program, others, Environment};
 use crate::report::Style;
 use crate::snapshot::{is_by_process, stat, Snapshot, Stamp};
@@ -99,9 +99,9 @@ impl Links {
         for _ in 0..TRIES {
             let host = ServerHost::new(self.files());
             let (done, texts) = streams::keep(wish.style, || {
-                let done = self.once(wish, &host);
+                let done = self.make_once(wish, &host);
                 let is_first_end = matches!(done, Err(LinkFault::Session { .. })) && !has_ended;
-                (!is_first_end).then(|| said(done))
+                (!is_first_end).then(|| report_end(done))
             });
             let found = host.found();
             let outcome = match done {
@@ -164,9 +164,9 @@ impl Links {
     }
 
     /// Makes a link, with the plan of the last one if that still holds.
-    fn once(&mut self, wish: &Wish, host: &ServerHost) -> Result<Done, LinkFault> {
+    fn make_once(&mut self, wish: &Wish, host: &ServerHost) -> Result<Done, LinkFault> {
         let planned = match self.kept.take() {
-            Some(kept) if self.is_same(&kept, wish) => self.again(kept.planned),
+            Some(kept) if self.is_same(&kept, wish) => self.plan_again(kept.planned),
             _ => None,
         };
         let environment = self.environment.clone();
@@ -198,7 +198,7 @@ impl Links {
     }
 
     /// The plan of the link before with the objects as they are now; `None` if all is to be planned anew.
-    fn again(&mut self, planned: Planned) -> Option<Planned> {
+    fn plan_again(&mut self, planned: Planned) -> Option<Planned> {
         let changes = self.snapshot.changed();
         if changes.has_other_inputs {
             return None;
