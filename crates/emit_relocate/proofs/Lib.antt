@@ -1,4 +1,4 @@
-mod Values
+mod Targets
 mod Sites
 mod Runs
 mod Added

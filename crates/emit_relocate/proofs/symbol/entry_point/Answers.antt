@@ -1,4 +1,4 @@
-use Rattle.emit_relocate.proofs.Values.{entry_with, entry_without}
+use Rattle.emit_relocate.proofs.Targets.{entry_with, entry_without}
 use Rattle.emit_relocate.proofs.symbol.entry_point.Goals as goal
 
 pub returns-in-None : goal.returns-in-None

@@ -1,5 +1,5 @@
 use Rattle.std.proofs.Common.{refl, sym, ap, ◌∙◌}
-use Rattle.emit_relocate.proofs.Values.{number_of_name, number_of_nothing, number_of_section}
+use Rattle.emit_relocate.proofs.Targets.{number_of_name, number_of_nothing, number_of_section}
 use Rattle.emit_relocate.specs.KnownLink.{named_target}
 use Rattle.emit_relocate.proofs.target.target_number.Goals as goal
 
