@@ -198,8 +198,7 @@ class UnloadedTest(OutsideTest):
             self.assertEqual("gone:f(0,1)" in rows, "--gc-sections" not in words)
         self.same("-S", *objects[:2], "-e", "first")
         self.write("data.ld", PLACED.replace(".debug_all 0", ".stab 0 (INFO) : { *(.stab) BYTE(0) } .debug_all 0"))
-        done = self.links("-T", "data.ld", *objects, "-e", "first", "-o", "own")
-        self.assertIn(".stab: stabs beside data of the script: linked by ld.bfd", done.stderr)
+        self.same("-T", "data.ld", *objects, "-e", "first")
 
     def test_strip(self) -> None:
         """`-S` and `-s` leave debug information out."""

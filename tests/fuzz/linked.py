@@ -12,7 +12,7 @@ from dataclasses import dataclass, field
 from tests.fuzz import objects
 from tests.fuzz.adapted import link_adapted
 from tests.fuzz.images import differences, loads_of, read_image, segment_differences
-from tests.fuzz.scripts import Case, case, with_insert, with_more_options, without_rest
+from tests.fuzz.scripts import Case, case, with_frames, with_insert, with_more_options, without_rest
 from tests.programs import LD_LDI
 from tests.symbol_table import table_differences
 
@@ -109,6 +109,9 @@ def main(words: list[str]) -> int:
         if "--orphans" in given:
             one = without_rest(one, seed)
             one.objects += objects.make_orphans(".", seed)
+        if "--frames" in given:
+            one = with_frames(one, seed)
+            one.objects += objects.make_frames(".", seed)
         if "--insert" in given:
             one = with_insert(one, seed)
         if "--options" in given:

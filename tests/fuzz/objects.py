@@ -298,6 +298,62 @@ def orphans(name: str, random: Random) -> str:
     return "\n".join(lines) + "\n"
 
 
+OPERATIONS_OF_FRAMES = [".cfi_def_cfa_offset 16", ".cfi_remember_state\n.cfi_restore_state", ".cfi_escape 0x2e, 16", ".cfi_escape 0, 0, 0",
+                        ".cfi_offset 6, -16", ".cfi_escape 0x16, 3, 2, 0x77, 8", ""]
+KINDS_OF_FRAMES = [".cfi_startproc", ".cfi_startproc", ".cfi_startproc simple", ".cfi_startproc\n.cfi_signal_frame",
+                   ".cfi_startproc\n.cfi_personality 3, person", ".cfi_startproc\n.cfi_personality 0x9b, person_ref",
+                   ".cfi_startproc\n.cfi_personality 0, own_person\n.cfi_lsda 0x1b, .Llsda",
+                   ".cfi_startproc\n.cfi_personality 3, person\n.cfi_lsda 3, .Llsda", ".cfi_startproc\n.cfi_b_key_frame",
+                   ".cfi_startproc\n.cfi_return_column 3"]
+"""How entries of `.eh_frame` begin, and what is in them."""
+
+
+def frames(name: str, random: Random) -> str:
+    """Functions with entries in `.eh_frame`, of which equal CIEs are merged, and ends."""
+    lines = ['.section .gcc_except_table,"a"', ".Llsda: .byte 1", ".text", "own_person: nop",
+             ".weak person, person_ref, main"]
+    for number in range(random.randrange(7)):
+        section = random.choice([".text", ".text", ".text.f", ".gone", f".text.{name}{number}"])
+        label = random.choice([f"frame_{name}_{number}", f".Lframe_{number}"])
+        lines += [f'.section {section},"ax"', f"{label}:"]
+        lines += [f".globl {label}"] if label.startswith("frame") and random.randrange(2) else []
+        lines += [random.choice(KINDS_OF_FRAMES).replace(".cfi_b_key_frame", ""), "nop"]
+        for _ in range(random.randrange(4)):
+            lines += [random.choice(OPERATIONS_OF_FRAMES), random.choice(["nop", ".skip 3", ".skip 70"])]
+        lines += [".cfi_endproc"]
+        lines += [".data", f".quad {label}"] if random.randrange(3) == 0 else []
+    if random.randrange(8) == 0:
+        lines += ['.section .eh_frame,"a",@progbits', random.choice(["end_of_frames:", ""]), ".long 0"]
+    return "\n".join(lines) + "\n"
+
+
+def stabs(name: str, random: Random) -> str:
+    """Stabs: rows of headers that several objects have, of functions and of variables."""
+    lines = [".text", f'.stabs "{name}.c",100,0,0,.Ltext', ".Ltext:"]
+    for header in random.sample("xyz", random.randrange(4)):
+        lines += [f'.stabs "{header}.h",130,0,0,0', f'.stabs "{header}:t({random.randrange(4)},1)=(0,1)",128,0,0,0']
+        lines += ['.stabs "inner.h",130,0,0,0', '.stabs "in:t(2,1)",128,0,0,0', ".stabn 162,0,0,0"] * random.randrange(2)
+        lines += [".stabn 162,0,0,0"]
+    for number in range(random.randrange(4)):
+        section = random.choice([".text", ".text.f", ".gone", ".data"])
+        kind = 38 if section == ".data" else 36
+        lines += [f'.section {section},"{"aw" if kind == 38 else "ax"}"', f"of_{name}_{number}: .byte 1",
+                  f'.stabs "of_{name}_{number}:F(0,1)",{kind},0,{number},of_{name}_{number}']
+        lines += [f'.Lend_{number}: .stabs "",36,0,0,.Lend_{number}-of_{name}_{number}'] if kind == 36 else []
+    return "\n".join(lines) + "\n"
+
+
+def make_frames(folder: str, seed: int) -> list[str]:
+    """Assembles objects with entries of `.eh_frame` and with stabs; gives their names."""
+    names = []
+    for number in range(Random(f"{seed} frames").randrange(1, 5)):
+        random = Random(f"{seed} frames {number}")
+        text = frames(f"e{number}", random) + (stabs(f"e{number}", random) if random.randrange(2) else "")
+        names.append(f"e{number}.o")
+        subprocess.run(["as", "-W", "-o", names[-1], "-"], input=text, text=True, check=True, timeout=180, cwd=folder)
+    return names
+
+
 def make_orphans(folder: str, seed: int) -> list[str]:
     """Assembles objects with such sections; gives their names."""
     names = []

@@ -372,6 +372,23 @@ def without_rest(one: Case, seed: int) -> Case:
     return one
 
 
+def with_frames(one: Case, seed: int) -> Case:
+    """A case whose script places `.eh_frame` and stabs, or leaves them to be orphans."""
+    random = Random(f"{seed} frames")
+    frames = random.choice(["", "", ".eh_frame : { KEEP(*(.eh_frame)) }", ".eh_frame : { *(.eh_frame) frames_end = .; }",
+                            ".eh_frame : ALIGN(8) { *(.eh_frame) LONG(0) }", ".data : { *(.eh_frame) }",
+                            ".eh_frame : { *(.eh_frame .gcc_except_table) }"])
+    stabs = random.choice(["", "", ".stab : { *(.stab) BYTE(0) } .stabstr : { *(.stabstr) BYTE(0) }",
+                           ".stab 0 : { *(.stab) } .stabstr 0 : { *(.stabstr) }",
+                           ".stab : { stab = .; *(.stab); stab_end = .; LONG(stab_end) }"])
+    gone = random.choice(["", " /DISCARD/ : { *(.gone) }", " .gone : { *(.gone) }"])
+    tail = " >rom" if re.search(r"^  .*} >rom", one.script, flags=re.M) else ""
+    new = "".join(f"  {section}{tail}\n" for section in re.findall(r"\.\w+ .*?{.*?}", f"{frames} {stabs}"))
+    one.script = re.sub(r"^SECTIONS {\n(.*\n)", lambda found: found[0] + new, one.script, count=1, flags=re.M)
+    one.script = re.sub(r"\n}\n", lambda found: f"\n {gone}\n}}\n", one.script, count=1)
+    return one
+
+
 def with_options(one: Case, seed: int) -> Case:
     """A case with options that a layout goes by."""
     random = Random(seed)

@@ -1,7 +1,7 @@
 //! Sections whose bytes GNU ld changes, and the layout takes as they are: `.eh_frame`, `.note.gnu.property`, and
 //! `.gnu.linkonce.*` of which there are several.
 
-use crate::layout::evaluation::{Evaluation, Fate, InputSection, OutputSection, Placed};
+use crate::layout::evaluation::{Evaluation, Fate, FramesLeft, InputSection, OutputSection, Placed};
 use crate::objects::{Binding, Home, Object, ObjectIndex, SectionIndex, SymbolIndex};
 use crate::script::tree::{Name, Span};
 use bstr::{BStr, ByteSlice};
@@ -136,7 +136,15 @@ pub(super) fn merged(evaluation: &Evaluation, objects: &[Object]) -> Vec<Merged>
             }
         }
         if output.name == UNWINDING {
-            if let Some(cause) = unwinding_cause(evaluation, objects, place) {
+            let cause = match evaluation.frames_left {
+                FramesLeft::All => unwinding_cause(evaluation, objects, place),
+                FramesLeft::AsInGnu => None,
+                FramesLeft::Unknown(id) => {
+                    let object = evaluation.section(id).map_or_else(Name::default, |one| name_of(objects, one.object));
+                    Some(UnwindingCause::Unknown(object))
+                }
+            };
+            if let Some(cause) = cause {
                 found.push(Merged { cause: MergedCause::Unwinding(cause), span: output.span });
             }
         }

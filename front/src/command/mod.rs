@@ -229,6 +229,8 @@ pub struct Command {
     pub has_frame_table: bool,
     /// `-N`: the default script does not begin its data on a page of their own.
     pub is_omagic: bool,
+    /// Whether stabs and entries of `.eh_frame` stay as they are: `--traditional-format`.
+    pub is_traditional: bool,
     /// `-n`
     pub is_nmagic: bool,
     /// `--sort-section`
@@ -322,6 +324,7 @@ impl Default for Command {
             is_without_standard_folders: false,
             has_frame_table: false,
             is_omagic: false,
+            is_traditional: false,
             is_nmagic: false,
             sort_section: None,
             sort_common: None,

@@ -206,6 +206,7 @@ impl Reader {
             Action::SortSection => self.command.sort_section = Some(sorting::sort_section(value)?),
             Action::SortCommon => self.command.sort_common = Some(sorting::sort_common(value)?),
             Action::Omagic => self.command.is_omagic = true,
+            Action::Traditional => self.command.is_traditional = true,
             Action::Orphans => return self.orphans(value),
             Action::Output => {
                 self.command.output = path_of(value);

@@ -1,7 +1,7 @@
 //! Gives sections the rights to be written and executed that they have in GNU ld's file: `.text` of writable input
 //! sections and sections of data commands alone have others in the image of `ldi`. The loaded bytes stay. Notes and
-//! tables of functions, which are SHT_PROGBITS in the image of `ldi`, get their types, by which other programs find
-//! them.
+//! tables of functions or of names, which are SHT_PROGBITS in the image of `ldi`, get their types, by which other
+//! programs find them.
 
 use std::collections::HashMap;
 
@@ -21,7 +21,8 @@ const SECTION_HEADER: u64 = 64;
 const SECTIONS_AT: usize = 40;
 
 /// The types that are written in place of SHT_PROGBITS.
-const KINDS: [u32; 4] = [elf::SHT_NOTE, elf::SHT_INIT_ARRAY, elf::SHT_FINI_ARRAY, elf::SHT_PREINIT_ARRAY];
+const KINDS: [u32; 5] =
+    [elf::SHT_NOTE, elf::SHT_INIT_ARRAY, elf::SHT_FINI_ARRAY, elf::SHT_PREINIT_ARRAY, elf::SHT_STRTAB];
 
 /// The rights that the output section of a place is to have, and its type.
 #[derive(Clone, Copy, PartialEq, Eq, Debug)]
@@ -32,7 +33,7 @@ pub struct Rights {
     pub size: u64,
     /// SHF_WRITE and SHF_EXECINSTR, of `sh_flags`; other bits are not looked at.
     pub flags: u64,
-    /// `sh_type`, of notes and tables of functions.
+    /// `sh_type`, of notes and of tables of functions and of names.
     pub kind: u32,
 }
 

@@ -6,7 +6,7 @@ use super::ids::{NameId, OutputId, RegionId, SectionId, StatementId, SymbolId};
 use super::merging::Merges;
 use super::names::{Names, QuickMap};
 use super::segments::{InMemory, Paging};
-use crate::objects::{MergeSource, ObjectIndex, SectionIndex};
+use crate::objects::{MergeSource, ObjectIndex, SectionIndex, Shortened};
 use crate::script::tree::{Name, Span};
 use bstr::{BStr, ByteSlice};
 use std::sync::Arc;
@@ -76,6 +76,10 @@ pub struct Evaluation {
     pub merges: Arc<Merges>,
     /// What is merged of sections that are not loaded, as far as anything goes by their sizes and places.
     pub merges_beside: Arc<Merges>,
+    /// The sections of which GNU ld leaves out rows, and what stays of them.
+    pub shortened: QuickMap<SectionId, Arc<Shortened>>,
+    /// What is known of `.eh_frame`.
+    pub frames_left: FramesLeft,
     /// The values that expressions had last, by their spans.
     pub values: QuickMap<Span, Value>,
     /// The statement of a span.
@@ -84,6 +88,18 @@ pub struct Evaluation {
     pub by_name: QuickMap<Name, SymbolId>,
     /// The names that something has named, in that order, each with the number of objects that were read before.
     pub named: Vec<(usize, Name)>,
+}
+
+/// What is left of the entries of the output section `.eh_frame`.
+#[derive(Clone, Copy, PartialEq, Eq, Debug, Default)]
+pub enum FramesLeft {
+    /// All.
+    #[default]
+    All,
+    /// Those that GNU ld leaves.
+    AsInGnu,
+    /// Those, but it is not known of this section what GNU ld makes of it.
+    Unknown(SectionId),
 }
 
 /// Where the program begins.

@@ -1,8 +1,9 @@
 //! The state of a layout while its passes run.
 
-use super::evaluation::{Base, InputSection};
+use super::evaluation::{Base, FramesLeft, InputSection};
 use super::expression::power_of;
 use super::fold::{DataSegment, Folded, Phase};
+use super::frames::Frames;
 use super::headers::Headers;
 use super::ids::{ExprId, NameId, OutputId, RegionId, SectionId, StatementId, SymbolId};
 use super::merging::Merges;
@@ -12,6 +13,7 @@ use super::settings::Settings;
 use super::standing::{Source, Standing};
 use super::stop::{refused, RefusedReason, Stop};
 use super::symbols::SymbolState;
+use crate::objects::Shortened;
 use crate::script::tree::Name;
 use std::sync::Arc;
 
@@ -54,6 +56,11 @@ pub(crate) struct Link<'a> {
     /// What is merged, and what is of sections that are not loaded.
     pub merges: Arc<Merges>,
     pub merges_beside: Arc<Merges>,
+    /// The sections of which rows are left out.
+    pub shortened: QuickMap<SectionId, Arc<Shortened>>,
+    /// What stays of `.eh_frame`, while it is found.
+    pub frames: Frames,
+    pub frames_left: FramesLeft,
 }
 
 impl<'a> Link<'a> {
@@ -83,6 +90,9 @@ impl<'a> Link<'a> {
             linked: QuickMap::default(),
             merges: Arc::default(),
             merges_beside: Arc::default(),
+            shortened: QuickMap::default(),
+            frames: Frames::default(),
+            frames_left: FramesLeft::default(),
         }
     }
 

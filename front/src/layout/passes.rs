@@ -56,6 +56,8 @@ pub(crate) fn run(
     if !settings.starts_late {
         link.set_addresses()?;
     }
+    link.strip_debugging();
+    let stabs = link.link_stabs(objects);
     link.map(rows, objects)?;
     if settings.starts_late {
         link.set_addresses()?;
@@ -71,10 +73,13 @@ pub(crate) fn run(
     link.check_segments()?;
     link.find_relro(rows);
     link.size(true)?;
-    link.settle_headers(true)?;
+    let is_other = link.discard_stabs(objects, stabs) | link.discard_frames(objects);
+    link.settle_headers(true, is_other)?;
     link.end_bounds();
     link.values(Phase::Final)?;
     link.check_addresses()?;
+    link.count_stabs();
+    link.write_frames(objects);
     Ok(link.result())
 }
 
@@ -96,6 +101,14 @@ impl Link<'_> {
             if let Some(symbol) = self.program.symbols.know(id) {
                 symbol.kind = SymbolKind::Undefined;
             }
+        }
+    }
+
+    /// Debug information is left out by `-S` (ldlang.c, `lang_discard_section_p`).
+    fn strip_debugging(&mut self) {
+        let strips = self.settings.strips_debugging;
+        for section in self.sections.iter_mut().filter(|section| strips && section.flags.has(Flags::DEBUGGING)) {
+            section.flags |= Flags::EXCLUDE;
         }
     }
 

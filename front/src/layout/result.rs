@@ -43,6 +43,8 @@ impl Link<'_> {
             orphans: std::mem::take(&mut self.orphans),
             merges: std::mem::take(&mut self.merges),
             merges_beside: std::mem::take(&mut self.merges_beside),
+            shortened: std::mem::take(&mut self.shortened),
+            frames_left: self.frames_left,
             ..Evaluation::default()
         };
         for expression in self.program.expressions.iter() {

@@ -58,6 +58,10 @@ pub struct Settings {
     /// Whether sections with SHF_MERGE are merged, as GNU ld does; the objects of the session must be those of
     /// [`Evaluation::merges`](super::Evaluation::merges) then.
     pub merges: bool,
+    /// `-S`, `-s`: debug information is left out, wherever the script places it.
+    pub strips_debugging: bool,
+    /// `--traditional-format`: stabs and entries of `.eh_frame` stay as they are.
+    pub is_traditional: bool,
 }
 
 impl Default for Settings {
@@ -88,6 +92,8 @@ impl Default for Settings {
             checks_sections: true,
             checks_assertions: true,
             merges: false,
+            strips_debugging: false,
+            is_traditional: false,
         }
     }
 }

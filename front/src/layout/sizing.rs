@@ -127,9 +127,14 @@ impl Link<'_> {
         end
     }
 
-    /// Lays out again while the number of program headers changes (ldelf.c, `ldelf_map_segments`).
-    pub fn settle_headers(&mut self, checks: bool) -> Result<(), Stop> {
+    /// Lays out again where sections have other sizes, and while the number of program headers changes (ldelf.c,
+    /// `ldelf_map_segments`).
+    pub fn settle_headers(&mut self, checks: bool, is_other: bool) -> Result<(), Stop> {
         let mut tries = TRIES;
+        if is_other {
+            self.program.takings.iter_mut().for_each(|taking| taking.shape = None);
+            self.size_again(checks)?;
+        }
         loop {
             let is_reordered = self.order_linked();
             let count = self.found_headers();
@@ -145,10 +150,15 @@ impl Link<'_> {
             if tries == 0 {
                 return not_evaluated(NotEvaluatedReason::Headers, None);
             }
-            self.values(Phase::Assign)?;
-            self.reset();
-            self.size(checks)?;
+            self.size_again(checks)?;
         }
+    }
+
+    /// Lays out again (ldlang.c, `lang_relax_sections`).
+    fn size_again(&mut self, checks: bool) -> Result<(), Stop> {
+        self.values(Phase::Assign)?;
+        self.reset();
+        self.size(checks)
     }
 
     fn one_pass(&mut self, checks: bool) -> Result<(), Stop> {

@@ -88,6 +88,9 @@ pub(crate) fn by_name(name: &[u8]) -> (u32, u64) {
             (Some(_), Dot | Nothing) => false,
         })
     };
+    if name.starts_with(b".stab") && name.ends_with(b"str") {
+        return (SHT_STRTAB, 0);
+    }
     SECTIONS.iter().find(matches).map_or((SHT_NULL, 0), |(_, _, kind, flags)| (*kind, u64::from(*flags)))
 }
 
@@ -116,6 +119,7 @@ mod tests {
             (".rela.dyn", SHT_RELA, 0),
             (".persistent.bss", SHT_NOBITS, DATA),
             (".text", SHT_PROGBITS, CODE),
+            (".stab.indexstr", SHT_STRTAB, 0),
             ("cmds", SHT_NULL, 0),
         ] {
             assert_eq!(by_name(name.as_bytes()), (kind, u64::from(flags)), "{}", name);

@@ -1,11 +1,12 @@
 //! The rules of GNU ld's layout, each by its name in GNU ld's manual, or by the function of its source that has it.
 
 use super::evaluation::{Base, Definer, Entry, Evaluation, Fate, StatementKind};
+use super::ids::SectionId;
 use super::settings::{GcSettings, OrphanHandling};
 use super::stop::{NotEvaluatedReason, RefusedReason};
 use super::{evaluate, Layout, Settings, Stop};
 use crate::objects::tests::{object, WrittenSection, WrittenSymbol};
-use crate::objects::{Object, ObjectIndex, Origin, Relocation, SymbolIndex};
+use crate::objects::{Object, ObjectIndex, Origin, Relocation, SectionIndex, SymbolIndex};
 use crate::script::parse;
 use bstr::ByteSlice;
 use object::elf;
@@ -561,4 +562,35 @@ fn nothing_at_all_is_laid_out() {
     assert_eq!(names(&laid("", &[])), Vec::<String>::new());
     let broken = Object::new("x".into(), Origin::of_file(Path::new("x")), b"\x7fELF\x02\x01".to_vec().into());
     assert_eq!(names(&laid("SECTIONS { .x : { *(*) } }", &[broken])), Vec::<String>::new());
+}
+
+/// An object with a function and its entry of `.eh_frame`, as gcc writes it, whose CIE has these letters.
+fn with_entry(name: &str, function: &str, letters: &[u8; 2]) -> Object {
+    let common = [b"\x14\0\0\0\0\0\0\0\x01", &letters[..], b"\0\x01\x78\x10\x01\x1b\x0c\x07\x08\x90\x01\0\0"].concat();
+    let frames = [&common[..], b"\x10\0\0\0\x1c\0\0\0\0\0\0\0\x03\0\0\0\0\0\0\0"].concat();
+    let sections = [section(".eh_frame", READ_ONLY, &frames), section(".text", TEXT, b"\x90\x90\xc3")];
+    let code = Relocation { offset: 32, kind: 2, symbol: SymbolIndex(1), addend: 0 };
+    let data = object(&sections, &[(function, 1, 2, 0, 3)], &[code]);
+    Object::new(name.into(), Origin::of_file(Path::new(name)), data.into())
+}
+
+/// elf-eh-frame.c, `_bfd_elf_discard_section_eh_frame`: a CIE is there once, what does nothing goes, and so do entries
+/// of code that is not in the image; a section that is not understood stays.
+#[test]
+fn entries_of_frames_are_those_of_gnu_ld() {
+    let objects = [with_entry("a.o", "f", b"zR"), with_entry("b.o", "g", b"zR"), with_entry("c.o", "h", b"zX")];
+    let settings = Settings { merges: true, ..Settings::default() };
+    let of = |script: &str, objects: &[Object]| {
+        let found = laid_with(script, objects, &settings).unwrap();
+        let ids: Vec<_> =
+            (0..objects.len() as u32).map(|one| found.section_of(ObjectIndex(one), SectionIndex(1))).collect();
+        let sizes: Vec<u64> = ids.iter().map(|id| found.section(id.unwrap()).unwrap().size).collect();
+        (sizes, found.shortened.get(&ids[1].unwrap()).map(|one| one.contents[..8].to_vec()))
+    };
+    let all = "SECTIONS { .text : { *(.text) } .eh_frame : { *(.eh_frame) } }";
+    let pointed = vec![0x10, 0, 0, 0, 0x30, 0, 0, 0];
+    assert_eq!(of(all, &objects[..2]), (vec![0x2c, 0x14], Some(pointed)));
+    assert_eq!(of(all, &objects), (vec![0x2c, 0x14, 0x2c], Some(vec![0x10, 0, 0, 0, 0x30, 0, 0, 0])));
+    let without = "SECTIONS { /DISCARD/ : { b.o(.text) } .text : { *(.text) } .eh_frame : { *(.eh_frame) } }";
+    assert_eq!(laid_with(without, &objects[..2], &settings).unwrap().section(SectionId::new(2)).unwrap().size, 0);
 }

@@ -285,13 +285,11 @@ impl MergeEdits {
         let (number, table) = headers.iter().find(|(_, header)| header.sh_type(Little) == elf::SHT_SYMTAB)?;
         let mut names = Names::of(headers, table)?;
         names.add_all(self, asked, object, anchor)?;
-        let mut written = Written { bytes: data.to_vec(), headers: Vec::new() };
-        let count = headers.iter().count() + 1;
-        written.headers = data.get(headers.place(SectionIndex(0))..headers.place(SectionIndex(count as u32)))?.to_vec();
+        let mut written = Written::of(data, headers)?;
         for one in &self.sections {
             written.put_section(one.section, &one.contents)?;
             if one.is_left_out {
-                written.put_field(one.section, ALIGN_AT, 1)?;
+                written.leave_out(one.section)?;
             }
         }
         self.put_references(headers, &mut written, &names)?;
@@ -304,7 +302,7 @@ impl MergeEdits {
             });
             written.add_relocations(*section, number, &entries.collect::<Vec<u8>>())?;
         }
-        written.finish(headers.place(SectionIndex(0)), count)
+        written.finish()
     }
 
     /// Changes the references, in place if nothing else of the file is there.
@@ -422,17 +420,33 @@ fn has_overlaps(headers: Headers<'_>) -> bool {
 }
 
 /// The bytes of an object, to which some are added; its section headers are put back last.
-struct Written {
+pub(super) struct Written {
     bytes: Vec<u8>,
     headers: Vec<u8>,
+    /// Where the headers were, and how many.
+    headers_at: usize,
+    count: usize,
 }
 
 impl Written {
+    /// The bytes of an object with these headers; `None` where they are not all in it.
+    pub(super) fn of(data: &[u8], headers: Headers<'_>) -> Option<Written> {
+        let count = headers.iter().count() + 1;
+        let headers_at = headers.place(SectionIndex(0));
+        let headers = data.get(headers_at..headers.place(SectionIndex(count as u32)))?.to_vec();
+        Some(Written { bytes: data.to_vec(), headers, headers_at, count })
+    }
+
     /// Gives a section other bytes.
-    fn put_section(&mut self, section: SectionIndex, contents: &[u8]) -> Option<()> {
+    pub(super) fn put_section(&mut self, section: SectionIndex, contents: &[u8]) -> Option<()> {
         let at = self.append(contents);
         self.put_field(section, OFFSET_AT, at)?;
         self.put_field(section, SIZE_AT, contents.len() as u64)
+    }
+
+    /// Lets a section that is empty take no room.
+    pub(super) fn leave_out(&mut self, section: SectionIndex) -> Option<()> {
+        self.put_field(section, ALIGN_AT, 1)
     }
 
     fn append(&mut self, contents: &[u8]) -> u64 {
@@ -459,10 +473,10 @@ impl Written {
     }
 
     /// Puts the headers back: in their place, or at the end if there are more.
-    fn finish(mut self, headers_at: usize, count: usize) -> Option<Bytes> {
-        let now = self.headers.len() / SECTION_HEADER;
-        if now == count {
-            self.bytes.get_mut(headers_at..headers_at + self.headers.len())?.copy_from_slice(&self.headers);
+    pub(super) fn finish(mut self) -> Option<Bytes> {
+        let (now, at) = (self.headers.len() / SECTION_HEADER, self.headers_at);
+        if now == self.count {
+            self.bytes.get_mut(at..at + self.headers.len())?.copy_from_slice(&self.headers);
             return Some(self.bytes.into());
         }
         let headers = std::mem::take(&mut self.headers);

@@ -16,6 +16,7 @@ mod profile;
 mod properties;
 mod relaxing;
 mod section;
+mod shortened;
 mod symbol;
 mod tabled;
 #[cfg(test)]
@@ -36,6 +37,7 @@ pub use overridden::without_names;
 pub use profile::{binary_object, session_name, with_loaded, GREATEST_NAME};
 pub use properties::{Properties, PROPERTIES};
 pub use section::{Relocation, Section, SectionFlags, SectionIndex, SectionKind};
+pub use shortened::{with_shortened, Shortened};
 pub use symbol::{Binding, Home, Rank, Symbol, SymbolIndex, SymbolKind, Visibility};
 pub use tabled::{
     table_object, NamedLocal, TableEntry, Tabled, Wanted, ENTRY_SIZE, GLOBAL_OFFSET_TABLE, HEADER_SECTION, TABLE,

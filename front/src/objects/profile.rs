@@ -159,9 +159,10 @@ fn take_unique(draft: &mut Draft, headers: Headers<'_>, table: &SectionHeader64<
     unique
 }
 
-/// The bytes of an object whose sections of these numbers have SHF_ALLOC, without flags that `ldi` does not link;
-/// `None` if its table of sections is not whole.
+/// The bytes of an object whose sections of these numbers have the type PROGBITS and SHF_ALLOC, without flags that
+/// `ldi` does not link; `None` if its table of sections is not whole.
 pub fn with_loaded(data: &[u8], sections: &[SectionIndex]) -> Option<Vec<u8>> {
+    const KIND_AT: usize = 4;
     const FLAGS_AT: usize = 8;
     let header = FileHeader64::<Little>::parse(data).ok()?;
     let headers = header.section_headers(Little, data).ok()?;
@@ -171,8 +172,9 @@ pub fn with_loaded(data: &[u8], sections: &[SectionIndex]) -> Option<Vec<u8>> {
     let mut changed = data.to_vec();
     for number in sections {
         let flags = headers.get(number.0 as usize)?.sh_flags(Little) & kept | SectionFlags::ALLOC.0;
-        let at = begin + number.0 as usize * std::mem::size_of::<SectionHeader64<Little>>() + FLAGS_AT;
-        changed.get_mut(at..at + 8)?.copy_from_slice(&flags.to_le_bytes());
+        let at = begin + number.0 as usize * std::mem::size_of::<SectionHeader64<Little>>();
+        changed.get_mut(at + KIND_AT..at + FLAGS_AT)?.copy_from_slice(&elf::SHT_PROGBITS.to_le_bytes());
+        changed.get_mut(at + FLAGS_AT..at + FLAGS_AT + 8)?.copy_from_slice(&flags.to_le_bytes());
     }
     Some(changed)
 }

@@ -7,8 +7,8 @@ use crate::inputs::Archive;
 use crate::objects::{Elf, Object, Section, SectionFlags, SectionKind};
 use crate::snapshot::Snapshot;
 
-/// Sections whose contents decide about a layout, though they are data.
-const UNWINDING: &[u8] = b".eh_frame";
+/// How the names of sections begin whose contents decide about a layout, though they are data: unwinding and stabs.
+const DECIDING: [&[u8]; 2] = [b".eh_frame", b".stab"];
 
 impl LinkPlan {
     /// Of the files that were written anew, those by which this may be another link: not a thin archive that lists the
@@ -70,7 +70,8 @@ fn are_alike(old: &Elf, new: &Elf) -> bool {
 /// Whether the contents of a section say more than its bytes in the image.
 fn decides(section: &Section<'_>) -> bool {
     let is_data = matches!(section.kind, SectionKind::PROGBITS | SectionKind::NOBITS);
-    !is_data || section.name == UNWINDING || section.flags.has(SectionFlags::MERGE)
+    let decides = DECIDING.iter().any(|front| section.name.starts_with(front));
+    !is_data || decides || section.flags.has(SectionFlags::MERGE)
 }
 
 #[cfg(test)]
@@ -101,6 +102,7 @@ mod tests {
         assert!(!decides(&section(".text", SectionKind::PROGBITS, plain)));
         assert!(decides(&section(".symtab", SectionKind::SYMTAB, plain)));
         assert!(decides(&section(".eh_frame", SectionKind::PROGBITS, plain)));
+        assert!(decides(&section(".stab", SectionKind::PROGBITS, plain)));
         assert!(decides(&section(".rodata.str1.1", SectionKind::PROGBITS, SectionFlags::MERGE)));
     }
 }

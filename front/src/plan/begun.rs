@@ -2,6 +2,7 @@
 
 use super::loaded::{self, MadeLoaded};
 use super::merged::Remade;
+use super::shortened::ShortenedObjects;
 use super::Inputs;
 use crate::command::Command;
 use crate::finish::LinkedNames;
@@ -16,6 +17,7 @@ pub struct Begun {
     pub(super) evaluation: Result<Evaluation, Stop>,
     pub(super) made_loaded: MadeLoaded,
     pub(super) remade: Remade,
+    pub(super) shortened: ShortenedObjects,
     /// The names of an earlier plan.
     pub(super) names: Option<LinkedNames>,
     pub(super) held: Vec<Held>,
@@ -28,14 +30,15 @@ impl Begun {
         inputs: Inputs,
         (layout, mut evaluation): (Option<Layout>, Result<Evaluation, Stop>),
         names: Option<LinkedNames>,
-        mut remade: Remade,
+        (mut remade, mut shortened): (Remade, ShortenedObjects),
     ) -> Begun {
         let made_loaded = evaluation.as_mut().map_or_else(|_| MadeLoaded::new(), loaded::load);
         let mut held = inputs.held.clone();
         if let Ok(evaluation) = &evaluation {
             remade.put(&mut held, inputs.objects(), evaluation, &made_loaded, command.collects_sections);
+            shortened.put(&mut held, evaluation);
         }
-        Begun { inputs, layout, evaluation, made_loaded, remade, names, held }
+        Begun { inputs, layout, evaluation, made_loaded, remade, shortened, names, held }
     }
 
     /// The objects as the session is to hold them, but for those that get names or places of the script's.

@@ -8,7 +8,7 @@ use bstr::{BStr, ByteSlice};
 use crate::layout::evaluation::{InputSection, Origin, StatementKind};
 use crate::layout::ids::SectionId;
 use crate::layout::{Evaluation, Flags};
-use crate::objects::{Binding, Home, Object, Rank, SectionIndex, Symbol};
+use crate::objects::{Binding, Home, Object, Rank, Relocation, SectionIndex, Symbol};
 use crate::quick::QuickMap;
 use crate::script::tree::{InputStatement, Name, Script, SectionStatement, SectionsStatement, Span, Statement};
 
@@ -79,6 +79,7 @@ fn kept_statements(script: &Script) -> impl Iterator<Item = (&InputStatement, Sp
 /// What is reached so far.
 struct Reach<'a> {
     objects: &'a [Object],
+    evaluation: &'a Evaluation,
     /// By name: where its definition is, if it is in a section.
     definitions: QuickMap<&'a BStr, Part>,
     /// The sections that may be reached: those that are linked, also if GNU ld leaves them out as unused.
@@ -88,7 +89,7 @@ struct Reach<'a> {
 }
 
 impl<'a> Reach<'a> {
-    fn new(objects: &'a [Object], evaluation: &Evaluation) -> Reach<'a> {
+    fn new(objects: &'a [Object], evaluation: &'a Evaluation) -> Reach<'a> {
         let mut linked = QuickMap::default();
         for (index, section) in evaluation.sections.iter().enumerate() {
             let may_stay = section.output().is_some() || section.flags.has(Flags::EXCLUDE);
@@ -97,7 +98,7 @@ impl<'a> Reach<'a> {
             }
         }
         let definitions = definitions(objects, evaluation);
-        Reach { objects, definitions, linked, reached: QuickMap::default(), waiting: Vec::new() }
+        Reach { objects, evaluation, definitions, linked, reached: QuickMap::default(), waiting: Vec::new() }
     }
 
     fn add(&mut self, part: Part) {
@@ -117,7 +118,9 @@ impl<'a> Reach<'a> {
                 (Some(object), Some(section)) => (object, SectionIndex(section)),
                 _ => continue,
             };
-            for relocation in object.relocations(section) {
+            let shortened = self.linked.get(&part).and_then(|id| self.evaluation.shortened.get(id));
+            let stays = |one: &Relocation| shortened.map_or(true, |now| now.field(one.offset).is_some());
+            for relocation in object.relocations(section).filter(stays) {
                 let target = object.symbol(relocation.symbol).and_then(|symbol| self.target(part.object, &symbol));
                 if let Some(target) = target {
                     self.add(target);

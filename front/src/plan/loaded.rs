@@ -28,7 +28,8 @@ pub(super) fn load(evaluation: &mut Evaluation) -> MadeLoaded {
 }
 
 fn becomes_loaded(section: &InputSection, evaluation: &Evaluation) -> bool {
-    let is_plain = section.kind == elf::SHT_PROGBITS && section.bits & u64::from(elf::SHF_COMPRESSED) == 0;
+    let is_plain = matches!(section.kind, elf::SHT_PROGBITS | elf::SHT_STRTAB)
+        && section.bits & u64::from(elf::SHF_COMPRESSED) == 0;
     let is_taken = section.size > 0 && !section.flags.has(Flags::CREATED | Flags::EXCLUDE);
     if section.bits & ALLOC != 0 || !is_plain || !is_taken || section.number().is_none() {
         return false;

@@ -20,6 +20,7 @@ mod programs;
 mod references;
 mod scripts;
 mod settings;
+mod shortened;
 mod stack;
 mod symbols;
 mod table;
@@ -50,6 +51,7 @@ use notes::Notes;
 pub use programs::{find_program, is_own, others, own_version, Environment, WITHIN};
 pub use scripts::{Scripts, ScriptsFault};
 pub use settings::settings_of;
+use shortened::ShortenedObjects;
 use table::Table;
 
 /// Why there is no plan.
@@ -190,7 +192,9 @@ pub struct LinkPlan {
     made_loaded: MadeLoaded,
     /// The objects that merging has made.
     remade: Remade,
-    /// The objects as the session is to hold them, if these are others than were read.
+    /// The objects of which rows are left out.
+    shortened: ShortenedObjects,
+    /// The objects as the session is to hold them, where these are others than were read.
     changed: Option<Vec<Held>>,
 }
 
@@ -214,12 +218,12 @@ impl LinkPlan {
     pub fn begin(command: &Command, inputs: Inputs) -> Begun {
         let settings = settings_of(command, &inputs.scripts);
         let laid_out = as_collected(command, &inputs, laid_out(&inputs, &settings));
-        Begun::new(command, inputs, laid_out, None, Remade::default())
+        Begun::new(command, inputs, laid_out, None, Default::default())
     }
 
     /// Writes the script in the profile.
     pub fn finish(command: &Command, begun: Begun) -> LinkPlan {
-        let Begun { inputs, layout, evaluation, made_loaded, remade, names, held } = begun;
+        let Begun { inputs, layout, evaluation, made_loaded, remade, shortened, names, held } = begun;
         let keeps_more = layout.as_ref().map_or(false, Layout::keeps_named_by_frames);
         let mut residual = written(command, &inputs, evaluation.as_ref().ok(), keeps_more);
         let table =
@@ -232,7 +236,20 @@ impl LinkPlan {
         let wanted = evaluation.as_ref().ok().filter(|_| !form.is_flat && form.symbols.strip != Strip::All);
         let names = wanted.map(|evaluation| LinkedNames::of(inputs.objects(), evaluation, names));
         let tables = KeptTables::default();
-        LinkPlan { inputs, evaluation, residual, options, form, tables, layout, names, made_loaded, remade, changed }
+        LinkPlan {
+            inputs,
+            evaluation,
+            residual,
+            options,
+            form,
+            tables,
+            layout,
+            names,
+            made_loaded,
+            remade,
+            shortened,
+            changed,
+        }
     }
 
     /// The plan for files that have other bytes now; `None` if all must be planned anew, as these files are no objects,
@@ -268,7 +285,7 @@ impl LinkPlan {
             None => laid_out(&self.inputs, &settings),
         };
         let laid_out = as_collected(command, &self.inputs, laid_out);
-        let begun = Begun::new(command, self.inputs, laid_out, self.names, self.remade);
+        let begun = Begun::new(command, self.inputs, laid_out, self.names, (self.remade, self.shortened));
         Some(LinkPlan::finish(command, begun))
     }
 
@@ -295,6 +312,7 @@ impl LinkPlan {
             let mut held = inputs.held.clone();
             let collects = self.options.collects_sections;
             self.remade.put(&mut held, inputs.objects(), evaluation, made_loaded, collects);
+            self.shortened.put(&mut held, evaluation);
             changed_of(held, inputs, evaluation, made_loaded, &self.residual)
         });
     }
@@ -344,7 +362,7 @@ fn changed_of(
     let has_commons = inputs.objects().iter().any(|object| object.has_commons());
     let overridden = overridden::names(evaluation);
     let is_as_read = made_loaded.is_empty() && !has_commons && residual.aliases.is_empty() && overridden.is_empty();
-    if is_as_read && evaluation.merges.is_empty() {
+    if is_as_read && evaluation.merges.is_empty() && evaluation.shortened.is_empty() {
         return None;
     }
     loaded::with_flags(&mut held, made_loaded);

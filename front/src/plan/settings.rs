@@ -4,6 +4,7 @@ use bstr::{BString, ByteSlice};
 use indexmap::IndexMap;
 
 use super::stack::says_stack;
+use super::symbols::strips_debugging;
 use super::Scripts;
 use crate::command::{Command, Input, Orphans};
 use crate::layout::settings::{GcSettings, OrphanHandling};
@@ -24,6 +25,8 @@ pub fn settings_of(command: &Command, scripts: &Scripts) -> Settings {
         script_first: scripts.is_own && script_is_first(command),
         flat: super::is_flat(command, scripts),
         merges: true,
+        strips_debugging: strips_debugging(command),
+        is_traditional: command.is_traditional,
         ..Settings::default()
     };
     settings.set_pages(command.page_size, command.common_page_size);

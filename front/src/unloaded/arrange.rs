@@ -1,16 +1,16 @@
 //! The order and places of what is in the sections that are not loaded.
 
 use std::borrow::Cow;
+use std::sync::Arc;
 
 use object::elf;
 
 use super::compressed::inflated;
-use super::stabs::{self, Row, Stabs};
 use super::strings::Strings;
 use super::NotMade;
 use crate::layout::evaluation::{Evaluation, Gap, InputSection, OutputSection, Placed, StatementKind};
 use crate::layout::ids::SectionId;
-use crate::objects::{MergedPart, Object, SectionFlags};
+use crate::objects::{MergedPart, Object, SectionFlags, Shortened};
 use crate::quick::QuickMap;
 
 /// Names of sections of debug information begin so (bfd/elf.c, `_bfd_elf_make_section_from_shdr`).
@@ -35,14 +35,14 @@ pub(super) struct Piece<'a> {
     pub(super) bytes: Cow<'a, [u8]>,
     /// The input section, whose relocations apply.
     pub(super) section: Option<SectionId>,
-    /// The rows that stay of the bytes, if these are stabs.
-    pub(super) rows: Option<Vec<Row>>,
+    /// What stays of the section, if it is not all.
+    pub(super) shortened: Option<&'a Shortened>,
 }
 
 impl Piece<'_> {
     /// Its bytes in the file.
     pub(super) fn size(&self) -> usize {
-        self.rows.as_ref().map_or(self.bytes.len(), |rows| stabs::size(rows))
+        self.bytes.len()
     }
 }
 
@@ -62,8 +62,6 @@ pub(super) struct Arrangement<'a> {
     spots: QuickMap<usize, Spot>,
     /// Strings that were merged together, and the sections that have them.
     strings: Vec<(Strings, Vec<SectionId>)>,
-    /// The merged stabs of each section that has some.
-    stabs: QuickMap<SectionId, Stabs>,
 }
 
 impl<'a> Arrangement<'a> {
@@ -80,8 +78,6 @@ impl<'a> Arrangement<'a> {
             .filter(|(_, place)| !place.is_allocated())
             .map(|(output, place)| Making { evaluation, objects, strips_debugging, output, place })
             .collect();
-        let taken: Vec<SectionId> = makings.iter().flat_map(Making::taken).collect();
-        arrangement.stabs = stabs::merged(evaluation, objects, &taken);
         for one in makings {
             if let Some(arranged) = one.arranged(&mut arrangement)? {
                 arrangement.outputs.push(arranged);
@@ -141,9 +137,6 @@ impl<'a> Making<'a> {
             if taken.iter().any(|id| self.section(*id).map_or(false, is_compressed)) {
                 return Err(NotMade::Compressed(output.name.clone()));
             }
-            if taken.iter().any(|id| into.stabs.contains_key(id)) {
-                return Err(NotMade::Stabs(output.name.clone()));
-            }
             self.keep_places(into, &taken, &mut arranged);
         } else {
             self.pack(into, &taken, &mut arranged)?;
@@ -186,7 +179,10 @@ impl<'a> Making<'a> {
         self.evaluation.merges_beside.part(section.object, section.number()?)
     }
 
-    fn bytes(&self, section: &InputSection) -> &'a [u8] {
+    fn bytes(&self, id: SectionId, section: &InputSection) -> &'a [u8] {
+        if let Some(shortened) = self.evaluation.shortened.get(&id) {
+            return &shortened.contents;
+        }
         if let Some(part) = self.part(section) {
             return &part.contents;
         }
@@ -196,7 +192,7 @@ impl<'a> Making<'a> {
 
     /// The bytes of a section and its alignment, as they were before they were compressed; zeros of one that has none,
     /// as a `.bss` in a section of type INFO.
-    fn content(&self, section: &InputSection) -> Result<Content<'a>, NotMade> {
+    fn content(&self, id: SectionId, section: &InputSection) -> Result<Content<'a>, NotMade> {
         let align = section.align.max(1);
         if section.kind == elf::SHT_NOBITS {
             let size =
@@ -204,10 +200,10 @@ impl<'a> Making<'a> {
             return Ok(Content { bytes: Cow::Owned(vec![0; size]), align });
         }
         if !is_compressed(section) {
-            return Ok(Content { bytes: Cow::Borrowed(self.bytes(section)), align });
+            return Ok(Content { bytes: Cow::Borrowed(self.bytes(id, section)), align });
         }
         let name = || self.evaluation.section_name(section).to_owned();
-        let (bytes, align) = inflated(self.bytes(section)).ok_or_else(|| NotMade::Compressed(name()))?;
+        let (bytes, align) = inflated(self.bytes(id, section)).ok_or_else(|| NotMade::Compressed(name()))?;
         Ok(Content { bytes: Cow::Owned(bytes), align })
     }
 
@@ -235,8 +231,8 @@ impl<'a> Making<'a> {
         let mut contents: Vec<(SectionId, Content<'a>, bool)> = Vec::with_capacity(taken.len());
         for id in taken {
             if let Some(section) = self.section(*id) {
-                let content = self.content(section)?;
-                let is_merged = self.is_merged(section, &content) && !into.stabs.contains_key(id);
+                let content = self.content(*id, section)?;
+                let is_merged = self.is_merged(section, &content);
                 contents.push((*id, content, is_merged));
             }
         }
@@ -252,21 +248,15 @@ impl<'a> Making<'a> {
         let mut at = 0u64;
         for (id, content, _) in contents {
             let part = parts.get(&id).copied();
-            let mut rows = None;
-            let Content { bytes, align } = match (part.and_then(|part| strings.kept.get(part)), into.stabs.get(&id)) {
-                (Some(kept), _) => Content { bytes: Cow::Owned(kept.clone()), align: 1 },
-                (None, Some(Stabs::Names(names))) => Content { bytes: Cow::Owned(names.clone()), align: 1 },
-                (None, Some(Stabs::Gone)) => continue,
-                (None, Some(Stabs::Rows(kept))) => {
-                    rows = Some(kept.clone());
-                    content
-                }
-                (None, None) => content,
+            let Content { bytes, align } = match part.and_then(|part| strings.kept.get(part)) {
+                Some(kept) => Content { bytes: Cow::Owned(kept.clone()), align: 1 },
+                None => content,
             };
             at = at.checked_add(at.wrapping_neg() & (align - 1)).ok_or(NotMade::TooLarge)?;
             let address = self.place.address.wrapping_add(at);
             into.spots.insert(id.index(), Spot { address, strings: part.map(|part| (together, part)) });
-            let piece = Piece { at, bytes, section: Some(id), rows };
+            let piece =
+                Piece { at, bytes, section: Some(id), shortened: self.evaluation.shortened.get(&id).map(Arc::as_ref) };
             let next = at.checked_add(piece.size() as u64).ok_or(NotMade::TooLarge)?;
             arranged.pieces.push(piece);
             at = next;
@@ -285,8 +275,9 @@ impl<'a> Making<'a> {
             if let Some(section) = self.section(*id) {
                 let address = self.place.address.wrapping_add(section.offset);
                 into.spots.insert(id.index(), Spot { address, strings: None });
-                let bytes = Cow::Borrowed(self.bytes(section));
-                arranged.pieces.push(Piece { at: section.offset, bytes, section: Some(*id), rows: None });
+                let bytes = Cow::Borrowed(self.bytes(*id, section));
+                let shortened = self.evaluation.shortened.get(id).map(Arc::as_ref);
+                arranged.pieces.push(Piece { at: section.offset, bytes, section: Some(*id), shortened });
             }
         }
         for statement in self.output.body.iter().filter_map(|id| self.evaluation.statement(*id)) {
@@ -294,7 +285,12 @@ impl<'a> Making<'a> {
                 StatementKind::Data { offset, size, value } => {
                     let bytes = value.to_le_bytes();
                     let bytes = bytes.get(..usize::from(*size)).unwrap_or_default().to_vec();
-                    arranged.pieces.push(Piece { at: *offset, bytes: Cow::Owned(bytes), section: None, rows: None });
+                    arranged.pieces.push(Piece {
+                        at: *offset,
+                        bytes: Cow::Owned(bytes),
+                        section: None,
+                        shortened: None,
+                    });
                 }
                 StatementKind::Dot { gap: Some(gap), .. } => arranged.pieces.extend(filled(gap)),
                 StatementKind::Input { gaps, .. } => arranged.pieces.extend(gaps.iter().filter_map(filled)),
@@ -314,5 +310,5 @@ fn filled<'a>(gap: &Gap) -> Option<Piece<'a>> {
     let fill = gap.fill.as_ref().filter(|fill| fill.iter().any(|byte| *byte != 0))?;
     let size = usize::try_from(gap.size).ok()?;
     let bytes: Vec<u8> = fill.iter().copied().cycle().take(size).collect();
-    Some(Piece { at: gap.offset, bytes: Cow::Owned(bytes), section: None, rows: None })
+    Some(Piece { at: gap.offset, bytes: Cow::Owned(bytes), section: None, shortened: None })
 }

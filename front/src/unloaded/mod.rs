@@ -13,7 +13,6 @@ mod image;
 mod kept;
 mod places;
 mod relocate;
-mod stabs;
 mod strings;
 mod targets;
 
@@ -47,9 +46,6 @@ pub enum NotMade {
     /// A section is compressed in another way than by zlib, or stands beside data of the script.
     #[error("{0} is compressed")]
     Compressed(BString),
-    /// Stabs stand beside data of the script.
-    #[error("{0}: stabs beside data of the script")]
-    Stabs(BString),
     /// There are too many bytes.
     #[error("sections that are not loaded are too large")]
     TooLarge,
@@ -264,12 +260,6 @@ fn run(jobs: Vec<Job<'_>>, targets: Option<&Targets<'_>>) -> Result<(), NotMade>
 /// Writes a piece.
 fn write(job: Job<'_>, targets: Option<&Targets<'_>>) -> Result<(), NotMade> {
     let Job { piece, address, bytes } = job;
-    if let Some(rows) = &piece.rows {
-        let mut content = piece.bytes.to_vec();
-        apply(piece, address, &mut content, targets)?;
-        stabs::write(rows, &content, bytes);
-        return Ok(());
-    }
     bytes.copy_from_slice(&piece.bytes);
     apply(piece, address, bytes, targets)
 }
@@ -291,7 +281,9 @@ fn apply(piece: &Piece<'_>, address: u64, bytes: &mut [u8], targets: Option<&Tar
     };
     let name = targets.evaluation.section_name(section);
     let placeholder = u64::from(name.as_bytes() == RANGES);
-    for one in object.relocations(number) {
+    let place = |offset| piece.shortened.map_or(Some(offset), |shortened| shortened.field(offset));
+    let relocations = object.relocations(number);
+    for one in relocations.filter_map(|one| Some(Relocation { offset: place(one.offset)?, ..one })) {
         let fault = |fault| NotMade::Relocation { object: object.name().to_owned(), section: name.to_owned(), fault };
         let value = value_of(targets, section.object, &one, address).map_err(fault)?;
         relocate::apply(bytes, &one, value, placeholder).map_err(fault)?;

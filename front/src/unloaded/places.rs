@@ -43,8 +43,8 @@ impl<'a> Places<'a> {
             let loaded = object.sections().filter(|one| one.flags.has(SectionFlags::ALLOC) && one.kind.is_linked());
             let mut taken: HashMap<(&BStr, u64), usize> = HashMap::new();
             for section in loaded {
-                let merged = self.evaluation.merges.size(ObjectIndex(number as u32), section.index);
-                let size = merged.unwrap_or(section.size);
+                let known = self.find(ObjectIndex(number as u32), section.index);
+                let size = known.map_or(section.size, |(_, known)| known.size);
                 let count = taken.entry((section.name, size)).or_default();
                 let own = pieces.get(&(object.name(), section.name, size));
                 if let Some(address) = own.and_then(|own| own.get(*count)) {

@@ -12,7 +12,8 @@ use super::Symbols;
 use crate::layout::evaluation::{InputSection, OutputSection, StatementKind};
 use crate::layout::ids::SectionId;
 use crate::layout::{Evaluation, Flags, Merges};
-use crate::objects::{Object, ObjectIndex, Section, SectionFlags, SectionIndex};
+use crate::objects::{Object, ObjectIndex, Section, SectionFlags, SectionIndex, Shortened};
+use crate::quick::QuickMap;
 use crate::report::link_map::{LinkMap, Piece};
 use crate::unloaded::Spans;
 
@@ -42,6 +43,8 @@ pub(super) struct Places {
     order: Vec<usize>,
     /// What is merged, of sections that are loaded and of others.
     merges: [Arc<Merges>; 2],
+    /// By object and section: what stays of a section.
+    shortened: QuickMap<(usize, SectionIndex), Arc<Shortened>>,
     /// Whether the map does not say where some section is.
     has_lost: bool,
 }
@@ -55,6 +58,7 @@ impl Places {
             is_merged: Vec::new(),
             order: Vec::new(),
             merges: [Arc::clone(&symbols.evaluation.merges), Arc::clone(&symbols.evaluation.merges_beside)],
+            shortened: shortened_of(symbols.evaluation),
             has_lost: false,
         };
         let mut count = 0;
@@ -100,7 +104,13 @@ impl Places {
             let (now, offset) = merges.find_map(|merges| merges.place(ObjectIndex(object as u32), section, offset))?;
             return Some((self.get(now.object.0 as usize, now.section)?, offset));
         }
+        let offset = self.shortened(object, section).map_or(offset, |now| now.named(offset));
         Some((self.get(object, section)?, offset))
+    }
+
+    /// What stays of a section of an object, where that is not all.
+    pub(super) fn shortened(&self, object: usize, section: SectionIndex) -> Option<&Shortened> {
+        self.shortened.get(&(object, section)).map(Arc::as_ref)
     }
 
     /// The objects in the order in which their local symbols are written.
@@ -122,7 +132,8 @@ impl Places {
     /// Puts a section where the layout has it.
     fn put(&mut self, section: &InputSection, evaluation: &Evaluation, outputs: &Outputs) -> Option<()> {
         let number = section.number()?;
-        let id = section.output().filter(|_| !section.flags.has(Flags::EXCLUDE))?;
+        let keeps_names = || self.shortened(section.object.0 as usize, number).is_some();
+        let id = section.output().filter(|_| !section.flags.has(Flags::EXCLUDE) || keeps_names())?;
         evaluation.output(id)?.in_image()?;
         let output = outputs.get(id)?;
         let is_merged = section.flags.has(Flags::MERGE);
@@ -153,7 +164,8 @@ impl Places {
             let size_of = |section: &Section<'_>| {
                 let mut merges = self.merges.iter();
                 let merged = merges.find_map(|merges| merges.size(ObjectIndex(number as u32), section.index));
-                self.get(number, section.index).map(|_| merged.unwrap_or(section.size))
+                let shortened = || self.shortened(number, section.index).map(|now| now.contents.len() as u64);
+                self.get(number, section.index).map(|_| merged.or_else(shortened).unwrap_or(section.size))
             };
             let found = found_in(object, &own, &size_of);
             for section in object.sections() {
@@ -178,6 +190,15 @@ impl Places {
     pub(super) fn is_whole(&self) -> bool {
         !self.has_lost
     }
+}
+
+/// What stays of sections, by object and section.
+fn shortened_of(evaluation: &Evaluation) -> QuickMap<(usize, SectionIndex), Arc<Shortened>> {
+    let of = |(id, now): (&SectionId, &Arc<Shortened>)| {
+        let section = evaluation.section(*id)?;
+        Some(((section.object.0 as usize, section.number()?), Arc::clone(now)))
+    };
+    evaluation.shortened.iter().filter_map(of).collect()
 }
 
 /// A piece of the map, with the number of its output section and its start.

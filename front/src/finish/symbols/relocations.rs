@@ -32,7 +32,11 @@ pub(super) fn relocated<'a>(
 ) -> impl Iterator<Item = (Place, Relocation)> + 'a {
     let place = move |index: SectionIndex| places.get(number, index);
     let placed = object.sections().filter_map(move |section| Some((section.index, place(section.index)?)));
-    placed.flat_map(move |(index, place)| object.relocations(index).map(move |one| (place, one)))
+    placed.flat_map(move |(index, place)| {
+        let shortened = places.shortened(number, index);
+        let stays = move |one: &Relocation| shortened.map_or(true, |now| now.place(one.offset).is_some());
+        object.relocations(index).filter(stays).map(move |one| (place, one))
+    })
 }
 
 /// By object and symbol: whether a relocation that is in GNU ld's file refers to it, also one of what is not loaded.
@@ -122,8 +126,18 @@ pub(super) fn tables(symbols: &Symbols<'_>, places: &Places, numbers: &Numbers<'
     do_all(jobs, &|(input, rows): (&Input, &mut [u8])| {
         if let (Some(object), Some(targets)) = (symbols.objects.get(input.object), targets.get(input.object)) {
             let relocations = object.relocations(input.section);
+            let shortened = places.shortened(input.object, input.section);
+            let mut last = input.place.address;
             for (row, one) in rows.chunks_exact_mut(ENTRY).zip(relocations) {
-                let words = row_of(input, &one, targets.get(one.symbol.0 as usize), places, numbers);
+                let words = match shortened.map_or(Some(one.offset), |now| now.place(one.offset)) {
+                    Some(offset) => {
+                        let one = Relocation { offset, ..one };
+                        row_of(input, &one, targets.get(one.symbol.0 as usize), places, numbers)
+                    }
+                    // elflink.c, `elf_link_input_bfd`: of what is left out, where the one before it is.
+                    None => [last, 0, 0],
+                };
+                last = words[0];
                 row.chunks_exact_mut(8).zip(words).for_each(|(to, word)| to.copy_from_slice(&word.to_le_bytes()));
             }
         }
