@@ -9,7 +9,7 @@ from collections.abc import Iterable
 from tests.fuzz import objects
 from tests.fuzz.adapted import link_adapted
 from tests.fuzz.linked import CRASHED, REFUSED, SAME, SILENT, TWICE, link, prepare
-from tests.fuzz.scripts import case
+from tests.fuzz.scripts import case, with_frames
 from tests.linking import needs
 
 COUNT = 300
@@ -51,6 +51,14 @@ class FuzzTest(unittest.TestCase):
         objects.make(".", 1)
         for seed in range(600000, 600000 + COUNT // 5):
             came = link(case(seed))
+            self.assertNotIn(came.outcome, (SILENT, CRASHED), f"{seed}: {came.found} {came.said}")
+
+    def test_frames(self) -> None:
+        """So with entries of `.eh_frame` and with stabs, of which GNU ld leaves some out."""
+        for seed in range(9000000, 9000000 + COUNT // 4):
+            one = with_frames(case(seed, seed % 3 == 0, TWICE), seed)
+            one.objects += objects.make_frames(".", seed)
+            came = link(one)
             self.assertNotIn(came.outcome, (SILENT, CRASHED), f"{seed}: {came.found} {came.said}")
 
     def test_adapted(self) -> None:

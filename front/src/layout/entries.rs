@@ -1,5 +1,5 @@
 //! Reads the entries of `.eh_frame` as GNU ld does (elf-eh-frame.c, `_bfd_elf_parse_eh_frame`), which leaves a section
-//! as it is where it does not understand it.
+//! as it is if it does not understand it.
 
 use crate::objects::{Object, Relocation, SectionIndex, SymbolIndex};
 use bstr::ByteSlice;
@@ -354,7 +354,7 @@ impl<'a> Reader<'a> {
     }
 }
 
-/// The bytes of an address by its encoding; 0 where that has none of one size (`get_DW_EH_PE_width`).
+/// The bytes of an address by its encoding; 0 if that has none of one size (`get_DW_EH_PE_width`).
 fn width_of(encoding: u8) -> usize {
     match encoding & 7 {
         _ if encoding & 0x60 == 0x60 => 0,

@@ -37,7 +37,7 @@ struct Section {
 /// An entry, and what becomes of it.
 struct Edited {
     entry: Entry,
-    /// Its place in the section, where it stays.
+    /// Its place in the section, if it stays.
     now: Option<u64>,
     /// Of the entry of a function, and of a CIE that is merged: the CIE, by section and number.
     common: Option<(usize, usize)>,

@@ -127,7 +127,7 @@ impl Link<'_> {
         end
     }
 
-    /// Lays out again where sections have other sizes, and while the number of program headers changes (ldelf.c,
+    /// Lays out again if sections have other sizes, and while the number of program headers changes (ldelf.c,
     /// `ldelf_map_segments`).
     pub fn settle_headers(&mut self, checks: bool, is_other: bool) -> Result<(), Stop> {
         let mut tries = TRIES;

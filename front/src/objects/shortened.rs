@@ -76,7 +76,7 @@ impl Shortened {
         at.and_then(|at| self.names.get(at)).map_or(value, |(from, to)| to.wrapping_add(value - from))
     }
 
-    /// Gives a field other bytes, by where it was; gives nothing where it was left out.
+    /// Gives a field other bytes, by where it was; does nothing if it was left out.
     pub fn write(&mut self, from: u64, bytes: &[u8]) {
         let to = self.place(from).and_then(|to| usize::try_from(to).ok());
         if let Some(field) = to.and_then(|to| self.contents.get_mut(to..to.checked_add(bytes.len())?)) {
