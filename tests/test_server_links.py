@@ -55,6 +55,13 @@ CHANGES = (
 )
 """An object in which there is more or less of what a script, a layout and a check go by."""
 
+DEBUGGED = """enum { value = %d };
+int other = value;
+#line %d
+int b(int x) { enum { more = %d } own = more; return x + value + own; }
+"""
+"""An object whose code, data and debug information have other bytes at the same places for other numbers."""
+
 
 class EditTest(ServerTest):
     """One change after the other."""
@@ -94,6 +101,27 @@ class EditTest(ServerTest):
             self.compile("b.c", text)
             self.served()
             self.assertEqual(self.image(), self.expected(), text)
+
+    def test_all_of_a_file(self) -> None:
+        """Debug information, relocations, a build ID and a map, after edits of bytes alone and after others."""
+        words = ("-q", "--build-id", "-Map=image.map", "--cref", *WORDS)
+        self.write("t.ld", SCRIPT.replace("  .data :", "  .notes : { *(.note.gnu.build-id) }\n  .data :"))
+        for name, text in SOURCES.items():
+            self.compile(name, text, "-g")
+        self.start(*words)
+        same = [DEBUGGED % (1000 + number, 100 + number, 2000 + number) for number in range(4)]
+        longer = "int more; " + SOURCES["b.c"]
+        for texts in ((same[0], same[1], same[2]), (longer, same[0], same[3], same[1]), (SOURCES["b.c"],)):
+            for text in texts:
+                with self.subTest(text=text):
+                    self.compile("b.c", text, "-g")
+                    self.assert_same(*words)
+        for number, text in enumerate(same):
+            with self.subTest(both=number):
+                self.compile("b.c", text, "-g")
+                self.compile("c.c", f"int unused = {number + 1}; const char text[] = \"{number}ome text\";", "-g")
+                self.assert_same(*words)
+                self.assert_same(*words)
 
     def test_words(self) -> None:
         """The order of objects, some that come and go, --defsym, --gc-sections, other scripts, texts and INCLUDEs."""

@@ -6,7 +6,9 @@ use super::image::{Image, Segment};
 use super::symbols::Tables;
 use super::unloaded::Unloaded;
 use crate::mirror::Answered;
+use crate::objects::Object;
 use crate::snapshot::Bytes;
+use crate::unloaded::Before;
 
 /// The tables of a link whose objects get other bytes and say the same of names, sections and relocations.
 #[derive(Debug, Default)]
@@ -21,8 +23,11 @@ pub struct KeptTables {
 struct Made {
     /// The number of the answer with the image that they are of.
     answer: u64,
-    /// The sections that are not loaded, without their bytes.
+    /// The sections that are not loaded, and the objects that they are of.
     unloaded: Vec<Unloaded>,
+    objects: Vec<Object>,
+    /// Whether the bytes of these sections are there.
+    is_whole: bool,
     tables: Tables,
 }
 
@@ -39,33 +44,68 @@ impl KeptTables {
         }
     }
 
+    /// The sections that are not loaded of the image before, if an image differs from that in loaded bytes alone: those
+    /// of some objects that got other bytes.
+    pub fn before(&mut self, answered: &Answered, objects: &[Object]) -> Option<Before> {
+        let image = Image::read(answered).ok()?;
+        let made = self.made.as_mut().filter(|made| made.is_whole && made.objects.len() == objects.len())?;
+        if !made.is_of(answered, &image) {
+            return None;
+        }
+        made.is_whole = false;
+        let without_bytes = made.unloaded.iter().map(without_bytes).collect();
+        let unloaded = std::mem::replace(&mut made.unloaded, without_bytes);
+        let is_other = |(old, new): (&Object, &Object)| !old.data().is_identical(new.data());
+        Some(Before { unloaded, is_other: made.objects.iter().zip(objects).map(is_other).collect() })
+    }
+
     /// The tables, if they are those of an image with these sections that are not loaded.
-    pub(super) fn of(&mut self, answered: &Answered, image: &Image<'_>, unloaded: &[Unloaded]) -> Option<Tables> {
+    pub(super) fn of(
+        &mut self,
+        answered: &Answered,
+        image: &Image<'_>,
+        unloaded: &[Unloaded],
+        objects: &[Object],
+    ) -> Option<Tables> {
         let made = self.made.as_mut()?;
-        let changed = answered.changed_since(made.answer)?;
-        let is_loaded = |range: &Range<usize>| image.segments.iter().any(|segment| has(segment, range));
         let are_same = made.unloaded.len() == unloaded.len()
-            && made.unloaded.iter().zip(unloaded).all(|(one, other)| *one == without_bytes(other));
-        if !are_same || !changed.iter().all(is_loaded) {
+            && made.unloaded.iter().zip(unloaded).all(|(one, other)| without_bytes(one) == without_bytes(other));
+        if !are_same || !made.is_of(answered, image) {
             return None;
         }
         made.answer = answered.number();
+        made.hold(unloaded, objects);
         Some(made.tables.clone())
     }
 
     /// Keeps tables that were made of an image.
-    pub(super) fn keep(&mut self, answered: &Answered, unloaded: &[Unloaded], tables: &Tables) {
+    pub(super) fn keep(&mut self, answered: &Answered, unloaded: &[Unloaded], objects: &[Object], tables: &Tables) {
         let made = || Made {
             answer: answered.number(),
-            unloaded: unloaded.iter().map(without_bytes).collect(),
+            unloaded: unloaded.to_vec(),
+            objects: objects.to_vec(),
+            is_whole: true,
             tables: tables.clone(),
         };
         self.made = self.is_wanted.then(made);
     }
 }
 
+impl Made {
+    /// Whether an image differs in loaded bytes alone from that which these are of.
+    fn is_of(&self, answered: &Answered, image: &Image<'_>) -> bool {
+        let is_loaded = |range: &Range<usize>| image.segments.iter().any(|segment| has(segment, range));
+        answered.changed_since(self.answer).map_or(false, |changed| changed.iter().all(is_loaded))
+    }
+
+    fn hold(&mut self, unloaded: &[Unloaded], objects: &[Object]) {
+        (self.unloaded, self.objects, self.is_whole) = (unloaded.to_vec(), objects.to_vec(), true);
+    }
+}
+
 fn without_bytes(one: &Unloaded) -> Unloaded {
-    Unloaded { content: Bytes::default(), ..one.clone() }
+    let Unloaded { kind, flags, address, align, entry_size, size, .. } = *one;
+    Unloaded { name: one.name.clone(), kind, flags, address, align, entry_size, size, content: Bytes::default() }
 }
 
 /// Whether a range of the image is loaded by a segment.
@@ -84,7 +124,7 @@ mod tests {
     }
 
     fn is_known(kept: &mut KeptTables, answered: &Answered, unloaded: &[Unloaded]) -> bool {
-        kept.of(answered, &Image::read(answered).unwrap(), unloaded).is_some()
+        kept.of(answered, &Image::read(answered).unwrap(), unloaded, &[]).is_some()
     }
 
     #[test]
@@ -94,10 +134,10 @@ mod tests {
         let within = start..start + segment.file_size as usize;
         let tables = Tables { symbols: Default::default(), sections: Default::default() };
         let mut kept = KeptTables::default();
-        kept.keep(&answer(None, 1), &[], &tables);
+        kept.keep(&answer(None, 1), &[], &[], &tables);
         assert!(!is_known(&mut kept, &answer(None, 2), &[]), "nobody wants them");
         kept.want();
-        kept.keep(&answer(None, 2), &[], &tables);
+        kept.keep(&answer(None, 2), &[], &[], &tables);
         assert!(is_known(&mut kept, &answer(Some(within.clone()), 3), &[]));
         assert!(!is_known(&mut kept, &answer(None, 5), &[]), "an image was answered between");
         kept.follow(&answer(None, 4));
@@ -114,7 +154,7 @@ mod tests {
             content: b"text".to_vec().into(),
         };
         assert!(!is_known(&mut kept, &answer(None, 6), std::slice::from_ref(&one)), "another section");
-        kept.keep(&answer(None, 6), std::slice::from_ref(&one), &tables);
+        kept.keep(&answer(None, 6), std::slice::from_ref(&one), &[], &tables);
         let other = Unloaded { content: b"more".to_vec().into(), ..one.clone() };
         assert!(is_known(&mut kept, &answer(None, 7), &[other]));
         assert!(!is_known(&mut kept, &text_and_data().into(), &[]), "of no session");

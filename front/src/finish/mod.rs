@@ -195,13 +195,13 @@ fn put_symbols(
     let (table, sections) = match symbols {
         Some(symbols) if form.symbols.has_table() => {
             let by_map = symbols.map.is_some();
-            let known = if by_map { None } else { kept.of(data, &image, unloaded) };
+            let known = if by_map { None } else { kept.of(data, &image, unloaded, symbols.objects) };
             let found = match known {
                 Some(known) => known,
                 None => {
                     let found = symbols::table_of(&image, symbols, &form.symbols, &form.names, unloaded)?;
                     if !by_map {
-                        kept.keep(data, unloaded, &found);
+                        kept.keep(data, unloaded, symbols.objects, &found);
                     }
                     found
                 }

@@ -2,20 +2,20 @@
 
 use std::collections::HashMap;
 
+use bstr::BString;
+
 use super::expression::{assertion, assignment, number_of, text_of};
 use super::names::Defined;
+use super::text::{Text, COLUMN};
 use super::{dot, padded, Request};
 use crate::layout::evaluation::{Gap, InputSection, OutputSection, Statement, StatementKind};
 use crate::layout::ids::{OutputId, SectionId, StatementId};
 use crate::layout::Flags;
-use crate::objects::{LinkNames, SectionIndex};
+use crate::objects::SectionIndex;
 use crate::script::tree::{
     self, Assertion, Assignment, DataWidth, Expr, Fill, InputStatement, Pattern, Provision, Script, SectionStatement,
     SectionsStatement, Sort, Span,
 };
-
-/// The column of addresses (`SECTION_NAME_MAP_LENGTH`).
-const COLUMN: usize = 16;
 
 /// What stands at a place of the script.
 #[derive(Clone, Copy)]
@@ -32,8 +32,10 @@ enum Node<'a> {
 pub(super) struct Body<'a> {
     request: &'a Request<'a>,
     nodes: HashMap<Span, Node<'a>>,
-    defined: Defined,
-    text: Vec<u8>,
+    defined: Defined<'a>,
+    /// The names of the objects, as GNU ld prints them.
+    owners: Vec<BString>,
+    text: Text,
     /// The start of the output section that is written.
     start: u64,
     /// Where the last thing ends that was written (`print_dot`).
@@ -41,20 +43,20 @@ pub(super) struct Body<'a> {
 }
 
 impl<'a> Body<'a> {
-    pub(super) fn new(request: &'a Request<'a>, known: &LinkNames) -> Body<'a> {
-        let defined = Defined::of(request, known);
-        Body { request, nodes: nodes_of(request.script), defined, text: Vec::new(), start: 0, dot: 0 }
+    pub(super) fn new(request: &'a Request<'a>) -> Body<'a> {
+        let (nodes, defined) = (nodes_of(request.script), Defined::of(request));
+        let owners = request.objects.iter().map(|object| object.origin().full_name()).collect();
+        Body { request, nodes, defined, owners, text: Text::default(), start: 0, dot: 0 }
     }
 
     /// The text of some statements.
     pub(super) fn statements(&mut self, statements: &[StatementId]) -> Vec<u8> {
         statements.iter().for_each(|id| self.statement(*id));
-        std::mem::take(&mut self.text)
+        self.text.take()
     }
 
     fn line(&mut self, line: impl AsRef<[u8]>) {
-        self.text.extend_from_slice(line.as_ref());
-        self.text.push(b'\n');
+        self.text.put(line.as_ref()).end();
     }
 
     fn statement(&mut self, id: StatementId) {
@@ -95,34 +97,22 @@ impl<'a> Body<'a> {
             Some(output) => output,
             None => return,
         };
-        self.text.push(b'\n');
+        self.text.end();
         match &output.place {
             None => self.line(&output.name),
             Some(place) => {
                 let size = self.request.spans.output(id).unwrap_or(place.size);
-                let load = match place.address == place.load {
-                    true => String::new(),
-                    false => format!(" load address 0x{:016x}", place.load),
-                };
                 let address = place.address;
-                self.named(&output.name, &format!("0x{address:016x} {:>10}{load}", format!("{size:#x}")));
+                let text = self.text.name(b"", &output.name).address(address).size(size);
+                if address != place.load {
+                    text.put(b" load address ").address(place.load);
+                }
+                text.end();
                 self.start = address;
                 self.dot = address;
             }
         }
         output.body.iter().for_each(|id| self.statement(*id));
-    }
-
-    /// A name, and what stands in the column of addresses: on the next line behind a long one.
-    fn named(&mut self, name: &[u8], rest: &str) {
-        self.text.extend_from_slice(name);
-        if name.len() >= COLUMN - 1 {
-            self.text.push(b'\n');
-            self.text.extend_from_slice(&[b' '; COLUMN]);
-        } else {
-            self.text.extend(std::iter::repeat(b' ').take(COLUMN - name.len()));
-        }
-        self.line(rest);
     }
 
     /// `print_wild_statement`, and the sections with what is between them.
@@ -160,7 +150,7 @@ impl<'a> Body<'a> {
 
     fn filled(&mut self, address: u64, size: u64, fill: &str) {
         self.dot = address.wrapping_add(size);
-        self.named(b" *fill*", &format!("0x{address:016x} {:>10} {fill}", format!("{size:#x}")));
+        self.text.name(b"", b" *fill*").address(address).size(size).put(b" ").put(fill.as_bytes()).end();
     }
 
     /// `print_input_section`
@@ -175,20 +165,16 @@ impl<'a> Body<'a> {
             None => now == 0 && section.flags.has(Flags::EXCLUDE),
         };
         let size = if is_left_out { own } else { now };
-        let name = [b" ", &**evaluation.section_name(section)].concat();
-        let object = self.request.owner(section.object);
-        self.named(&name, &format!("0x{address:016x} {:>10} {object}", format!("{size:#x}")));
+        let owner = self.owners.get(section.object.0 as usize).map_or(&b""[..], |owner| owner);
+        let text = self.text.name(b" ", evaluation.section_name(section)).address(address).size(size);
+        text.put(b" ").put(owner).end();
         self.dot = self.dot.max(address.wrapping_add(size));
         if size != own && own != 0 {
             self.line(format!("{:35}{:>10} (size before relaxing)", "", format!("{own:#x}")));
         }
-        let names: Vec<String> = self
-            .defined
-            .in_section(id)
-            .iter()
-            .map(|(at, name)| format!("{:COLUMN$}0x{:016x}{:COLUMN$}{name}", "", address.wrapping_add(*at), ""))
-            .collect();
-        names.iter().for_each(|line| self.line(line));
+        for (at, name) in self.defined.in_section(id) {
+            self.text.blank(COLUMN).address(address.wrapping_add(*at)).blank(COLUMN).put(name).end();
+        }
     }
 
     /// The bytes that a section has in its object; as many as it has now if it has none there.

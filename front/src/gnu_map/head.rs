@@ -8,7 +8,8 @@ use super::body::in_column;
 use super::{library_path, padded, Request};
 use crate::command::Input;
 use crate::layout::{glob, Flags};
-use crate::objects::{Home, LinkNames, ObjectIndex, SectionKind};
+use crate::objects::{Home, NameFilter, ObjectIndex, SectionKind};
+use crate::quick::QuickMap;
 use crate::script::tree::{RegionAttributes, SectionStatement, SectionsStatement, Statement};
 
 /// The columns of files in the lists of members and of common blocks.
@@ -16,8 +17,8 @@ const MEMBER_COLUMN: usize = 30;
 const COMMON_COLUMN: usize = 20;
 
 /// The head of the map: members of archives, common blocks, sections that are left out, memory.
-pub(super) fn text(request: &Request<'_>, known: &LinkNames) -> String {
-    [members(request), commons(request, known), left_out(request), memory(request)].concat()
+pub(super) fn text(request: &Request<'_>) -> String {
+    [members(request), commons(request), left_out(request), memory(request)].concat()
 }
 
 /// What objects have of a name before a member is looked at.
@@ -30,32 +31,50 @@ struct Seen {
 /// Why members of archives were taken (ldmain.c, `add_archive_element`).
 fn members(request: &Request<'_>) -> String {
     let objects = request.objects;
-    if objects.iter().all(|object| object.origin().archive.is_none()) {
+    let members = || objects.iter().enumerate().filter(|(_, object)| object.origin().archive.is_some());
+    if members().next().is_none() {
         return String::new();
     }
-    let mut seen: HashMap<&BStr, Seen> = HashMap::new();
-    for (number, object) in objects.iter().enumerate() {
-        for symbol in object.globals() {
-            let seen = seen.entry(symbol.name).or_default();
-            let slot = if symbol.is_undefined() { &mut seen.undefined } else { &mut seen.defined };
-            slot.get_or_insert(number);
-        }
-    }
+    let members = members().filter(|(_, object)| !object.is_build_note());
+    let members: Vec<(usize, bool)> = members.map(|(number, _)| (number, is_whole(request, number))).collect();
+    let seen = seen_of(request, members.iter().filter(|(_, is_whole)| !is_whole).map(|(number, _)| *number));
     let mut text = "Archive member included to satisfy reference by file (symbol)\n\n".to_owned();
-    let members = objects.iter().enumerate().filter(|(_, object)| object.origin().archive.is_some());
-    for (number, object) in members.filter(|(_, object)| !object.is_build_note()) {
-        let wanted = object.globals().filter(|symbol| !symbol.is_undefined()).find_map(|symbol| {
-            let seen = seen.get(symbol.name)?;
-            let by = seen.undefined.filter(|by| *by < number && seen.defined == Some(number))?;
-            Some((by, symbol.name))
-        });
-        let why = match wanted.filter(|_| !is_whole(request, number)) {
+    for (number, is_whole) in members {
+        let wanted = || {
+            let defined = objects.get(number)?.globals().filter(|symbol| !symbol.is_undefined());
+            let mut found = defined.filter_map(|symbol| Some((symbol.name, seen.get(symbol.name)?)));
+            found.find_map(|(name, seen)| {
+                let by = seen.undefined.filter(|by| *by < number && seen.defined == Some(number))?;
+                Some((by, name))
+            })
+        };
+        let why = match if is_whole { None } else { wanted() } {
             Some((by, name)) => format!("{} ({name})", request.owner(ObjectIndex(by as u32))),
             None => format!("({})", asked(request, number)),
         };
-        text.push_str(&format!("{}{why}\n", in_column(&object.origin().full_name().to_string(), MEMBER_COLUMN)));
+        let owner = request.owner(ObjectIndex(number as u32));
+        text.push_str(&format!("{}{why}\n", in_column(&owner, MEMBER_COLUMN)));
     }
     text
+}
+
+/// What the objects have of the names that some of them define.
+fn seen_of<'a>(request: &Request<'a>, members: impl Iterator<Item = usize>) -> QuickMap<&'a BStr, Seen> {
+    let objects = request.objects;
+    let defined = members.filter_map(|number| objects.get(number)).flat_map(|object| object.globals());
+    let names = defined.filter(|symbol| !symbol.is_undefined()).map(|symbol| symbol.name);
+    let mut seen: QuickMap<&BStr, Seen> = names.map(|name| (name, Seen::default())).collect();
+    let filter = NameFilter::of(seen.keys());
+    for (number, object) in objects.iter().enumerate() {
+        let wanted = object.global_hashes().filter(|(hash, _)| filter.may_have(*hash));
+        for symbol in wanted.filter_map(|(_, index)| object.symbol(index)) {
+            if let Some(seen) = seen.get_mut(symbol.name) {
+                let slot = if symbol.is_undefined() { &mut seen.undefined } else { &mut seen.defined };
+                slot.get_or_insert(number);
+            }
+        }
+    }
+    seen
 }
 
 /// Whether all members of an archive are taken.
@@ -85,13 +104,13 @@ fn asked(request: &Request<'_>, number: usize) -> String {
 }
 
 /// ldlang.c, `lang_one_common`.
-fn commons(request: &Request<'_>, known: &LinkNames) -> String {
+fn commons(request: &Request<'_>) -> String {
     let mut text = String::new();
-    for name in &request.names {
-        let definition = known.definition(name.as_bstr()).filter(|one| one.home == Home::Common);
+    for named in &request.names {
+        let definition = named.definition.filter(|one| one.home == Home::Common);
         if let Some(definition) = definition {
             let size = format!("0x{}", padded(&format!("{:x}", definition.size), 16));
-            let name = in_column(&name.to_string(), COMMON_COLUMN);
+            let name = in_column(&named.name.to_string(), COMMON_COLUMN);
             text.push_str(&format!("{name}{size}{}\n", request.owner(definition.object)));
         }
     }

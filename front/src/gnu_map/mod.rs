@@ -6,6 +6,7 @@ mod dot;
 mod expression;
 mod head;
 mod names;
+mod text;
 
 use std::path::PathBuf;
 
@@ -14,10 +15,11 @@ use bstr::{BString, ByteSlice};
 use crate::command::{Command, Input};
 use crate::layout::ids::StatementId;
 use crate::layout::Evaluation;
-use crate::objects::{LinkNames, Object, ObjectIndex};
+use crate::objects::{Object, ObjectIndex};
 use crate::script::tree::Script;
 use crate::unloaded::Spans;
 use body::Body;
+pub use names::Named;
 
 /// A link whose map is wanted. The image has all where the layout has it.
 pub struct Request<'a> {
@@ -32,13 +34,13 @@ pub struct Request<'a> {
     /// The objects.
     pub objects: &'a [Object],
     /// The names of objects and script, in the order of GNU ld's table of symbols.
-    pub names: Vec<BString>,
+    pub names: Vec<Named<'a>>,
     /// The entry symbol, if it has a name.
     pub entry: Option<BString>,
     /// The files that were read, an archive as one.
     pub files: &'a [PathBuf],
     /// Where what is not loaded is.
-    pub spans: Spans,
+    pub spans: &'a Spans,
 }
 
 impl Request<'_> {
@@ -56,14 +58,13 @@ impl Request<'_> {
 
 /// The map.
 pub fn map(request: &Request<'_>) -> Vec<u8> {
-    let known = LinkNames::look_up(request.objects, &request.names);
-    let mut text = head::text(request, &known).into_bytes();
+    let mut text = head::text(request).into_bytes();
     text.extend_from_slice(b"\nLinker script and memory map\n\n");
     let (before, after) = loads(request);
     text.extend_from_slice(before.as_bytes());
     let top = &request.evaluation.top;
     let end = end_of_script(request);
-    let mut body = Body::new(request, &known);
+    let mut body = Body::new(request);
     text.extend(body.statements(top.get(..end).unwrap_or_default()));
     text.extend_from_slice(after.as_bytes());
     let output = request.command.output.display();

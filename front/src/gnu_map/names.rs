@@ -1,41 +1,54 @@
 //! The names that input sections define, for a map.
 
-use std::collections::HashMap;
+use std::borrow::Cow;
 
-use bstr::{BString, ByteSlice};
+use bstr::{BStr, ByteSlice};
 
 use super::Request;
 use crate::layout::evaluation::Definer;
 use crate::layout::ids::SectionId;
-use crate::objects::{Home, LinkNames};
+use crate::objects::{Definition, Home, Rank};
 
-/// By input section: the names in it with their places there, ascending.
-pub(super) struct Defined(HashMap<SectionId, Vec<(u64, BString)>>);
+/// A name of objects or script.
+#[derive(Clone, Debug)]
+pub struct Named<'a> {
+    /// The name.
+    pub name: Cow<'a, BStr>,
+    /// Its definition in the objects.
+    pub definition: Option<Definition>,
+    /// Whether script, command line or GNU ld itself may speak of it.
+    pub is_spoken: bool,
+}
 
-impl Defined {
+/// The names of input sections, with their places there: by section, and by ascending places.
+pub(super) struct Defined<'a>(Vec<(SectionId, (u64, &'a BStr))>);
+
+impl<'a> Defined<'a> {
     /// The names in the order of GNU ld's table, which is that of names of one value.
-    pub(super) fn of(request: &Request<'_>, known: &LinkNames) -> Defined {
-        let mut found: HashMap<SectionId, Vec<(u64, BString)>> = HashMap::new();
-        for name in &request.names {
-            if let Some((section, at)) = place_of(request, known, name) {
-                found.entry(section).or_default().push((at, name.clone()));
-            }
-        }
-        found.values_mut().for_each(|names| names.sort_by_key(|(at, _)| *at));
+    pub(super) fn of(request: &'a Request<'_>) -> Defined<'a> {
+        let place = |named: &'a Named<'_>| {
+            let (section, at) = place_of(request, named)?;
+            Some((section, (at, named.name.as_bstr())))
+        };
+        let mut found: Vec<_> = request.names.iter().filter_map(place).collect();
+        found.sort_by_key(|(section, (at, _))| (*section, *at));
         Defined(found)
     }
 
     /// The names that are defined in a section, each with its place there.
-    pub(super) fn in_section(&self, section: SectionId) -> &[(u64, BString)] {
-        self.0.get(&section).map_or(&[], Vec::as_slice)
+    pub(super) fn in_section(&self, section: SectionId) -> impl Iterator<Item = &(u64, &'a BStr)> {
+        let first = self.0.partition_point(|(own, _)| *own < section);
+        let rest = self.0.get(first..).unwrap_or_default();
+        rest.iter().take_while(move |(own, _)| *own == section).map(|(_, name)| name)
     }
 }
 
 /// The section that a name is in, and its place there; none of names of the script.
-fn place_of(request: &Request<'_>, known: &LinkNames, name: &BString) -> Option<(SectionId, u64)> {
+fn place_of(request: &Request<'_>, named: &Named<'_>) -> Option<(SectionId, u64)> {
     let evaluation = request.evaluation;
-    let own = evaluation.symbol(name);
-    let definition = known.definition(name.as_bstr())?;
+    let definition = named.definition.as_ref()?;
+    let is_known = named.is_spoken || definition.rank == Rank::Common;
+    let own = if is_known { evaluation.symbol(&named.name) } else { None };
     match own.map(|own| own.definer) {
         Some(Definer::Script(_) | Definer::Linker) => return None,
         Some(Definer::Object(Some(section))) if definition.home == Home::Common => {

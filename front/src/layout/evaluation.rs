@@ -52,6 +52,8 @@ pub struct Evaluation {
     pub top: Vec<StatementId>,
     /// The input sections, by their index: in the order of objects and headers.
     pub sections: Vec<InputSection>,
+    /// By object: the index of its first section, or of the first after it; at the end how many there are.
+    pub(crate) first_sections: Vec<u32>,
     /// The names of sections.
     pub names: Names,
     /// The symbols that script, command line or GNU ld itself speak of, and common blocks.
@@ -439,11 +441,22 @@ impl Evaluation {
 
     /// The section of an object by the number of its header: they are in the order of objects, and of headers.
     pub fn section_of(&self, object: ObjectIndex, number: SectionIndex) -> Option<SectionId> {
-        let first = self.sections.partition_point(|one| one.object < object);
-        let rest = self.sections.get(first..)?;
-        let at = rest.partition_point(|one| one.object == object && one.number().map_or(false, |own| own < number));
-        rest.get(at).filter(|one| one.object == object && one.number() == Some(number))?;
+        let bound = |at: usize| self.first_sections.get(at).map(|first| *first as usize);
+        let (first, end) = (bound(object.0 as usize)?, bound(object.0 as usize + 1)?);
+        let own = self.sections.get(first..end)?;
+        let at = own.partition_point(|one| one.number().map_or(false, |own| own < number));
+        own.get(at).filter(|one| one.number() == Some(number))?;
         Some(SectionId::new(first + at))
+    }
+
+    /// Counts the sections of each object, by which they are found.
+    pub(crate) fn count_sections(&mut self) {
+        self.first_sections.clear();
+        for (index, section) in self.sections.iter().enumerate() {
+            let count = (section.object.0 as usize + 1).max(self.first_sections.len());
+            self.first_sections.resize(count, index as u32);
+        }
+        self.first_sections.push(self.sections.len() as u32);
     }
 
     /// The name of an input section.

@@ -66,6 +66,7 @@ impl Link<'_> {
             found.symbols.get_mut(id.index()).into_iter().for_each(|symbol| symbol.is_bound = true);
         }
         found.sections = self.sections;
+        found.count_sections();
         found.names = self.program.names;
         found
     }

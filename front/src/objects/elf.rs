@@ -151,6 +151,12 @@ impl Elf {
         header.and_then(|header| self.data.get(contents_of(header, &self.data))).unwrap_or_default()
     }
 
+    /// The same bytes, shared.
+    pub fn shared_contents(&self, index: SectionIndex) -> Bytes {
+        let header = self.headers().get(index.0 as usize);
+        header.and_then(|header| self.data.slice(contents_of(header, &self.data))).unwrap_or_default()
+    }
+
     /// How many symbols there are, with number 0.
     pub fn symbol_count(&self) -> usize {
         self.entries().len()
@@ -170,6 +176,12 @@ impl Elf {
     pub fn symbol(&self, index: SymbolIndex) -> Option<Symbol<'_>> {
         let entry = self.entries().get(index.0 as usize)?;
         (index.0 > 0).then(|| self.symbol_of(index.0, entry))
+    }
+
+    /// Where a symbol is; `None` for 0 and past the last one.
+    pub fn home(&self, index: SymbolIndex) -> Option<Home> {
+        let entry = self.entries().get(index.0 as usize)?;
+        (index.0 > 0).then(|| Home::from(entry.st_shndx.get(Little)))
     }
 
     /// The symbols from number 1 on, local ones too.

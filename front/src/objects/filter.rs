@@ -1,7 +1,6 @@
 //! A quick test whether a name may be in a set.
 
 use super::elf::hash_of;
-use bstr::BString;
 
 /// A set of names that may say yes of one that is not in it, by a table of bits.
 #[derive(Clone, Debug, Default)]
@@ -11,11 +10,11 @@ pub(crate) struct NameFilter {
 
 impl NameFilter {
     /// A set of names.
-    pub(crate) fn of<'a>(names: impl ExactSizeIterator<Item = &'a BString>) -> NameFilter {
+    pub(crate) fn of<N: AsRef<[u8]>>(names: impl ExactSizeIterator<Item = N>) -> NameFilter {
         let words = (names.len() / 4 + 1).next_power_of_two().max(16);
         let mut bits = vec![0; words];
         for name in names {
-            let hash = hash_of(name) as usize;
+            let hash = hash_of(name.as_ref()) as usize;
             if let Some(word) = bits.get_mut(hash >> 6 & (words - 1)) {
                 *word |= 1 << (hash & 63);
             }

@@ -5,13 +5,13 @@ use std::ops::Range;
 
 use crate::command::BuildId;
 use crate::finish::{
-    finish, finish_again, hash_of, place_of_note, put_image, FileImage, FinishError, Finished, HashKind, LaidOut,
-    Unloaded,
+    finish, finish_again, hash_of, place_of_note, put_image, FileImage, FinishError, Finished, HashKind, KeptTables,
+    LaidOut, Unloaded,
 };
 use crate::mirror::{Answered, Mirror, SessionError, Wanted};
 use crate::objects::NOTE_HEAD;
 use crate::plan::{Identity, LinkPlan};
-use crate::unloaded::{self, unloaded, NotMade};
+use crate::unloaded::{self, unloaded, Arrangement, KeptStrings, NotMade, Spans};
 
 /// How far around a build ID the session may answer bytes again that are the same.
 const AROUND: usize = 2 * 4096;
@@ -30,6 +30,33 @@ pub(crate) enum FileFault {
     NotMade(#[from] NotMade),
 }
 
+/// What is not loaded of a link, in its place; empty if the file has none of it.
+pub(crate) struct Beside<'a> {
+    arrangement: Arrangement<'a>,
+    /// Where it is; `None` if the layout is not known.
+    pub(crate) spans: Option<Spans>,
+}
+
+impl<'a> Beside<'a> {
+    /// That of a plan; `kept` has the strings that were merged last.
+    pub(crate) fn of(plan: &'a LinkPlan, kept: &mut KeptStrings) -> Result<Beside<'a>, NotMade> {
+        let (evaluation, objects) = (plan.evaluation.as_ref().ok(), plan.inputs.objects());
+        let arrange = |evaluation| Arrangement::of(evaluation, objects, plan.form.strips_debugging, kept);
+        let found = evaluation.filter(|_| !plan.form.is_flat).map(arrange).transpose()?;
+        let spans = evaluation.zip(found.as_ref()).map(|(evaluation, found)| Spans::arranged(evaluation, found));
+        Ok(Beside { arrangement: found.unwrap_or_default(), spans })
+    }
+}
+
+/// A file before its build ID is in it.
+pub(crate) struct Unidentified {
+    finished: Finished,
+    /// Where in the image its ID is to be, and the ID; `None` if it has the right one.
+    id: Option<(usize, Vec<u8>)>,
+    /// What is not loaded, if the file may be made once more.
+    again: Vec<Unloaded>,
+}
+
 /// The file of the image that the session has.
 pub(crate) fn file_of(
     plan: &mut LinkPlan,
@@ -37,33 +64,56 @@ pub(crate) fn file_of(
     laid_out: LaidOut<'_>,
     mirror: &mut Mirror,
 ) -> Result<Finished, FileFault> {
+    let mut kept = std::mem::take(&mut plan.kept);
+    let made = Beside::of(plan, &mut kept.strings)
+        .map_err(FileFault::from)
+        .and_then(|beside| unidentified(plan, image, laid_out, &beside, (&mut kept.tables, &mut *mirror)));
+    plan.kept = kept;
+    identified(plan, made?, laid_out, mirror)
+}
+
+/// The file of the image that the session has, before its build ID is in it.
+pub(crate) fn unidentified(
+    plan: &LinkPlan,
+    image: Answered,
+    laid_out: LaidOut<'_>,
+    beside: &Beside<'_>,
+    (tables, mirror): (&mut KeptTables, &mut Mirror),
+) -> Result<Unidentified, FileFault> {
     let place = plan.inputs.identity().and_then(|identity| place_of(plan, identity, &image));
-    let unloaded = unloaded_of(plan, &image, laid_out, mirror)?;
+    let unloaded = unloaded_of(plan, &image, laid_out, beside, (tables, mirror))?;
     let has_hash = plan.inputs.identity().map_or(false, |identity| identity.style().is_found());
     let again = if has_hash { unloaded.clone() } else { Vec::new() };
-    let mut tables = std::mem::take(&mut plan.tables);
-    let finished = finish_again(image, &plan.form, plan.symbols(laid_out).as_ref(), unloaded, &mut tables);
-    plan.tables = tables;
-    let mut finished = finished?;
+    let symbols = plan.symbols(laid_out, beside.spans.as_ref());
+    let finished = finish_again(image, &plan.form, symbols.as_ref(), unloaded, tables)?;
     let place = place.map(|place| place + NOTE_HEAD);
     let start = place.and_then(|place| finished.file.place_of(place));
     let id = match (plan.inputs.identity(), start) {
         (Some(identity), Some(start)) => {
             let end = start + identity.id().len() as u64;
-            id_of(identity.style(), &finished.file, start..end)
+            id_of(identity.style(), &finished.file, start..end).filter(|id| identity.id() != id.as_slice())
         }
         _ => None,
     };
-    let is_other = |id: &Vec<u8>| plan.inputs.identity().map_or(false, |identity| identity.id() != id.as_slice());
-    match place.zip(id.filter(is_other)) {
-        Some((place, id)) => {
-            let stretch = place..place + id.len();
-            plan.set_id(id);
-            match with_id(plan, &mut finished.file, stretch, mirror)? {
-                Some(image) => Ok(finish(image, &plan.form, plan.symbols(laid_out).as_ref(), again)?),
-                None => Ok(finished),
-            }
-        }
+    Ok(Unidentified { finished, id: place.zip(id), again })
+}
+
+/// A file with its build ID.
+pub(crate) fn identified(
+    plan: &mut LinkPlan,
+    made: Unidentified,
+    laid_out: LaidOut<'_>,
+    mirror: &mut Mirror,
+) -> Result<Finished, FileFault> {
+    let Unidentified { mut finished, id, again } = made;
+    let (place, id) = match id {
+        Some(found) => found,
+        None => return Ok(finished),
+    };
+    let stretch = place..place + id.len();
+    plan.set_id(id);
+    match with_id(plan, &mut finished.file, stretch, mirror)? {
+        Some(image) => Ok(finish(image, &plan.form, plan.symbols(laid_out, None).as_ref(), again)?),
         None => Ok(finished),
     }
 }
@@ -89,7 +139,7 @@ fn with_id(
     let mut places = around.clone().zip(before.iter().zip(now));
     let is_same = before.len() == now.len() && places.all(|(at, (old, new))| id.contains(&at) || old == new);
     if is_near && is_same {
-        plan.tables.follow(&image);
+        plan.kept.tables.follow(&image);
         put_image(file, &plan.form, image)?;
         return Ok(None);
     }
@@ -99,14 +149,17 @@ fn with_id(
 /// What is in the file and not loaded.
 fn unloaded_of(
     plan: &LinkPlan,
-    image: &[u8],
+    image: &Answered,
     laid_out: LaidOut<'_>,
-    mirror: &mut Mirror,
+    beside: &Beside<'_>,
+    (tables, mirror): (&mut KeptTables, &mut Mirror),
 ) -> Result<Vec<Unloaded>, FileFault> {
     match &plan.evaluation {
         Ok(evaluation) if !plan.form.is_flat => {
-            let link = unloaded::Link { evaluation, objects: plan.inputs.objects(), laid_out };
-            unloaded(link, plan.form.strips_debugging, image, || mirror.map().map_err(FileFault::from))
+            let objects = plan.inputs.objects();
+            let link = unloaded::Link { evaluation, objects, laid_out };
+            let before = tables.before(image, objects);
+            unloaded(link, &beside.arrangement, image, before, || mirror.map().map_err(FileFault::from))
         }
         _ => Ok(Vec::new()),
     }

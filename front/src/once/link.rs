@@ -8,17 +8,18 @@ use bstr::{BStr, ByteSlice};
 
 use super::fallback::Reasons;
 use super::host::{Asked, Host};
-use super::identified::{file_of, FileFault};
+use super::identified::{identified, unidentified, Beside, FileFault};
+use super::maps::{self, Maps};
 use super::verdict::Verdict;
-use super::{maps, messages, orphans, reasons_for_gnu_ld, say, tables, verdict};
+use super::{messages, orphans, reasons_for_gnu_ld, say, tables, verdict};
 use crate::checker::NoImage;
 use crate::command::Command;
 use crate::finish::LaidOut;
-use crate::finish::{FileImage, FinishError};
+use crate::finish::{FileImage, FinishError, Finished};
 use crate::inputs::InputFault;
 use crate::layout::stop::RefusedReason;
 use crate::layout::Stop;
-use crate::mirror::{Brought, Held, Mirror, Options, SessionError, Wanted};
+use crate::mirror::{Answered, Brought, Held, Mirror, Options, SessionError, Wanted};
 use crate::place::{NotWritten, PROGRAM, TEXT};
 use crate::plan::{find_program, options_of, Inputs, LinkPlan, PlanFault, Scripts, ScriptsFault};
 use crate::report::link_map::LinkMap;
@@ -347,7 +348,7 @@ impl Link<'_> {
 
     /// Writes the files of a good link.
     fn write_files(
-        self,
+        mut self,
         mirror: &mut Mirror,
         session: &dyn Fn(SessionError) -> LinkFault,
     ) -> Result<Status, LinkFault> {
@@ -363,7 +364,7 @@ impl Link<'_> {
             mirror.dismiss();
         }
         let compare = || verdict::verdict(self.plan, &image, if is_compared { &map } else { b"" }, command.is_verbose);
-        let verdict = known.map_or_else(compare, Ok)?;
+        let mut verdict = known.map_or_else(compare, Ok)?;
         if let Some(why) = reasons_for_gnu_ld::verdict(self.plan, &verdict) {
             let say = || self.say_verdict(&verdict);
             return Ok(self.no_image(Some(why), &say, Status::Faults));
@@ -373,7 +374,8 @@ impl Link<'_> {
             return Ok(Status::Faults);
         }
         let pieces = if verdict.agrees { None } else { LinkMap::read(&map).ok() };
-        let finished = match file_of(self.plan, image, LaidOut::of(verdict.agrees, pieces.as_ref()), mirror) {
+        let laid_out = LaidOut::of(verdict.agrees, pieces.as_ref());
+        let finished = match self.file_and_maps(image, laid_out, &mut verdict, mirror) {
             Ok(finished) => finished,
             Err(FileFault::Form(fault @ (FinishError::NoHeaders(_) | FinishError::NoTable(_)))) => {
                 let why = format!("{}: {fault}", self.path());
@@ -392,7 +394,7 @@ impl Link<'_> {
         for note in &finished.notes {
             say(format!("{}: {note}", self.path()));
         }
-        self.write_map(&map, verdict.agrees)?;
+        self.write_map(&map, verdict.maps.as_ref())?;
         self.write_image(&finished.file)?;
         self.write_dependencies()?;
         self.print_tables(&map);
@@ -421,25 +423,46 @@ impl Link<'_> {
         self.host.write(&self.command.output, &pieces_of(file, &zeros), PROGRAM).map_err(LinkFault::NotWritten)
     }
 
-    fn write_map(&self, map: &[u8], agrees: bool) -> Result<(), LinkFault> {
+    /// Makes the file of an image, and the maps, if they are not known.
+    fn file_and_maps(
+        &mut self,
+        image: Answered,
+        laid_out: LaidOut<'_>,
+        verdict: &mut Verdict,
+        mirror: &mut Mirror,
+    ) -> Result<Finished, FileFault> {
+        let mut kept = std::mem::take(&mut self.plan.kept);
+        let (command, plan, agrees) = (self.command, &*self.plan, verdict.agrees);
+        let known = verdict.maps.take();
+        let made = Beside::of(plan, &mut kept.strings).map_err(FileFault::from).and_then(|beside| {
+            let file = unidentified(plan, image, laid_out, &beside, (&mut kept.tables, &mut *mirror))?;
+            Ok((file, known.unwrap_or_else(|| maps::of(command, plan, agrees, beside.spans.as_ref()))))
+        });
+        self.plan.kept = kept;
+        let (file, maps) = made?;
+        verdict.maps = Some(maps);
+        identified(self.plan, file, laid_out, mirror)
+    }
+
+    fn write_map(&self, map: &[u8], maps: Option<&Maps>) -> Result<(), LinkFault> {
         let path = map_path(self.command);
-        let (own, references) = maps::of(self.command, self.plan, agrees);
-        let has_map = path.is_some() || self.command.prints_map;
+        let own = maps.and_then(|maps| maps.own.as_deref());
+        let references = maps.map_or(&[][..], |maps| &maps.references);
+        let has_map = maps::has_map(self.command);
         if has_map && !self.command.has_own_map && own.is_none() {
             say(format!("{}: the image is laid out otherwise than GNU ld's: the map is that of ldi", self.path()));
         }
         if !has_map {
-            streams::print(Stream::Output, &references);
+            streams::print(Stream::Output, references);
             return Ok(());
         }
-        let map = own.unwrap_or_else(|| map.to_owned());
-        let map: &[u8] = &[map, references].concat();
+        let map = own.unwrap_or(map);
         let is_printed = path.as_deref() == Some(Path::new("-"));
         if self.command.prints_map || is_printed {
-            streams::print(Stream::Output, map);
+            streams::print(Stream::Output, &[map, references].concat());
         }
         match path.filter(|_| !is_printed) {
-            Some(path) => self.host.write(&path, &[map], TEXT).map_err(LinkFault::NotWritten),
+            Some(path) => self.host.write(&path, &[map, references], TEXT).map_err(LinkFault::NotWritten),
             None => Ok(()),
         }
     }

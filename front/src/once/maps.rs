@@ -1,31 +1,53 @@
 //! The map of a link in GNU ld's form, and its cross references.
 
+use std::borrow::Cow;
+
 use crate::command::Command;
 use crate::gnu_map::{cross_references, map, Request};
 use crate::plan::LinkPlan;
 use crate::unloaded::Spans;
 
-/// The map, if one is wanted and the image is laid out as GNU ld's, and the table of `--cref`.
-pub(super) fn of(command: &Command, plan: &LinkPlan, agrees: bool) -> (Option<Vec<u8>>, Vec<u8>) {
-    let has_map = command.map_file.is_some() || command.prints_map;
+/// The maps of a link.
+#[derive(Debug, Default)]
+pub(crate) struct Maps {
+    /// The map, if one is wanted and the image is laid out as GNU ld's.
+    pub(super) own: Option<Vec<u8>>,
+    /// The table of `--cref`.
+    pub(super) references: Vec<u8>,
+}
+
+/// Whether some are to be made.
+pub(super) fn are_wanted(command: &Command) -> bool {
+    has_map(command) && !command.has_own_map || command.has_cross_references
+}
+
+/// Whether a map is wanted at all.
+pub(super) fn has_map(command: &Command) -> bool {
+    command.map_file.is_some() || command.prints_map
+}
+
+/// The maps of a plan. `spans` are those of what is not loaded; without them they are found here.
+pub(super) fn of(command: &Command, plan: &LinkPlan, agrees: bool, spans: Option<&Spans>) -> Maps {
     let evaluation = match &plan.evaluation {
-        Ok(evaluation) if has_map && !command.has_own_map || command.has_cross_references => evaluation,
-        _ => return (None, Vec::new()),
+        Ok(evaluation) if are_wanted(command) => evaluation,
+        _ => return Maps::default(),
     };
     let scripts = &plan.inputs.scripts;
     let objects = plan.inputs.objects();
+    let own = || Spans::of(evaluation, objects, plan.form.strips_debugging);
+    let spans = spans.map_or_else(|| Cow::Owned(own()), Cow::Borrowed);
     let request = Request {
         command,
         script: &scripts.reading.script,
         has_own_script: scripts.is_own,
         evaluation,
         objects,
-        names: plan.table_order(),
+        names: plan.named(),
         entry: command.entry.as_ref().or_else(|| scripts.entry()).cloned(),
         files: &plan.inputs.loaded.files,
-        spans: Spans::of(evaluation, objects, plan.form.strips_debugging),
+        spans: &spans,
     };
-    let is_wanted = has_map && !command.has_own_map && agrees;
+    let is_wanted = has_map(command) && !command.has_own_map && agrees;
     let references = if command.has_cross_references { cross_references(&request) } else { Vec::new() };
-    (is_wanted.then(|| map(&request)), references)
+    Maps { own: is_wanted.then(|| map(&request)), references }
 }

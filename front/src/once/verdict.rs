@@ -1,5 +1,6 @@
 //! Messages about where an image differs from GNU ld's, and whether it is written.
 
+use super::maps::Maps;
 use crate::checker::{check, Checked, DifferenceKind, NoImage};
 use crate::layout::evaluation::StatementKind;
 use crate::layout::Stop;
@@ -22,6 +23,8 @@ pub(crate) struct Verdict {
     pub(crate) agrees: bool,
     /// The references that NOCROSSREFS prohibits: then none is written either.
     pub(crate) prohibited: Vec<Prohibited>,
+    /// The maps of the link, once they were made.
+    pub(crate) maps: Option<Maps>,
 }
 
 /// Whether the map is wanted for a comparison.

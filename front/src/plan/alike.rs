@@ -52,7 +52,7 @@ impl LinkPlan {
         for (place, new) in taken {
             self.put(place, new);
         }
-        self.tables.want();
+        self.kept.tables.want();
         self.hold_again();
         true
     }

@@ -34,13 +34,15 @@ use bstr::{BStr, BString, ByteSlice};
 
 use crate::command::{Command, Orphans, OutputFormat};
 use crate::finish::{Form, KeptTables, LaidOut, LinkedNames, Rights, Strip, Symbols, PAGE};
+use crate::gnu_map::Named;
 use crate::inputs::{self, InputFault, Loaded, ScriptInputs};
 use crate::layout::evaluation::Placed;
 use crate::layout::{Evaluation, Flags, Layout, Settings, Stop};
 use crate::mirror::{self, Held};
-use crate::objects::{Object, ObjectIndex};
+use crate::objects::{LinkNames, Object, ObjectIndex};
 use crate::residual::{has_names, residual, Request, Residual};
 use crate::snapshot::Snapshot;
+use crate::unloaded::{KeptStrings, Spans};
 pub use begun::Begun;
 pub use build_id::Identity;
 use build_id::NoIdentity;
@@ -170,6 +172,15 @@ fn held_of(objects: &[Object]) -> Vec<Held> {
     objects.iter().map(|object| Held { name: object.name().to_owned(), data: object.data().clone() }).collect()
 }
 
+/// What was made for a file, of which the next one has what is the same.
+#[derive(Debug, Default)]
+pub struct Kept {
+    /// The tables of symbols and relocations, and what is not loaded: of plans that differ in bytes of objects alone.
+    pub tables: KeptTables,
+    /// The strings that were merged of what is not loaded.
+    pub strings: KeptStrings,
+}
+
 /// What a link is to be.
 #[derive(Debug)]
 pub struct LinkPlan {
@@ -183,8 +194,8 @@ pub struct LinkPlan {
     pub options: mirror::Options,
     /// The form of the file.
     pub form: Form,
-    /// The tables of the last file.
-    pub tables: KeptTables,
+    /// What was made for the last file.
+    pub kept: Kept,
     layout: Option<Layout>,
     /// The names for the table of symbols, in their order.
     names: Option<LinkedNames>,
@@ -235,14 +246,14 @@ impl LinkPlan {
         let changed = changed.and_then(|found| changed_of(held, &inputs, found, &made_loaded, &residual));
         let wanted = evaluation.as_ref().ok().filter(|_| !form.is_flat && form.symbols.strip != Strip::All);
         let names = wanted.map(|evaluation| LinkedNames::of(inputs.objects(), evaluation, names));
-        let tables = KeptTables::default();
+        let kept = Kept::default();
         LinkPlan {
             inputs,
             evaluation,
             residual,
             options,
             form,
-            tables,
+            kept,
             layout,
             names,
             made_loaded,
@@ -286,7 +297,8 @@ impl LinkPlan {
         };
         let laid_out = as_collected(command, &self.inputs, laid_out);
         let begun = Begun::new(command, self.inputs, laid_out, self.names, (self.remade, self.shortened));
-        Some(LinkPlan::finish(command, begun))
+        let kept = Kept { strings: self.kept.strings, ..Kept::default() };
+        Some(LinkPlan { kept, ..LinkPlan::finish(command, begun) })
     }
 
     /// Takes an object in the place of another one that says the same of names, sections and relocations.
@@ -320,18 +332,39 @@ impl LinkPlan {
     /// Gives the note of the build ID other bytes.
     pub fn set_id(&mut self, id: Vec<u8>) {
         self.inputs.identity.iter_mut().for_each(|identity| identity.set(id.clone()));
-        self.hold_again();
+        if self.hold_note().is_none() {
+            self.hold_again();
+        }
     }
 
-    /// What the table of symbols of an image is made of; `None` if the layout is not known.
-    pub fn symbols<'a>(&'a self, laid_out: LaidOut<'a>) -> Option<Symbols<'a>> {
+    /// Holds the note of the build ID as it is now; `None` if that is not all, as it was not held as it is.
+    fn hold_note(&mut self) -> Option<()> {
+        let identity = self.inputs.identity.as_ref().ok()?;
+        let at = identity.place().0 .0 as usize;
+        let now = identity.objects().get(at)?.data().clone();
+        let held = self.inputs.held.get_mut(at)?;
+        if let Some(changed) = &mut self.changed {
+            let one = changed.get_mut(at).filter(|one| one.data.is_identical(&held.data))?;
+            one.data = now.clone();
+        }
+        held.data = now;
+        if let Some(names) = &mut self.names {
+            names.hold(identity.objects());
+        }
+        Some(())
+    }
+
+    /// What the table of symbols of an image is made of; `None` if the layout is not known. `spans` are those of what
+    /// is not loaded.
+    pub fn symbols<'a>(&'a self, laid_out: LaidOut<'a>, spans: Option<&'a Spans>) -> Option<Symbols<'a>> {
         let (evaluation, names) = (self.evaluation.as_ref().ok()?, self.names.as_ref()?);
         let map = match laid_out {
             LaidOut::AsEvaluated => None,
             LaidOut::ByMap(map) => Some(map),
             LaidOut::Unknown => return None,
         };
-        Some(Symbols { objects: self.inputs.objects(), evaluation, names, map })
+        let spans = spans.filter(|_| !self.form.strips_debugging);
+        Some(Symbols { objects: self.inputs.objects(), evaluation, names, map, spans })
     }
 
     /// Whether the image may be laid out otherwise than was evaluated.
@@ -340,9 +373,18 @@ impl LinkPlan {
     }
 
     /// The names of script and objects, in the order of GNU ld's table of symbols.
-    pub fn table_order(&self) -> Vec<BString> {
-        let layout = self.layout.as_ref();
-        layout.map_or_else(Vec::new, |layout| layout.table_order(self.inputs.objects(), &|_| true))
+    pub fn named(&self) -> Vec<Named<'_>> {
+        if let Some(names) = &self.names {
+            return names.named();
+        }
+        let (layout, objects) = (self.layout.as_ref(), self.inputs.objects());
+        let names = layout.map_or_else(Vec::new, |layout| layout.table_order(objects, &|_| true));
+        let known = LinkNames::look_up(objects, &names);
+        let named = |name: BString| {
+            let definition = known.definition(name.as_bstr()).copied();
+            Named { name: name.into(), definition, is_spoken: true }
+        };
+        names.into_iter().map(named).collect()
     }
 
     /// The objects as the session holds them.

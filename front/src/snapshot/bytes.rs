@@ -19,6 +19,14 @@ impl Bytes {
         Some(Bytes { whole: Arc::clone(&self.whole), start: self.start + range.start, end: self.start + range.end })
     }
 
+    /// The bytes alone; a copy if others share them, or if they are a stretch of more.
+    pub fn into_vec(self) -> Vec<u8> {
+        if (self.start, self.end) != (0, self.whole.len()) {
+            return self.to_vec();
+        }
+        Arc::try_unwrap(self.whole).unwrap_or_else(|shared| shared.to_vec())
+    }
+
     /// Whether these are the same bytes in memory, which is quicker than to compare them.
     pub fn is_identical(&self, other: &Bytes) -> bool {
         Arc::ptr_eq(&self.whole, &other.whole) && self.start == other.start && self.end == other.end
@@ -71,6 +79,16 @@ mod tests {
         assert_eq!(&*part.slice(1..2).unwrap(), b"d");
         assert!(part.is_identical(&whole.slice(2..5).unwrap()));
         assert!(!part.is_identical(&whole));
+    }
+
+    #[test]
+    fn bytes_are_taken_out_whole_or_as_a_copy() {
+        let whole = Bytes::from(b"abc".to_vec());
+        let (other, part) = (whole.clone(), whole.slice(1..2).unwrap());
+        assert_eq!(
+            (whole.into_vec(), part.into_vec(), other.into_vec()),
+            (b"abc".to_vec(), b"b".to_vec(), b"abc".to_vec())
+        );
     }
 
     #[test]

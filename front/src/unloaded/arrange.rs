@@ -6,12 +6,13 @@ use std::sync::Arc;
 use object::elf;
 
 use super::compressed::inflated;
-use super::strings::Strings;
+use super::strings::{KeptStrings, Strings};
 use super::NotMade;
 use crate::layout::evaluation::{Evaluation, Gap, InputSection, OutputSection, Placed, StatementKind};
 use crate::layout::ids::SectionId;
 use crate::objects::{MergedPart, Object, SectionFlags, Shortened};
 use crate::quick::QuickMap;
+use crate::snapshot::Bytes;
 
 /// Names of sections of debug information begin so (bfd/elf.c, `_bfd_elf_make_section_from_shdr`).
 const DEBUGGING: [&[u8]; 7] =
@@ -55,22 +56,26 @@ pub(super) struct Spot {
     pub(super) strings: Option<(usize, usize)>,
 }
 
-/// The sections that are not loaded, arranged for the file.
+/// The sections that are not loaded, arranged for the file, with strings merged.
 #[derive(Default)]
-pub(super) struct Arrangement<'a> {
+pub struct Arrangement<'a> {
     pub(super) outputs: Vec<Arranged<'a>>,
     spots: QuickMap<usize, Spot>,
     /// Strings that were merged together, and the sections that have them.
-    strings: Vec<(Strings, Vec<SectionId>)>,
+    strings: Vec<(Arc<Strings>, Vec<SectionId>)>,
 }
 
 impl<'a> Arrangement<'a> {
     /// Arranges the output sections of a layout that are not loaded; those of debug information are left out if they
-    /// are stripped.
-    pub(super) fn of(
+    /// are stripped. `kept` has the strings of the last link.
+    ///
+    /// # Errors
+    /// If something cannot stand in such a section.
+    pub fn of(
         evaluation: &'a Evaluation,
         objects: &'a [Object],
         strips_debugging: bool,
+        kept: &mut KeptStrings,
     ) -> Result<Arrangement<'a>, NotMade> {
         let mut arrangement = Arrangement::default();
         let makings: Vec<Making<'a>> = evaluation
@@ -79,7 +84,7 @@ impl<'a> Arrangement<'a> {
             .map(|(output, place)| Making { evaluation, objects, strips_debugging, output, place })
             .collect();
         for one in makings {
-            if let Some(arranged) = one.arranged(&mut arrangement)? {
+            if let Some(arranged) = one.arranged(&mut arrangement, kept)? {
                 arrangement.outputs.push(arranged);
             }
         }
@@ -125,7 +130,7 @@ struct Making<'a> {
 }
 
 impl<'a> Making<'a> {
-    fn arranged(&self, into: &mut Arrangement<'a>) -> Result<Option<Arranged<'a>>, NotMade> {
+    fn arranged(&self, into: &mut Arrangement<'a>, kept: &mut KeptStrings) -> Result<Option<Arranged<'a>>, NotMade> {
         let taken = self.taken();
         let has_more = self.has_more();
         if self.place.size == 0 || taken.is_empty() && !has_more {
@@ -139,7 +144,7 @@ impl<'a> Making<'a> {
             }
             self.keep_places(into, &taken, &mut arranged);
         } else {
-            self.pack(into, &taken, &mut arranged)?;
+            self.pack(into, &taken, &mut arranged, kept)?;
         }
         Ok((arranged.size > 0).then_some(arranged))
     }
@@ -190,6 +195,21 @@ impl<'a> Making<'a> {
         object.zip(section.number()).map_or(&[], |(object, number)| object.contents(number))
     }
 
+    /// The bytes of a section of an object, shared if they are as they were read.
+    fn shared(&self, id: SectionId, content: &Content<'a>) -> Bytes {
+        let of_object = || {
+            let section = self.section(id)?;
+            Some(self.objects.get(section.object.0 as usize)?.shared_contents(section.number()?))
+        };
+        match &content.bytes {
+            Cow::Borrowed(bytes) => {
+                let is_it = |own: &Bytes| std::ptr::eq::<[u8]>(&**own, *bytes);
+                of_object().filter(is_it).unwrap_or_else(|| bytes.to_vec().into())
+            }
+            Cow::Owned(bytes) => bytes.clone().into(),
+        }
+    }
+
     /// The bytes of a section and its alignment, as they were before they were compressed; zeros of one that has none,
     /// as a `.bss` in a section of type INFO.
     fn content(&self, id: SectionId, section: &InputSection) -> Result<Content<'a>, NotMade> {
@@ -227,6 +247,7 @@ impl<'a> Making<'a> {
         into: &mut Arrangement<'a>,
         taken: &[SectionId],
         arranged: &mut Arranged<'a>,
+        kept: &mut KeptStrings,
     ) -> Result<(), NotMade> {
         let mut contents: Vec<(SectionId, Content<'a>, bool)> = Vec::with_capacity(taken.len());
         for id in taken {
@@ -239,11 +260,11 @@ impl<'a> Making<'a> {
         if taken.iter().any(|id| self.section(*id).map_or(false, is_compressed)) {
             arranged.align = contents.iter().map(|(_, content, _)| content.align).max().unwrap_or(1);
         }
-        let mut merged: Vec<(SectionId, &[u8])> =
-            contents.iter().filter(|one| one.2).map(|(id, content, _)| (*id, &*content.bytes)).collect();
+        let mut merged: Vec<(SectionId, Bytes)> =
+            contents.iter().filter(|one| one.2).map(|(id, content, _)| (*id, self.shared(*id, content))).collect();
         merged.sort_by_key(|(id, _)| *id);
         let together = into.strings.len();
-        let strings = Strings::of(&merged.iter().map(|(_, bytes)| *bytes).collect::<Vec<_>>());
+        let strings = kept.merged(together, merged.iter().map(|(_, bytes)| bytes.clone()).collect());
         let parts: QuickMap<SectionId, usize> = merged.iter().enumerate().map(|(at, (id, _))| (*id, at)).collect();
         let mut at = 0u64;
         for (id, content, _) in contents {

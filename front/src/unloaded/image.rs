@@ -14,15 +14,15 @@ pub(super) struct Answered<'a> {
 }
 
 impl<'a> Answered<'a> {
-    /// Reads an image; what cannot be read is not in it.
-    pub(super) fn read(image: &'a [u8]) -> Answered<'a> {
+    /// Reads the sections of an image, and the values of some names; what cannot be read is not in it.
+    pub(super) fn read(image: &'a [u8], wanted: &QuickSet<&BStr>) -> Answered<'a> {
         let header = FileHeader64::<LE>::parse(image).ok();
         let headers: &[SectionHeader64<LE>] =
             header.and_then(|header| header.section_headers(LE, image).ok()).unwrap_or_default();
         let loaded = headers.iter().filter(|one| one.sh_flags.get(LE) & u64::from(elf::SHF_ALLOC) != 0);
         Answered {
             sections: loaded.map(|one| (one.sh_addr.get(LE), one.sh_size.get(LE))).collect(),
-            values: values_of(image, headers).unwrap_or_default(),
+            values: values_of(image, headers, wanted).unwrap_or_default(),
         }
     }
 
@@ -37,7 +37,11 @@ impl<'a> Answered<'a> {
     }
 }
 
-fn values_of<'a>(image: &'a [u8], headers: &[SectionHeader64<LE>]) -> Option<QuickMap<&'a BStr, u64>> {
+fn values_of<'a>(
+    image: &'a [u8],
+    headers: &[SectionHeader64<LE>],
+    wanted: &QuickSet<&BStr>,
+) -> Option<QuickMap<&'a BStr, u64>> {
     let table = headers.iter().find(|one| one.sh_type.get(LE) == elf::SHT_SYMTAB)?;
     let strings = headers.get(table.sh_link.get(LE) as usize)?.data(LE, image).ok()?;
     let bytes = table.data(LE, image).ok()?;
@@ -49,7 +53,8 @@ fn values_of<'a>(image: &'a [u8], headers: &[SectionHeader64<LE>]) -> Option<Qui
         (symbol.st_shndx.get(LE) != elf::SHN_UNDEF).then(|| (name, symbol.st_value.get(LE)))
     };
     let mut values = QuickMap::default();
-    values.reserve(count);
-    values.extend(symbols.iter().skip(1).filter_map(of_symbol));
+    if !wanted.is_empty() {
+        values.extend(symbols.iter().skip(1).filter_map(of_symbol).filter(|(name, _)| wanted.contains(name)));
+    }
     Some(values)
 }

@@ -16,7 +16,7 @@ mod relocate;
 mod strings;
 mod targets;
 
-use std::collections::{HashMap, HashSet};
+use std::collections::HashMap;
 use std::sync::Mutex;
 
 use bstr::{BStr, BString, ByteSlice};
@@ -25,13 +25,17 @@ use object::elf;
 use crate::finish::{LaidOut, Unloaded};
 use crate::layout::ids::{OutputId, SectionId};
 use crate::layout::{Evaluation, Flags};
-use crate::objects::{Binding, LinkNames, Object, Relocation};
+use crate::objects::{Binding, LinkNames, Object, Relocation, SectionFlags, SectionIndex, SymbolIndex};
+use crate::parallel::map_all;
+use crate::quick::QuickSet;
 use crate::report::link_map::LinkMap;
-use arrange::{Arrangement, Piece};
+pub use arrange::Arrangement;
+use arrange::{Arranged, Piece};
 use image::Answered;
 pub(crate) use kept::Kept;
 use places::Places;
 pub use relocate::Fault;
+pub use strings::KeptStrings;
 use targets::{Target, Targets};
 
 /// From as many bytes on several threads write.
@@ -64,28 +68,44 @@ pub enum NotMade {
 /// Where what is not loaded is, as it is in the file.
 #[derive(Clone, Debug, Default)]
 pub struct Spans {
-    sections: HashMap<SectionId, (u64, u64)>,
-    left_out: HashSet<SectionId>,
+    /// By input section.
+    sections: Vec<Option<Span>>,
     outputs: HashMap<OutputId, u64>,
+}
+
+/// Where an input section is.
+#[derive(Clone, Copy, Debug)]
+struct Span {
+    address: u64,
+    size: u64,
+    /// Whether it is left out, as its strings are in others.
+    is_left_out: bool,
 }
 
 impl Spans {
     /// The places of what is not loaded, by a layout.
     pub fn of(evaluation: &Evaluation, objects: &[Object], strips_debugging: bool) -> Spans {
-        let arrangement = Arrangement::of(evaluation, objects, strips_debugging).unwrap_or_default();
-        let mut spans = Spans::default();
+        let arrangement = Arrangement::of(evaluation, objects, strips_debugging, &mut KeptStrings::default());
+        Spans::arranged(evaluation, &arrangement.unwrap_or_default())
+    }
+
+    /// Those of a layout as it was arranged.
+    pub fn arranged(evaluation: &Evaluation, arrangement: &Arrangement<'_>) -> Spans {
+        let mut spans = Spans { sections: vec![None; evaluation.sections.len()], outputs: HashMap::new() };
         for output in &arrangement.outputs {
-            for piece in &output.pieces {
-                if let Some(id) = piece.section {
-                    let address = output.place.address.wrapping_add(piece.at);
-                    spans.sections.insert(id, (address, piece.size() as u64));
-                    let section = evaluation.section(id);
-                    let is_merged_away = section.map_or(false, |section| section.flags.has(Flags::EXCLUDE));
-                    if is_merged_away || arrangement.is_left_out(id) {
-                        spans.left_out.insert(id);
-                    }
-                    let own = evaluation.section(id).and_then(|section| section.output());
+            let mut last = None;
+            for (piece, id) in output.pieces.iter().filter_map(|piece| Some((piece, piece.section?))) {
+                let section = evaluation.section(id);
+                let is_merged_away = section.map_or(false, |section| section.flags.has(Flags::EXCLUDE));
+                let is_left_out = is_merged_away || arrangement.is_left_out(id);
+                let (address, size) = (output.place.address.wrapping_add(piece.at), piece.size() as u64);
+                if let Some(span) = spans.sections.get_mut(id.index()) {
+                    *span = Some(Span { address, size, is_left_out });
+                }
+                let own = section.and_then(|section| section.output());
+                if own != last {
                     spans.outputs.extend(own.map(|own| (own, output.size)));
+                    last = own;
                 }
             }
         }
@@ -94,12 +114,16 @@ impl Spans {
 
     /// The address and the size of an input section.
     pub fn section(&self, id: SectionId) -> Option<(u64, u64)> {
-        self.sections.get(&id).copied()
+        self.get(id).map(|span| (span.address, span.size))
     }
 
     /// Whether an input section is left out, as its strings are in others.
     pub fn is_left_out(&self, id: SectionId) -> bool {
-        self.left_out.contains(&id)
+        self.get(id).map_or(false, |span| span.is_left_out)
+    }
+
+    fn get(&self, id: SectionId) -> Option<Span> {
+        self.sections.get(id.index()).copied().flatten()
     }
 
     /// The size of an output section.
@@ -119,24 +143,58 @@ pub struct Link<'a> {
     pub laid_out: LaidOut<'a>,
 }
 
-/// The sections of a link that are not loaded. `map` gives the map of the image, if that is needed.
+/// Sections that were made for the last image, from which another one differs in the bytes of some objects alone.
+pub struct Before {
+    /// The sections.
+    pub unloaded: Vec<Unloaded>,
+    /// By object, whether it has other bytes since.
+    pub is_other: Vec<bool>,
+}
+
+impl Before {
+    /// Whether a piece may have other bytes.
+    fn is_other(&self, evaluation: &Evaluation, piece: &Piece<'_>) -> bool {
+        let section = piece.section.and_then(|id| evaluation.section(id));
+        section.map_or(false, |one| self.is_other.get(one.object.0 as usize) != Some(&false))
+    }
+
+    /// Whether what is arranged has the places of these sections: if bytes decide about places, that is not known.
+    fn fits(&self, evaluation: &Evaluation, arrangement: &Arrangement<'_>) -> bool {
+        let is_same = |(old, new): (&Unloaded, &Arranged<'_>)| old.name == new.output.name && old.size == new.size;
+        let is_compressed = |id: SectionId| {
+            let bits = evaluation.section(id).map_or(0, |section| section.bits);
+            SectionFlags(bits).has(SectionFlags::COMPRESSED)
+        };
+        let mut pieces = arrangement.outputs.iter().flat_map(|output| &output.pieces);
+        self.unloaded.len() == arrangement.outputs.len()
+            && self.unloaded.iter().zip(&arrangement.outputs).all(is_same)
+            && !pieces.any(|piece| piece.section.map_or(false, is_compressed) && self.is_other(evaluation, piece))
+    }
+}
+
+/// The sections of a link that are not loaded. `map` gives the map of the image, if that is needed. If there are those
+/// of `before`, only what objects with other bytes have in them is written.
 ///
 /// # Errors
 /// `NotMade` if a section cannot be made as GNU ld makes it; and the error of `map`.
 pub fn unloaded<E: From<NotMade>>(
     link: Link<'_>,
-    strips_debugging: bool,
+    arrangement: &Arrangement<'_>,
     image: &[u8],
+    before: Option<Before>,
     map: impl FnOnce() -> Result<Vec<u8>, E>,
 ) -> Result<Vec<Unloaded>, E> {
     let Link { evaluation, objects, laid_out } = link;
-    let arrangement = Arrangement::of(evaluation, objects, strips_debugging)?;
-    let has_relocations = |piece: &Piece<'_>| relocated(evaluation, objects, piece).is_some();
-    let is_plain = !arrangement.outputs.iter().flat_map(|output| &output.pieces).any(has_relocations);
-    if is_plain {
-        return Ok(written(&arrangement, None)?);
+    let before = before.filter(|before| before.fits(evaluation, arrangement));
+    let is_written = |piece: &Piece<'_>| before.as_ref().map_or(true, |before| before.is_other(evaluation, piece));
+    let pieces = arrangement.outputs.iter().flat_map(|output| &output.pieces);
+    let relocated: Vec<Relocated<'_>> =
+        pieces.filter(|piece| is_written(piece)).filter_map(|piece| relocated(evaluation, objects, piece)).collect();
+    if relocated.is_empty() {
+        return Ok(written(arrangement, evaluation, before, None)?);
     }
-    let answered = Answered::read(image);
+    let wanted = names_of(&relocated);
+    let answered = Answered::read(image, &wanted);
     let mut places = Places::new(evaluation);
     match laid_out {
         LaidOut::AsEvaluated if places.are_in(&answered) => {}
@@ -146,11 +204,11 @@ pub fn unloaded<E: From<NotMade>>(
             places = places.with_map(&map, objects);
         }
     }
-    let names = missing_names(&arrangement, evaluation, objects, &answered);
-    let names = LinkNames::look_up(objects, names);
+    let missing = wanted.iter().filter(|name| answered.value(name).is_none());
+    let names = LinkNames::look_up(objects, missing);
     let (image, kept) = (&answered, Kept::of(objects));
-    let targets = Targets { evaluation, objects, arrangement: &arrangement, places, image, names, kept };
-    Ok(written(&arrangement, Some(&targets))?)
+    let targets = Targets { evaluation, objects, arrangement, places, image, names, kept };
+    Ok(written(arrangement, evaluation, before, Some(&targets))?)
 }
 
 /// The object and the section of a piece that has relocations.
@@ -158,34 +216,28 @@ fn relocated<'a>(evaluation: &Evaluation, objects: &'a [Object], piece: &Piece<'
     let id = piece.section?;
     let section = evaluation.section(id)?;
     let (object, number) = (objects.get(section.object.0 as usize)?, section.number()?);
-    object.has_relocations(number).then_some(Relocated { id, object })
+    object.has_relocations(number).then_some(Relocated { object, number })
 }
 
 /// A section with relocations.
 #[derive(Clone, Copy)]
 struct Relocated<'a> {
-    id: SectionId,
     object: &'a Object,
+    number: SectionIndex,
 }
 
-/// The names that relocations have and the image does not.
-fn missing_names(
-    arrangement: &Arrangement<'_>,
-    evaluation: &Evaluation,
-    objects: &[Object],
-    image: &Answered<'_>,
-) -> Vec<BString> {
-    let pieces = arrangement.outputs.iter().flat_map(|output| &output.pieces);
-    let mut found = Vec::new();
-    for Relocated { id, object } in pieces.filter_map(|piece| relocated(evaluation, objects, piece)) {
-        let number = evaluation.section(id).and_then(|section| section.number()).unwrap_or_default();
-        let symbols = object.relocations(number).filter_map(|one| object.symbol(one.symbol));
-        let names = symbols.filter(|symbol| symbol.binding != Binding::Local).map(|symbol| symbol.name);
-        found.extend(names.filter(|name| image.value(name).is_none()).map(BStr::to_owned));
-    }
-    found.sort_unstable();
-    found.dedup();
-    found
+/// The names that relocations of sections refer to.
+fn names_of<'a>(relocated: &[Relocated<'a>]) -> QuickSet<&'a BStr> {
+    let of = |Relocated { object, number }: &Relocated<'a>| -> Vec<&'a BStr> {
+        let mut is_referred = vec![false; object.symbol_count()];
+        for one in object.relocations(*number) {
+            is_referred.get_mut(one.symbol.0 as usize).into_iter().for_each(|own| *own = true);
+        }
+        let referred = (0..).zip(is_referred).filter(|(_, is_referred)| *is_referred);
+        let symbols = referred.filter_map(|(index, _)| object.symbol(SymbolIndex(index)));
+        symbols.filter(|symbol| symbol.binding != Binding::Local).map(|symbol| symbol.name).collect()
+    };
+    map_all(relocated, &of).into_iter().flatten().collect()
 }
 
 /// A piece and the bytes that it gets.
@@ -197,12 +249,20 @@ struct Job<'a> {
 }
 
 /// The sections with their bytes.
-fn written(arrangement: &Arrangement<'_>, targets: Option<&Targets<'_>>) -> Result<Vec<Unloaded>, NotMade> {
+fn written(
+    arrangement: &Arrangement<'_>,
+    evaluation: &Evaluation,
+    mut before: Option<Before>,
+    targets: Option<&Targets<'_>>,
+) -> Result<Vec<Unloaded>, NotMade> {
+    let mut old = before.as_mut().map_or_else(Vec::new, |before| std::mem::take(&mut before.unloaded)).into_iter();
     let mut contents = Vec::with_capacity(arrangement.outputs.len());
     for output in &arrangement.outputs {
         let size = if output.place.kind == elf::SHT_NOBITS { 0 } else { output.size };
-        contents.push(vec![0; usize::try_from(size).map_err(|_| NotMade::TooLarge)?]);
+        let size = usize::try_from(size).map_err(|_| NotMade::TooLarge)?;
+        contents.push(old.next().map_or_else(|| vec![0; size], |old| old.content.into_vec()));
     }
+    let is_written = |piece: &Piece<'_>| before.as_ref().map_or(true, |before| before.is_other(evaluation, piece));
     let mut jobs = Vec::new();
     for (output, content) in arrangement.outputs.iter().zip(&mut contents) {
         let (mut rest, mut end) = (content.as_mut_slice(), 0);
@@ -213,7 +273,9 @@ fn written(arrangement: &Arrangement<'_>, targets: Option<&Targets<'_>>) -> Resu
                 continue; // what overlaps, as of a section that has no bytes in the file
             }
             let (bytes, after) = rest.split_at_mut(start - end).1.split_at_mut(size);
-            jobs.push(Job { piece, address: output.place.address.wrapping_add(piece.at), bytes });
+            if is_written(piece) {
+                jobs.push(Job { piece, address: output.place.address.wrapping_add(piece.at), bytes });
+            }
             (rest, end) = (after, start + size);
         }
     }

@@ -56,15 +56,10 @@ impl<'a> Places<'a> {
         Places { by_map: Some(found), ..self }
     }
 
-    /// The section of an object by the number of its header: they are in the order of objects, and of headers.
+    /// The section of an object by the number of its header.
     pub(super) fn find(&self, object: ObjectIndex, number: SectionIndex) -> Option<(SectionId, &'a InputSection)> {
-        let sections = &self.evaluation.sections;
-        let first = sections.partition_point(|one| one.object < object);
-        let rest = sections.get(first..)?;
-        let is_before = |one: &InputSection| one.object == object && one.number().map_or(false, |own| own < number);
-        let at = rest.partition_point(is_before);
-        let section = rest.get(at).filter(|one| one.object == object && one.number() == Some(number))?;
-        Some((SectionId::new(first + at), section))
+        let id = self.evaluation.section_of(object, number)?;
+        Some((id, self.evaluation.section(id)?))
     }
 
     /// The address of a section that is loaded.

@@ -1,7 +1,10 @@
 //! Merges strings of sections with SHF_MERGE and SHF_STRINGS: each is stored once, and not at all if another one ends
 //! with it (bfd/merge.c of GNU ld 2.40: `record_section`, `merge_strings`, `_bfd_merged_section_offset`).
 
+use std::sync::Arc;
+
 use crate::quick::QuickMap;
+use crate::snapshot::Bytes;
 
 /// A string.
 #[derive(Clone, Copy, Debug)]
@@ -69,6 +72,26 @@ impl Strings {
             Some((start, section, at)) => (*section, at + (offset - start) as u64),
             None => (section, 0),
         }
+    }
+}
+
+/// Strings that were merged, for the next link: they stay if all sections have the bytes that they had.
+#[derive(Clone, Debug, Default)]
+pub struct KeptStrings(Vec<(Vec<Bytes>, Arc<Strings>)>);
+
+impl KeptStrings {
+    /// The strings of some sections, the ones of this number that a link merges together.
+    pub(super) fn merged(&mut self, number: usize, sections: Vec<Bytes>) -> Arc<Strings> {
+        if let Some((_, strings)) = self.0.get(number).filter(|(own, _)| *own == sections) {
+            return Arc::clone(strings);
+        }
+        let strings = Arc::new(Strings::of(&sections.iter().map(|bytes| &**bytes).collect::<Vec<_>>()));
+        let made = (sections, Arc::clone(&strings));
+        match self.0.get_mut(number) {
+            Some(old) => *old = made,
+            None => self.0.push(made),
+        }
+        strings
     }
 }
 
@@ -162,6 +185,19 @@ mod tests {
         let (section, at) = strings.place_of(2, 1);
         assert_eq!(strings.kept[section][at as usize], 0, "the empty string");
         assert_eq!(places(2, &[2, 4]), [(1, 2), (2, 0)]);
+    }
+
+    #[test]
+    fn strings_stay_if_no_section_has_other_bytes() {
+        let sections = |texts: &[&str]| texts.iter().map(|text| Bytes::from(text.as_bytes().to_vec())).collect();
+        let mut kept = KeptStrings::default();
+        let first = kept.merged(0, sections(&["a\0", "b\0"]));
+        let beside = kept.merged(1, sections(&["c\0"]));
+        assert!(Arc::ptr_eq(&first, &kept.merged(0, sections(&["a\0", "b\0"]))));
+        assert!(Arc::ptr_eq(&beside, &kept.merged(1, sections(&["c\0"]))));
+        let other = kept.merged(0, sections(&["a\0", "a\0"]));
+        assert_eq!(other.kept, [b"a\0".to_vec(), Vec::new()]);
+        assert_eq!(kept.merged(1, sections(&["d\0"])).kept, [b"d\0"]);
     }
 
     #[test]

@@ -24,6 +24,7 @@ use crate::command::Discard;
 use crate::layout::Evaluation;
 use crate::objects::{Object, Visibility};
 use crate::report::link_map::LinkMap;
+use crate::unloaded::Spans;
 use globals::Names;
 use locals::Locals;
 pub use names::LinkedNames;
@@ -99,6 +100,8 @@ pub struct Symbols<'a> {
     pub names: &'a LinkedNames,
     /// The map of the image, if this is not laid out as the evaluation has it.
     pub map: Option<&'a LinkMap>,
+    /// Where what is not loaded is, with debug information.
+    pub spans: Option<&'a Spans>,
 }
 
 /// How an image is laid out.

@@ -1,14 +1,19 @@
 //! The names of the objects of a link and of its script, in the order of GNU ld's table.
 
+use std::borrow::Cow;
 use std::ops::Deref;
 use std::sync::{Arc, Mutex};
 
 use bstr::{BString, ByteSlice};
 use object::elf;
 
+use crate::gnu_map::Named;
 use crate::layout::name_table::{table_hash, NameTable};
 use crate::layout::Evaluation;
-use crate::objects::{Binding, Home, Object, Rank, Symbol, SymbolIndex, SymbolKind, GLOBAL_OFFSET_TABLE, TABLE};
+use crate::objects::{
+    Binding, Definition, Home, LinkNames, Object, ObjectIndex, Rank, Symbol, SymbolIndex, SymbolKind,
+    GLOBAL_OFFSET_TABLE, TABLE,
+};
 use crate::quick::QuickMap;
 use crate::script::tree::Name;
 
@@ -227,6 +232,26 @@ impl LinkedNames {
     /// The names, in their order.
     pub(super) fn iter(&self) -> impl Iterator<Item = &LinkedName> {
         self.names.iter()
+    }
+
+    /// The names in their order, for a map.
+    pub fn named<'a>(&'a self) -> Vec<Named<'a>> {
+        let commons = self.names.iter().filter(|one| one.rank == Some(Rank::Common)).map(|one| &one.name);
+        let commons = LinkNames::look_up(&self.objects, commons);
+        let definition = |one: &LinkedName| match one.rank? {
+            Rank::Common => commons.definition(one.name.as_bstr()).copied(),
+            rank => {
+                let (number, index) = one.defined_by?;
+                let symbol = self.objects.get(number)?.symbol(index)?;
+                let (object, home) = (ObjectIndex(number as u32), symbol.home);
+                Some(Definition { object, symbol: index, home, value: symbol.value, size: symbol.size, rank })
+            }
+        };
+        let named = |one: &'a LinkedName| {
+            let (name, is_spoken) = (Cow::Borrowed(one.name.as_bstr()), one.is_named);
+            Named { name, definition: definition(one), is_spoken }
+        };
+        self.names.iter().map(named).collect()
     }
 
     /// Takes objects that say the same of names, but for sizes.

@@ -79,7 +79,7 @@ impl Places {
         if let Some(map) = symbols.map {
             places.move_by(map, symbols.objects);
         }
-        places.order = order_of(symbols.evaluation, symbols.objects);
+        places.order = order_of(symbols);
         places
     }
 
@@ -233,13 +233,14 @@ fn found_in<'a>(
 
 /// The objects in the order in which GNU ld copies their sections into the file, each at its first one. Strings that are
 /// not loaded are merged, by which a section may be left out; that is looked up if it matters.
-fn order_of(evaluation: &Evaluation, objects: &[Object]) -> Vec<usize> {
+fn order_of(symbols: &Symbols<'_>) -> Vec<usize> {
+    let (evaluation, objects) = (symbols.evaluation, symbols.objects);
     let (order, has_open) = order_with(evaluation, objects, &|_| false);
     if !has_open {
         return order;
     }
-    let spans = Spans::of(evaluation, objects, false);
-    order_with(evaluation, objects, &|id| spans.is_left_out(id)).0
+    let of = |spans: &Spans| order_with(evaluation, objects, &|id| spans.is_left_out(id)).0;
+    symbols.spans.map_or_else(|| of(&Spans::of(evaluation, objects, false)), of)
 }
 
 /// The objects in the order in which GNU ld copies their sections into the file, if some sections are left out; and

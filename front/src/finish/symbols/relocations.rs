@@ -82,7 +82,7 @@ impl Referred {
 /// Whether the definition of a name is in a section that is left out.
 fn is_discarded(one: &LinkedName, symbols: &Symbols<'_>) -> bool {
     let evaluation = symbols.evaluation;
-    let section = one.defined_by.and_then(|(number, index)| match symbols.objects.get(number)?.symbol(index)?.home {
+    let section = one.defined_by.and_then(|(number, index)| match symbols.objects.get(number)?.home(index)? {
         Home::Section(section) => evaluation.section(evaluation.section_of(ObjectIndex(number as u32), section)?),
         _ => None,
     });
