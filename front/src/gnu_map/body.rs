@@ -181,7 +181,7 @@ impl<'a> Body<'a> {
     fn own_size(&self, section: &InputSection) -> u64 {
         let number = section.number().unwrap_or(SectionIndex(0));
         let object = self.request.objects.get(section.object.0 as usize);
-        object.and_then(|object| object.section(number)).map_or(section.size, |own| own.size)
+        object.and_then(|object| object.section_size(number)).unwrap_or(section.size)
     }
 
     /// `print_assignment`

@@ -20,26 +20,35 @@ pub struct Named<'a> {
     pub is_spoken: bool,
 }
 
-/// The names of input sections, with their places there: by section, and by ascending places.
-pub(super) struct Defined<'a>(Vec<(SectionId, (u64, &'a BStr))>);
+/// The names of input sections, with their places there, which ascend.
+pub(super) struct Defined<'a> {
+    names: Vec<(u64, &'a BStr)>,
+    /// By section: where its names begin; at the end how many there are.
+    first: Vec<usize>,
+}
 
 impl<'a> Defined<'a> {
     /// The names in the order of GNU ld's table, which is that of names of one value.
     pub(super) fn of(request: &'a Request<'_>) -> Defined<'a> {
         let place = |named: &'a Named<'_>| {
             let (section, at) = place_of(request, named)?;
-            Some((section, (at, named.name.as_bstr())))
+            Some((section, at, named.name.as_bstr()))
         };
         let mut found: Vec<_> = request.names.iter().filter_map(place).collect();
-        found.sort_by_key(|(section, (at, _))| (*section, *at));
-        Defined(found)
+        found.sort_by_key(|(section, at, _)| (*section, *at));
+        let mut first = Vec::with_capacity(request.evaluation.sections.len() + 1);
+        for (number, (section, ..)) in found.iter().enumerate() {
+            first.resize(first.len().max(section.index() + 1), number);
+        }
+        first.resize(first.len().max(request.evaluation.sections.len()) + 1, found.len());
+        Defined { names: found.into_iter().map(|(_, at, name)| (at, name)).collect(), first }
     }
 
     /// The names that are defined in a section, each with its place there.
-    pub(super) fn in_section(&self, section: SectionId) -> impl Iterator<Item = &(u64, &'a BStr)> {
-        let first = self.0.partition_point(|(own, _)| *own < section);
-        let rest = self.0.get(first..).unwrap_or_default();
-        rest.iter().take_while(move |(own, _)| *own == section).map(|(_, name)| name)
+    pub(super) fn in_section(&self, section: SectionId) -> &[(u64, &'a BStr)] {
+        let at = section.index();
+        let bounds = self.first.get(at).copied().zip(self.first.get(at + 1).copied());
+        bounds.and_then(|(start, end)| self.names.get(start..end)).unwrap_or_default()
     }
 }
 

@@ -13,6 +13,15 @@ use crate::quick::QuickMap;
 use crate::snapshot::Bytes;
 use std::sync::Arc;
 
+/// What is merged in a link, of sections that are loaded and of others.
+#[derive(Clone, Debug, Default)]
+pub struct AllMerges {
+    /// Of those that are loaded.
+    pub loaded: Arc<Merges>,
+    /// Of the others.
+    pub beside: Arc<Merges>,
+}
+
 /// What is merged in a link.
 #[derive(Clone, Debug, Default)]
 pub struct Merges {
@@ -70,18 +79,18 @@ impl Merges {
 
 impl Link<'_> {
     /// Merges sections; `before` is what was merged of the same objects before some changed.
-    pub fn merge(&mut self, objects: &[Object], before: Option<&Merges>) {
+    pub fn merge(&mut self, objects: &[Object], before: &AllMerges) {
         if !self.settings.merges {
             return;
         }
         let mut followed = QuickMap::default();
         let (loaded, beside) = self.candidates(objects, &mut followed);
-        self.merges = Arc::new(self.merged(loaded, before));
-        self.merges_beside = Arc::new(self.merged(beside, None));
+        self.merges = Arc::new(self.merged(loaded, &before.loaded));
+        self.merges_beside = Arc::new(self.merged(beside, &before.beside));
     }
 
     /// Merges the sections of groups.
-    fn merged(&mut self, groups: Vec<(MergeKind, Vec<Candidate>)>, before: Option<&Merges>) -> Merges {
+    fn merged(&mut self, groups: Vec<(MergeKind, Vec<Candidate>)>, before: &Merges) -> Merges {
         let mut merges = Merges::default();
         for (kind, candidates) in groups {
             let group = group_of(kind, &candidates, before);
@@ -171,9 +180,9 @@ struct Candidate {
 }
 
 /// The merged sections of one kind: those of before if the sections are the same.
-fn group_of(kind: MergeKind, candidates: &[Candidate], before: Option<&Merges>) -> Arc<Group> {
-    let first = candidates.first().and_then(|first| before?.numbers.get(&first.source));
-    let old = first.and_then(|(group, _)| before?.groups.get(*group as usize));
+fn group_of(kind: MergeKind, candidates: &[Candidate], before: &Merges) -> Arc<Group> {
+    let first = candidates.first().and_then(|first| before.numbers.get(&first.source));
+    let old = first.and_then(|(group, _)| before.groups.get(*group as usize));
     let is_same = |old: &Arc<Group>| {
         let sources = old.sources.iter().zip(&old.contents);
         old.kind == kind

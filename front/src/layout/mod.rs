@@ -54,7 +54,7 @@ mod values;
 
 pub use evaluation::Evaluation;
 pub use flags::Flags;
-pub use merging::Merges;
+pub use merging::{AllMerges, Merges};
 pub use settings::Settings;
 pub use stop::{NotEvaluated, Refused, RefusedReason, Stop};
 pub use taker::Taker;
@@ -67,7 +67,6 @@ pub(crate) use glob::has_wildcard;
 use link::Link;
 use program::Program;
 use rows::Rows;
-use std::sync::Arc;
 
 /// What GNU ld makes of a script over objects.
 ///
@@ -92,8 +91,8 @@ pub struct Layout {
     program: Program,
     rows: Rows,
     settings: Settings,
-    /// What was merged of these objects before some of them changed.
-    merged: Option<Arc<Merges>>,
+    /// What was merged of these objects before some of them changed: of sections that are loaded, and of others.
+    merged: AllMerges,
 }
 
 impl Layout {
@@ -104,7 +103,7 @@ impl Layout {
     pub fn new(script: &Script, objects: &[Object], settings: &Settings) -> Result<Layout, Stop> {
         let mut program = compile::compile(script)?;
         let rows = Rows::new(&program.takings, &mut program.names, objects, settings);
-        Ok(Layout { program, rows, settings: settings.clone(), merged: None })
+        Ok(Layout { program, rows, settings: settings.clone(), merged: AllMerges::default() })
     }
 
     /// Takes objects some of which changed; gives whether that is all: their sections have the names, types, flags and
@@ -124,8 +123,8 @@ impl Layout {
     }
 
     /// Takes what an evaluation merged, of which the next one uses what is the same.
-    pub fn remember(&mut self, merged: &Arc<Merges>) {
-        self.merged = Some(Arc::clone(merged));
+    pub fn remember(&mut self, merged: AllMerges) {
+        self.merged = merged;
     }
 
     /// Some of the names that script and objects have, in the order of GNU ld's table of symbols.
@@ -141,6 +140,6 @@ impl Layout {
     /// # Errors
     /// `Stop::Refused` if GNU ld makes no image, `Stop::NotEvaluated` if something is not evaluated.
     pub fn evaluate(&self, objects: &[Object]) -> Result<Evaluation, Stop> {
-        passes::run(self.program.clone(), &self.rows, objects, &self.settings, self.merged.as_deref())
+        passes::run(self.program.clone(), &self.rows, objects, &self.settings, &self.merged)
     }
 }

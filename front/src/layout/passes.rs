@@ -7,7 +7,7 @@ use super::flags::Flags;
 use super::fold::Phase;
 use super::ids::{OutputId, RegionId};
 use super::link::Link;
-use super::merging::Merges;
+use super::merging::AllMerges;
 use super::orphans::Orphans;
 use super::program::{Output, OutputKind, Program, StepKind};
 use super::result::first_made;
@@ -24,7 +24,7 @@ pub(crate) fn run(
     rows: &Rows,
     objects: &[Object],
     settings: &Settings,
-    merged: Option<&Merges>,
+    merged: &AllMerges,
 ) -> Result<Evaluation, Stop> {
     for (name, span) in files_of(&program) {
         if !objects.iter().any(|object| object.origin().archive.is_none() && object.origin().name == name) {

@@ -145,6 +145,12 @@ impl Elf {
         (at > 0).then(|| self.section_of(index.0, header, *name))
     }
 
+    /// The size that the header of a section says; `None` for 0 and past the last one.
+    pub fn section_size(&self, index: SectionIndex) -> Option<u64> {
+        let header = self.headers().get(index.0 as usize)?;
+        (index.0 > 0).then(|| header.sh_size.get(Little))
+    }
+
     /// The bytes of a section; none if it has none in the file, or they are not all there.
     pub fn contents(&self, index: SectionIndex) -> &[u8] {
         let header = self.headers().get(index.0 as usize);
@@ -178,10 +184,10 @@ impl Elf {
         (index.0 > 0).then(|| self.symbol_of(index.0, entry))
     }
 
-    /// Where a symbol is; `None` for 0 and past the last one.
-    pub fn home(&self, index: SymbolIndex) -> Option<Home> {
+    /// The same without its name, which takes longer to find.
+    pub fn nameless_symbol(&self, index: SymbolIndex) -> Option<Symbol<'_>> {
         let entry = self.entries().get(index.0 as usize)?;
-        (index.0 > 0).then(|| Home::from(entry.st_shndx.get(Little)))
+        (index.0 > 0).then(|| symbol_with(b"".as_bstr(), index.0, entry))
     }
 
     /// The symbols from number 1 on, local ones too.

@@ -37,7 +37,7 @@ use crate::finish::{Form, KeptTables, LaidOut, LinkedNames, Rights, Strip, Symbo
 use crate::gnu_map::Named;
 use crate::inputs::{self, InputFault, Loaded, ScriptInputs};
 use crate::layout::evaluation::Placed;
-use crate::layout::{Evaluation, Flags, Layout, Settings, Stop};
+use crate::layout::{AllMerges, Evaluation, Flags, Layout, Settings, Stop};
 use crate::mirror::{self, Held};
 use crate::objects::{LinkNames, Object, ObjectIndex};
 use crate::residual::{has_names, residual, Request, Residual};
@@ -285,10 +285,13 @@ impl LinkPlan {
             .take()
             .filter(|_| is_in_place)
             .and_then(|mut layout| layout.renew(objects, &changed).then_some(layout));
-        let merged = self.evaluation.as_ref().ok().map(|evaluation| Arc::clone(&evaluation.merges));
+        let merged = self.evaluation.as_ref().ok().map(|evaluation| AllMerges {
+            loaded: Arc::clone(&evaluation.merges),
+            beside: Arc::clone(&evaluation.merges_beside),
+        });
         let laid_out = match kept {
             Some(mut layout) => {
-                merged.iter().for_each(|merged| layout.remember(merged));
+                merged.into_iter().for_each(|merged| layout.remember(merged));
                 layout.set_keeps_named_by_frames(false);
                 let evaluation = layout.evaluate(objects);
                 (Some(layout), evaluation)

@@ -9,7 +9,8 @@ use super::places::Places;
 use crate::layout::evaluation::Fate;
 use crate::layout::Evaluation;
 use crate::objects::{
-    Binding, Home, LinkNames, Object, ObjectIndex, SectionIndex, SectionKind, Symbol, SymbolIndex, SymbolKind,
+    Binding, Home, LinkNames, Object, ObjectIndex, SectionFlags, SectionIndex, SectionKind, Symbol, SymbolIndex,
+    SymbolKind,
 };
 
 /// What a symbol with an addend stands for.
@@ -37,13 +38,14 @@ impl Targets<'_> {
     /// The target of a symbol of an object, with an addend.
     pub(super) fn of(&self, object: ObjectIndex, number: SymbolIndex, addend: u64) -> Target {
         let own = self.objects.get(object.0 as usize);
-        let symbol = match own.and_then(|own| own.symbol(number)) {
+        let nameless = match own.and_then(|own| own.nameless_symbol(number)) {
             Some(symbol) => symbol,
             None => return Target::Address(addend),
         };
-        if symbol.binding == Binding::Local {
-            return self.of_home(object, &symbol, addend);
+        if nameless.binding == Binding::Local {
+            return self.of_home(object, &nameless, addend);
         }
+        let symbol = own.and_then(|own| own.symbol(number)).unwrap_or(nameless);
         if let Some(value) = self.image.value(symbol.name) {
             return Target::Address(value.wrapping_add(addend));
         }
@@ -81,7 +83,9 @@ impl Targets<'_> {
             Some(found) => found,
             None => return Target::Gone,
         };
-        if let Some(address) = self.of_merged(object, number, symbol, addend) {
+        let may_be_merged = SectionFlags(section.bits).has(SectionFlags::MERGE);
+        let merged = if may_be_merged { self.of_merged(object, number, symbol, addend) } else { None };
+        if let Some(address) = merged {
             return Target::Address(address);
         }
         if let Some(spot) = self.arrangement.spot(id) {

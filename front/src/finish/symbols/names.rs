@@ -229,6 +229,15 @@ impl LinkedNames {
         self.mentions.get(at).copied().filter(|place| *place != NOWHERE).map(|place| place as usize)
     }
 
+    /// The first of an object's symbols that is not local, and the places of the names from that one on; no place of a
+    /// name that is left out is one of them.
+    pub(super) fn in_object(&self, object: usize) -> (usize, &[u32]) {
+        let first = self.objects.get(object).map_or(1, |object| object.first_global().0.max(1) as usize);
+        let start = self.first.get(object).copied().unwrap_or(self.mentions.len());
+        let end = self.first.get(object + 1).copied().unwrap_or(self.mentions.len());
+        (first, self.mentions.get(start..end).unwrap_or_default())
+    }
+
     /// The names, in their order.
     pub(super) fn iter(&self) -> impl Iterator<Item = &LinkedName> {
         self.names.iter()
@@ -242,7 +251,7 @@ impl LinkedNames {
             Rank::Common => commons.definition(one.name.as_bstr()).copied(),
             rank => {
                 let (number, index) = one.defined_by?;
-                let symbol = self.objects.get(number)?.symbol(index)?;
+                let symbol = self.objects.get(number)?.nameless_symbol(index)?;
                 let (object, home) = (ObjectIndex(number as u32), symbol.home);
                 Some(Definition { object, symbol: index, home, value: symbol.value, size: symbol.size, rank })
             }

@@ -8,7 +8,7 @@ use super::Symbols;
 use crate::layout::evaluation::{Definer, Fate};
 use crate::layout::ids::{OutputId, SectionId};
 use crate::layout::Flags;
-use crate::objects::{Binding, Home, Object, ObjectIndex, Relocation, SectionIndex, Symbol, SymbolIndex, SymbolKind};
+use crate::objects::{Binding, Home, Object, ObjectIndex, Relocation, SectionIndex, Symbol, SymbolKind};
 use crate::parallel::{do_all, map_all};
 use crate::unloaded::Kept;
 
@@ -67,9 +67,10 @@ impl Referred {
         let mut used = vec![false; symbols.names.iter().count()];
         let objects = symbols.objects.iter().zip(&self.0).enumerate();
         for (number, (_, referred)) in objects.filter(|(_, (object, _))| !is_own_object(object)) {
-            for index in (0..).zip(referred).filter(|(_, is_referred)| **is_referred).map(|(index, _)| index) {
-                let name = symbols.names.name_of(number, SymbolIndex(index));
-                name.and_then(|name| used.get_mut(name)).into_iter().for_each(|used| *used = true);
+            let (first, names) = symbols.names.in_object(number);
+            let referred = referred.get(first..).unwrap_or_default();
+            for (name, _) in names.iter().zip(referred).filter(|(_, is_referred)| **is_referred) {
+                used.get_mut(*name as usize).into_iter().for_each(|used| *used = true);
             }
         }
         for (used, one) in used.iter_mut().zip(symbols.names.iter()).filter(|(used, _)| **used) {
@@ -82,10 +83,11 @@ impl Referred {
 /// Whether the definition of a name is in a section that is left out.
 fn is_discarded(one: &LinkedName, symbols: &Symbols<'_>) -> bool {
     let evaluation = symbols.evaluation;
-    let section = one.defined_by.and_then(|(number, index)| match symbols.objects.get(number)?.home(index)? {
-        Home::Section(section) => evaluation.section(evaluation.section_of(ObjectIndex(number as u32), section)?),
-        _ => None,
-    });
+    let section =
+        one.defined_by.and_then(|(number, index)| match symbols.objects.get(number)?.nameless_symbol(index)?.home {
+            Home::Section(section) => evaluation.section(evaluation.section_of(ObjectIndex(number as u32), section)?),
+            _ => None,
+        });
     let is_out = section.map_or(false, |one| one.fate == Fate::Discarded || one.flags.has(Flags::EXCLUDE));
     let known = if is_out && one.is_named { evaluation.symbol(&one.name) } else { None };
     is_out && !known.map_or(false, |known| matches!(known.definer, Definer::Script(_) | Definer::Linker))
