@@ -98,9 +98,9 @@ class Folder:
         return [name for name in os.listdir(self.path) if name.endswith(".new")]
 
     def replace(self) -> None:
-        """Puts a copy of the folder in its place."""
+        """Puts a copy of the folder, without what is hidden in it, in its place."""
         old, new = (self.path.with_name(f"{self.path.name}.{what}") for what in ("old", "new"))
-        shutil.copytree(self.path, new, copy_function=copied)
+        shutil.copytree(self.path, new, copy_function=copied, ignore=shutil.ignore_patterns(".*"))
         os.rename(self.path, old)
         os.rename(new, self.path)
         shutil.rmtree(old)
@@ -111,9 +111,7 @@ class Folder:
 
 
 def copied(source: str, target: str) -> None:
-    """Copies a file with its times, or makes a FIFO; hidden files are left out."""
-    if os.path.basename(source).startswith("."):
-        return
+    """Copies a file with its times, or makes a FIFO."""
     if Path(source).is_fifo():
         os.mkfifo(target)
     else:
