@@ -235,6 +235,14 @@ class CollectingTest(BesideGnu):
             .tables : { *(.gcc_except_table*) *(.data*) } /DISCARD/ : { *(*) } }""")
         self.collects("tables.o")
 
+    def test_unwinding_that_is_not_understood(self) -> None:
+        """Entries with an instruction that GNU ld does not know: what they name does not stay by them."""
+        self.compile("strange.s", """ .section .gcc_except_table,"a"\n table: .byte 1\n .text\n .globl _start\n
+            _start: .cfi_startproc\n .cfi_personality 0x1b, personality\n .cfi_lsda 0x1b, table\n .cfi_escape 0x3f\n
+            nop\n .cfi_endproc\n personality: nop\n""")
+        self.write("t.ld", "ENTRY(_start) SECTIONS { . = 0x10000; .text : { *(.text*) } .eh_frame : { *(.eh_frame) } }")
+        self.collects("strange.o")
+
     def test_unwinding_of_many(self) -> None:
         """Of more than a page of functions that go, `.eh_frame` says nothing."""
         many = "".join(f"int left_out_{number}(int x) {{ return x * {number + 7} + 3; }}\n" for number in range(300))

@@ -1,5 +1,6 @@
 //! The entries of `.eh_frame` (Linux Standard Base, 'Exception Frames'), as far as references depend on them.
 
+use super::entries::entries_of;
 use crate::objects::{Home, Object, SectionIndex, SymbolIndex};
 use std::collections::BTreeMap;
 
@@ -27,8 +28,9 @@ pub(crate) fn unwinding_of(object: &Object) -> Unwinding {
     found
 }
 
-/// By section of code what its entries refer to; `None` if these are not understood.
+/// By section of code what its entries refer to; `None` if GNU ld does not understand these, and goes by none of them.
 fn references_of(object: &Object, section: SectionIndex) -> Option<Vec<(SectionIndex, Vec<SymbolIndex>)>> {
+    entries_of(object, section, &|_| false)?;
     let data = object.contents(section);
     let relocations: BTreeMap<u64, SymbolIndex> =
         object.relocations(section).map(|relocation| (relocation.offset, relocation.symbol)).collect();
