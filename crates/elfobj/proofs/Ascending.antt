@@ -1,27 +1,17 @@
 -- The numbers of linked sections ascend, so that a binary search finds them.
-use Rattle.std.proofs.Common.{◌≡◌, ◌≢◌, ℕ, zero, suc, ◌<◌, ◌≤◌, List, ◌++◌, get_or, length, map, Some, None, Option, Ok}
-use Rattle.std.proofs.Common.{Err, ap, sym, subst, inl, inr, arith}
-use Rattle.std.specs.List.{All, AllPairs}
-use Rattle.std.specs.List.Sorted.{IsBinarySearchResult, IsNonDecreasingBy}
-use Rattle.std.specs.Option.{option_to_list}
+use Rattle.elfobj.proofs.Common.{All, All-map, AllPairs, Err, IsBinarySearchResult, IsNonDecreasingBy, List, None, Ok}
+use Rattle.elfobj.proofs.Common.{Option, Progbits, SectionHeader, SectionKind, Some, ap, append-nil, arith, cases_lt}
+use Rattle.elfobj.proofs.Common.{e_shnum, get_or, header, inl, inr, length, linked_kind, linked_section, map}
+use Rattle.elfobj.proofs.Common.{map-append, option_to_list, section_of, sections_below, sections_of, subst, suc, sym}
+use Rattle.elfobj.proofs.Common.{zero, ℕ, ◌++◌, ◌<◌, ◌≡◌, ◌≢◌, ◌≤◌}
 use Rattle.std.specs.Ordering.{nat_cmp, ordering_index}
-use Rattle.std.proofs.lemmas.Bool.{cases_lt}
 use Rattle.std.proofs.lemmas.Bool.Decides.{nat_tests}
 use Rattle.std.proofs.lemmas.Cmp.{ranked}
-use Rattle.std.proofs.lemmas.List.{append-nil, map-append}
-use Rattle.std.proofs.lemmas.List.Elements.{All-map}
 use Rattle.std.proofs.lemmas.List.Quantifiers.{all_pairs_push}
 use Rattle.std.proofs.lemmas.List.Sorted.{IsNonDecreasingBy-from_default}
-use Rattle.elfobj_file.specs.ElfHeader.{e_shnum}
-use Rattle.elfobj_file.specs.LinkedKinds.{linked_kind}
 use Rattle.elfobj.specs.Numbering.{IsNumberedAt}
-use Rattle.elfobj_file.specs.SectionHeaders.{header}
-use Rattle.elfobj_file.specs.Sections.{linked_section, section_of, sections_below, sections_of}
 use Rattle.elfobj_file.specs.declared.section.Section.{Section}
 use Rattle.elfobj_file.specs.declared.section.SectionIndex.{SectionIndex}
-use Rattle.elfobj_file.specs.declared.section.SectionKind.{SectionKind}
-use Rattle.elfobj_file.specs.declared.section.SectionKind.TheVariants.{Progbits}
-use Rattle.elfobj_file.specs.declared.section_header.SectionHeader.{SectionHeader}
 use Rattle.elfobj.proofs.RelocationReads.{all_below}
 
 abbrev pub IsBefore : Section → Section → Type 0

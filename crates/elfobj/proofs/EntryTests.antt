@@ -1,26 +1,17 @@
 -- Entries that have passed, for a section and for all that are no smaller.
-use Rattle.std.proofs.Common.{◌≡◌, ℕ, zero, suc, ◌+◌, ◌*◌, ◌<◌, ◌≤◌, ◌≢◌, List, Bool, false, ◌%◌, get_or, length, map}
-use Rattle.std.proofs.Common.{take, mod-lt, refl, ap, sym, ◌∙◌, subst, arith, inl, inr, ⊎_elim}
-use Rattle.std.specs.List.{All, list_any}
-use Rattle.std.specs.List.Sorted.{IsNonDecreasingBy}
-use Rattle.std.specs.Prelude.{slice_set}
-use Rattle.std.proofs.lemmas.Bool.{cases_lt, le-ltb, ltb-false, or_from, or_parts, true≢false}
-use Rattle.std.proofs.lemmas.List.{get_or-set_other, get_or-set_same, get_or_default, length-set, take_all}
-use Rattle.std.proofs.lemmas.List.Folds.{list_any-append}
-use Rattle.elfobj.specs.EntryTests.{HavePassed, PassesIn, ends_in, field_ends}
-use Rattle.elfobj_file.specs.RelocationEntries.{relocation_entry_at, relocation_entries_below}
-use Rattle.elfobj_file.specs.Relocations.{field_end, relocation_of}
-use Rattle.elfobj.specs.Runs.{IsTableOf, has_refused_entry, is_refused_for}
+use Rattle.elfobj.proofs.Common.{All, Any, Bool, FiniArray, HavePassed, InitArray, IsNonDecreasingBy, IsTableOf, List}
+use Rattle.elfobj.proofs.Common.{Nobits, Note, PassesIn, PreinitArray, Progbits, Relocation, RelocationEntry}
+use Rattle.elfobj.proofs.Common.{SectionKind, Unwind, ap, arith, cases_lt, ends_in, false, field_end, field_ends}
+use Rattle.elfobj.proofs.Common.{get_or, get_or-set_other, get_or-set_same, get_or_default, has_refused_entry, inl, inr}
+use Rattle.elfobj.proofs.Common.{is_refused_for, le-ltb, length, length-set, list_any, list_any-append, ltb-false, map}
+use Rattle.elfobj.proofs.Common.{mod-lt, or_from, or_parts, refl, relocation_entries_below, relocation_entry_at}
+use Rattle.elfobj.proofs.Common.{relocation_of, slice_set, subst, suc, sym, take, take_all, true≢false, zero, ℕ, ⊎_elim}
+use Rattle.elfobj.proofs.Common.{◌%◌, ◌*◌, ◌+◌, ◌<◌, ◌∙◌, ◌≡◌, ◌≢◌, ◌≤◌}
 use Rattle.elfobj_file.specs.Tables.{is_outside}
-use Rattle.elfobj_file.specs.declared.relocation.Relocation.{Relocation}
-use Rattle.elfobj_file.specs.declared.relocation_entry.RelocationEntry.{RelocationEntry}
 use Rattle.elfobj.specs.declared.relocation_fault.EntryFault.{EntryFault}
-use Rattle.elfobj.specs.declared.relocation_fault.EntryFault.TheVariants.{Any, Symbol, Kind, Bounds}
+use Rattle.elfobj.specs.declared.relocation_fault.EntryFault.TheVariants.{Symbol, Kind, Bounds}
 use Rattle.elfobj.specs.declared.relocation_run.SectionTable.{SectionTable}
 use Rattle.elfobj_file.specs.declared.section.Section.{Section}
-use Rattle.elfobj_file.specs.declared.section.SectionKind.{SectionKind}
-use Rattle.elfobj_file.specs.declared.section.SectionKind.TheVariants.{Progbits, Nobits, Note, InitArray, FiniArray}
-use Rattle.elfobj_file.specs.declared.section.SectionKind.TheVariants.{PreinitArray, Unwind}
 use Rattle.elfobj.proofs.RelocationReads.{none_mapped}
 
 -- a field that lies in a section lies in all that are no smaller

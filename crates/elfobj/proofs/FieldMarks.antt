@@ -1,17 +1,10 @@
 -- Marks on the bytes of fields, as a window of relocations moves on.
-use Rattle.std.proofs.Common.{◌≡◌, ℕ, suc, ◌+◌, ◌-◌, ◌<◌, ◌≤◌, ◌⊎◌, List, [], ◌∷◌, Bool, true, false, get_or, length}
-use Rattle.std.proofs.Common.{map, take, drop, min, max, refl, ap, sym, ◌∙◌, subst, arith, inl, inr, ⊎_elim, pos}
-use Rattle.std.specs.List.{list_any, slice_range}
-use Rattle.std.specs.List.Sorted.{IsNonDecreasingBy}
-use Rattle.std.proofs.lemmas.Bool.{cases_Bool, cases_lt, both_ways, false_from_ne_true, ltb-true, lt-ltb, or_from}
-use Rattle.std.proofs.lemmas.List.{get_or-drop, get_or-take, get_or_default, length-drop, length-take, take_all}
-use Rattle.std.proofs.lemmas.List.Folds.{list_any_none}
-use Rattle.elfobj.specs.FieldMarks.{IsTaken, IsWindow}
-use Rattle.elfobj.specs.PartSpans.{relocations_in}
-use Rattle.elfobj.specs.Profile.{AreApart}
-use Rattle.elfobj_file.specs.Relocations.{field_end, meets, share_bytes}
-use Rattle.elfobj_file.specs.declared.span.Span.{Span}
-use Rattle.elfobj_file.specs.declared.relocation.Relocation.{Relocation}
+use Rattle.elfobj.proofs.Common.{AreApart, Bool, IsNonDecreasingBy, IsTaken, IsWindow, List, Relocation, Span, [], ap}
+use Rattle.elfobj.proofs.Common.{arith, both_ways, cases_Bool, cases_lt, drop, false, false_from_ne_true, field_end}
+use Rattle.elfobj.proofs.Common.{get_or, get_or-drop, get_or-take, get_or_default, inl, inr, length, length-drop}
+use Rattle.elfobj.proofs.Common.{length-take, list_any, list_any_none, lt-ltb, ltb-true, map, max, meets, min, or_from}
+use Rattle.elfobj.proofs.Common.{pos, refl, relocations_in, share_bytes, slice_range, subst, suc, sym, take, take_all}
+use Rattle.elfobj.proofs.Common.{true, ℕ, ⊎_elim, ◌+◌, ◌-◌, ◌<◌, ◌∙◌, ◌∷◌, ◌≡◌, ◌≤◌, ◌⊎◌}
 use Rattle.elfobj_file.specs.declared.relocation.RelocationKind.TheVariants as kind
 use Rattle.elfobj.proofs.RelocationLimits.{all_apart}
 

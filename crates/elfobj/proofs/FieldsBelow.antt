@@ -1,25 +1,14 @@
 -- Fields of relocations that are not refused end within the largest section that has any, in whatever order their
 -- tables come.
-use Rattle.std.proofs.Common.{◌≡◌, ℕ, ◌+◌, ◌-◌, ◌<◌, ◌≤◌, List, [], Bool, false, get_or, length, map, ap, sym, ◌∙◌}
-use Rattle.std.proofs.Common.{subst, arith, Result, Ok, Err, None, find, inl, inr}
-use Rattle.std.specs.Prelude.{IfOk}
-use Rattle.std.specs.List.{All, list_any}
-use Rattle.std.specs.List.Sorted.{IsPermutation}
-use Rattle.std.proofs.lemmas.Bool.{both_ways, cases_lt, false_from_ne_true}
-use Rattle.std.proofs.lemmas.List.{get_or-map, length-map}
-use Rattle.std.proofs.lemmas.List.Folds.{list_any_at}
+use Rattle.elfobj.proofs.Common.{All, AreBelow, AreRelocated, AreTablesOf, Bool, Err, FieldBounds, IfOk, IsPermutation}
+use Rattle.elfobj.proofs.Common.{IsTableOf, List, None, Ok, Relocation, RelocationSection, RelocationType, Result, Span}
+use Rattle.elfobj.proofs.Common.{[], ap, arith, both_ways, cases_lt, entry_refusals, false, false_from_ne_true}
+use Rattle.elfobj.proofs.Common.{field_end, find, get_or, get_or-map, holds, inl, inr, length, length-map, list_any}
+use Rattle.elfobj.proofs.Common.{list_any_at, map, relocation_entries_below, relocation_of, relocations_at}
+use Rattle.elfobj.proofs.Common.{relocations_in, share_bytes, subst, sym, ℕ, ◌+◌, ◌-◌, ◌<◌, ◌∙◌, ◌≡◌, ◌≤◌}
 use Rattle.std.proofs.lemmas.List.Sorted.{All-permutation, IsPermutation-map, list_any-IsPermutation}
-use Rattle.elfobj.specs.FieldMarks.{AreBelow}
-use Rattle.elfobj.specs.PartSpans.{AreRelocated, relocations_in}
-use Rattle.elfobj_file.specs.Refusal.{entry_refusals, holds}
-use Rattle.elfobj_file.specs.RelocationEntries.{relocation_entries_below}
-use Rattle.elfobj_file.specs.Relocations.{field_end, relocation_of, relocations_at, share_bytes}
-use Rattle.elfobj.specs.Runs.{AreTablesOf, IsTableOf}
 use Rattle.elfobj_file.specs.Tables.{has_field_outside, has_wrong_bounds, is_outside, linked_sections}
-use Rattle.elfobj_file.specs.declared.span.Span.{Span}
 use Rattle.elfobj.specs.declared.relocation_run.SectionTable.{SectionTable}
-use Rattle.elfobj_file.specs.declared.refusal.ObjectRefusal.TheVariants.{FieldBounds, RelocationSection, RelocationType}
-use Rattle.elfobj_file.specs.declared.relocation.Relocation.{Relocation}
 use Rattle.elfobj_file.specs.declared.section.Section.{Section}
 use Rattle.elfobj.proofs.FieldMarks.{stretch_at, stretch_length}
 use Rattle.elfobj.proofs.Limits.{cond_none}

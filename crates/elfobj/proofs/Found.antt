@@ -1,13 +1,8 @@
 -- A header that a search finds passes its test, and its table lies in the file.
-use Rattle.std.proofs.Common.{◌≡◌, ℕ, ◌+◌, ◌≤◌, List, [], ◌∷◌, Bool, true, false, cond, ◌||◌, ap, sym, ◌∙◌, ⊎_elim}
-use Rattle.std.proofs.Common.{find, Some, nat_lt, eqb}
-use Rattle.std.specs.List.{list_any}
-use Rattle.std.proofs.lemmas.Bool.{cases_Bool, or_parts, or_cases, eqb-true, ltb-false}
-use Rattle.std.proofs.lemmas.Option.{none-some, same_Some}
-use Rattle.elfobj_file.specs.Refusal.{is_out_of_bounds}
-use Rattle.elfobj_file.specs.Relocations.{is_relocation_section}
-use Rattle.elfobj_file.specs.Symbols.{is_symbol_table}
-use Rattle.elfobj_file.specs.declared.section_header.SectionHeader.{SectionHeader}
+use Rattle.elfobj.proofs.Common.{Bool, List, SectionHeader, Some, [], ap, cases_Bool, cond, eqb, eqb-true, false, find}
+use Rattle.elfobj.proofs.Common.{is_out_of_bounds, is_relocation_section, is_symbol_table, list_any, ltb-false, nat_lt}
+use Rattle.elfobj.proofs.Common.{none-some, or_parts, same_Some, sym, true, ℕ, ⊎_elim, ◌+◌, ◌||◌, ◌∙◌, ◌∷◌, ◌≡◌, ◌≤◌}
+use Rattle.std.proofs.lemmas.Bool.{or_cases}
 
 -- what is found passes the test, and none that no member passes
 pub found_is : {X : Type 0} (p : X → Bool) (xs : List X) (x : X) → find p xs ≡ Some x → p x ≡ true

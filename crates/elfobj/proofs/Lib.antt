@@ -1,3 +1,4 @@
+pub mod Common
 pub mod Passing
 pub mod Steps
 pub mod Refusals

@@ -1,35 +1,20 @@
 -- Each linked section of an object that is not refused is within the profile.
-use Rattle.std.proofs.Common.{◌≡◌, ℕ, zero, suc, ◌+◌, ◌-◌, ◌<◌, ◌≤◌, ◌⊎◌, List, [], Bool, true, false, cond, not, ◌||◌}
-use Rattle.std.proofs.Common.{◌&&◌, length, drop, refl, ap, inl, inr, ⊎_elim, arith, Option, Some, None, nat_lt, eqb}
-use Rattle.std.specs.Prelude.{IsTrue}
-use Rattle.std.specs.List.{All, slice_range}
+use Rattle.elfobj.proofs.Common.{All, All-append, All-cons, All-nil, Bool, FieldBounds, FieldOverlap, FiniArray}
+use Rattle.elfobj.proofs.Common.{InitArray, IsFileWithin, IsLinkable, IsSectionOfProfile, IsTrue, List, Nobits, None}
+use Rattle.elfobj.proofs.Common.{Note, ObjectRefusal, Option, PassesTests, PreinitArray, Progbits, RelocationSection}
+use Rattle.elfobj.proofs.Common.{RelocationType, SectionBounds, SectionHeader, SectionKind, SectionProfile, Some}
+use Rattle.elfobj.proofs.Common.{SymbolTable, Unwind, [], and_cases, ap, arith, cond, contents, drop, e_shnum, eqb}
+use Rattle.elfobj.proofs.Common.{eqb-true, false, false≢true, header, holds, inl, inr, is_alloc, is_looked_at, is_name}
+use Rattle.elfobj.proofs.Common.{is_out_of_bounds, is_outside_profile, length, length-drop, length-take, linked_as}
+use Rattle.elfobj.proofs.Common.{linked_kind, linked_section, ltb-false, name_of, nat_lt, not, not-false}
+use Rattle.elfobj.proofs.Common.{object_refusal, option_map_or, option_to_list, or_parts, refl, sections_below}
+use Rattle.elfobj.proofs.Common.{sections_of, size_in_file, slice_range, suc, true, unwrap_or, zero, ℕ, ⊎_elim, ◌&&◌}
+use Rattle.elfobj.proofs.Common.{◌+◌, ◌-◌, ◌<◌, ◌||◌, ◌≡◌, ◌≤◌, ◌⊎◌}
 use Rattle.std.specs.Int.{is_power_of_two}
 use Rattle.std.specs.Int.Bits.{bit_or}
-use Rattle.std.specs.Option.{option_map_or, option_to_list, unwrap_or}
-use Rattle.std.proofs.lemmas.Bool.{false≢true, or_parts, and_cases, ltb-false, not-false, eqb-true}
-use Rattle.std.proofs.lemmas.List.{length-take, length-drop}
-use Rattle.std.proofs.lemmas.List.Elements.{All-nil, All-cons, All-append}
 use Rattle.std.proofs.lemmas.Nat.{le_or_l}
-use Rattle.elfobj_file.specs.ElfHeader.{e_shnum}
-use Rattle.elfobj.specs.Linkable.{IsLinkable, PassesTests}
-use Rattle.elfobj_file.specs.Names.{is_name}
-use Rattle.elfobj.specs.PartSpans.{IsFileWithin}
-use Rattle.elfobj.specs.Profile.{IsSectionOfProfile, size_in_file}
-use Rattle.elfobj_file.specs.Refusal.{holds, is_looked_at, is_out_of_bounds, is_outside_profile, object_refusal}
-use Rattle.elfobj_file.specs.SectionHeaders.{header}
-use Rattle.elfobj_file.specs.LinkedKinds.{is_alloc, linked_kind}
-use Rattle.elfobj_file.specs.Sections.{linked_as, linked_section, sections_below, sections_of, name_of, contents}
-use Rattle.elfobj_file.specs.declared.refusal.ObjectRefusal.{ObjectRefusal}
 use Rattle.elfobj_file.specs.declared.refusal.ObjectRefusal.TheVariants.{Short, NotElf, Machine, SectionTable}
-use Rattle.elfobj_file.specs.declared.refusal.ObjectRefusal.TheVariants.{SectionCount}
-use Rattle.elfobj_file.specs.declared.refusal.ObjectRefusal.TheVariants.{SectionBounds, SectionProfile, SymbolTable}
-use Rattle.elfobj_file.specs.declared.refusal.ObjectRefusal.TheVariants.{Symbol}
-use Rattle.elfobj_file.specs.declared.refusal.ObjectRefusal.TheVariants.{RelocationSection, RelocationType, FieldBounds}
-use Rattle.elfobj_file.specs.declared.refusal.ObjectRefusal.TheVariants.{FieldOverlap}
-use Rattle.elfobj_file.specs.declared.section.SectionKind.{SectionKind}
-use Rattle.elfobj_file.specs.declared.section.SectionKind.TheVariants.{Progbits, Nobits, Note, InitArray, FiniArray}
-use Rattle.elfobj_file.specs.declared.section.SectionKind.TheVariants.{PreinitArray, Unwind}
-use Rattle.elfobj_file.specs.declared.section_header.SectionHeader.{SectionHeader}
+use Rattle.elfobj_file.specs.declared.refusal.ObjectRefusal.TheVariants.{SectionCount, Symbol}
 use Rattle.elfobj.proofs.Passing.{none_at}
 use Rattle.elfobj.proofs.Steps.{linkable, linked_parts, kind_not_null}
 

@@ -1,26 +1,14 @@
 -- Tables whose entries all pass and whose fields come one after another.
-use Rattle.std.proofs.Common.{◌≡◌, ℕ, suc, ◌+◌, ◌-◌, ◌*◌, ◌<◌, ◌≤◌, List, [], ◌∷◌, ◌++◌, false, get_or, find, None}
-use Rattle.std.proofs.Common.{Option, Some, length, map, max, min, take, drop, refl, ap, sym, ◌∙◌, subst, arith}
-use Rattle.std.specs.List.{All, list_any, slice_range}
-use Rattle.std.specs.Option.{IfSome}
-use Rattle.std.proofs.lemmas.Bool.{le-ltb, or_from, or_parts}
-use Rattle.std.proofs.lemmas.List.{length-append, map_push, take_all}
-use Rattle.std.proofs.lemmas.List.Elements.{All-head, All-push, All-tail, All-weaker}
-use Rattle.std.proofs.lemmas.List.Folds.{list_any-append}
-use Rattle.elfobj_file.specs.RelocationEntries.{relocation_entry_at, relocation_entries_below}
-use Rattle.elfobj_file.specs.Relocations.{field_end, meets, relocation_of, relocations_at, share_bytes}
-use Rattle.elfobj_file.specs.Spans.{IsInside}
-use Rattle.elfobj_file.specs.ElfHeader.{e_shnum}
-use Rattle.elfobj_file.specs.Refusal.{holds, relocation_refusals}
-use Rattle.elfobj_file.specs.Symbols.{symbols_of}
+use Rattle.elfobj.proofs.Common.{All, All-head, All-push, All-tail, All-weaker, Any, AreRelocated, AreTablesOf, IfSome}
+use Rattle.elfobj.proofs.Common.{IsInside, IsTableOf, List, None, Option, Relocation, RelocationEntry, Some, Span, []}
+use Rattle.elfobj.proofs.Common.{ap, arith, drop, e_shnum, false, field_end, find, get_or, has_refused_entry, holds}
+use Rattle.elfobj.proofs.Common.{is_refused_for, le-ltb, length, length-append, list_any, list_any-append, map}
+use Rattle.elfobj.proofs.Common.{map_push, max, meets, min, or_from, or_parts, refl, relocation_entries_below}
+use Rattle.elfobj.proofs.Common.{relocation_entry_at, relocation_of, relocation_refusals, relocations_at}
+use Rattle.elfobj.proofs.Common.{relocations_in, share_bytes, slice_range, subst, suc, sym, symbols_of, table_entries}
+use Rattle.elfobj.proofs.Common.{take, take_all, ℕ, ◌*◌, ◌++◌, ◌+◌, ◌-◌, ◌<◌, ◌∙◌, ◌∷◌, ◌≡◌, ◌≤◌}
 use Rattle.elfobj_file.specs.Tables.{is_outside, is_strange_type, is_wrong_below, linked_sections, names_no_symbol}
-use Rattle.elfobj_file.specs.declared.relocation.Relocation.{Relocation}
-use Rattle.elfobj_file.specs.declared.relocation_entry.RelocationEntry.{RelocationEntry}
 use Rattle.elfobj_file.specs.declared.section.Section.{Section}
-use Rattle.elfobj_file.specs.declared.span.Span.{Span}
-use Rattle.elfobj.specs.PartSpans.{AreRelocated, relocations_in}
-use Rattle.elfobj.specs.Runs.{AreTablesOf, IsTableOf, has_refused_entry, is_refused_for, table_entries}
-use Rattle.elfobj.specs.declared.relocation_fault.EntryFault.TheVariants.{Any}
 use Rattle.elfobj.specs.declared.relocation_run.SectionTable.{SectionTable}
 use Rattle.elfobj.proofs.RelocationReads.{any_passes, none_mapped, none_refused, overlap_holds, sections_same}
 use Rattle.elfobj.proofs.Runs.{IsSpanOf, decoded, drop_front, front_kept, spans_more}

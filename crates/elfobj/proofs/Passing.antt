@@ -1,13 +1,7 @@
 -- A test that no header passes fails at each; so the table of section names lies in the file.
-use Rattle.std.proofs.Common.{◌≡◌, ℕ, ◌+◌, ◌<◌, ◌≤◌, List, Bool, false, length, ap, ◌∙◌, arith}
-use Rattle.std.specs.List.{list_any}
-use Rattle.std.proofs.lemmas.Bool.{both_ways, false_from_ne_true}
-use Rattle.std.proofs.lemmas.List.Folds.{list_any_at}
-use Rattle.elfobj_file.specs.ElfHeader.{e_shnum, e_shstrndx}
-use Rattle.elfobj_file.specs.Refusal.{is_out_of_bounds}
-use Rattle.elfobj_file.specs.SectionHeaders.{header, headers}
-use Rattle.elfobj_file.specs.declared.section_header.SectionHeader.{SectionHeader}
-use Rattle.elfobj_file.proofs.Headers.{headers_length, headers_at}
+use Rattle.elfobj.proofs.Common.{Bool, List, SectionHeader, ap, arith, both_ways, e_shnum, e_shstrndx, false}
+use Rattle.elfobj.proofs.Common.{false_from_ne_true, header, headers, headers_at, headers_length, is_out_of_bounds}
+use Rattle.elfobj.proofs.Common.{length, list_any, list_any_at, ℕ, ◌+◌, ◌<◌, ◌∙◌, ◌≡◌, ◌≤◌}
 use Rattle.elfobj.proofs.Found.{strings_type}
 
 -- a test that no header passes fails at each

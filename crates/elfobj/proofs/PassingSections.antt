@@ -1,19 +1,9 @@
 -- Section headers that are read in one pass, each within the profile.
-use Rattle.std.proofs.Common.{◌≡◌, ℕ, ◌+◌, ◌<◌, ◌≤◌, List, Bool, false, true, ◌&&◌, length, refl, ap, ◌∙◌, sym, subst}
-use Rattle.std.proofs.Common.{⊎_elim, arith, Some, None}
-use Rattle.std.proofs.lemmas.Bool.{cases_lt, or_parts}
-use Rattle.std.proofs.lemmas.List.Folds.{list_any_none}
-use Rattle.elfobj_file.specs.ElfHeader.{e_shnum}
-use Rattle.elfobj_file.specs.LinkedKinds.{is_alloc, linked_kind}
-use Rattle.elfobj_file.specs.Refusal.{holds, is_out_of_bounds, is_outside_profile, is_outside_profile_by}
-use Rattle.elfobj_file.specs.SectionHeaders.{file_bytes, header, headers}
-use Rattle.elfobj_file.specs.Sections.{name_table}
-use Rattle.elfobj_file.specs.declared.refusal.ObjectRefusal.TheVariants.{SectionBounds, SectionProfile}
-use Rattle.elfobj_file.specs.declared.section.SectionKind.{SectionKind}
-use Rattle.elfobj_file.specs.declared.section_header.SectionHeader.{SectionHeader}
-use Rattle.elfobj_file.proofs.Headers.{headers_at, headers_length}
-use Rattle.elfobj.specs.Linkable.{IsNameTable}
-use Rattle.elfobj.specs.PartSpans.{IsFileWithin}
+use Rattle.elfobj.proofs.Common.{Bool, IsFileWithin, IsNameTable, List, None, SectionBounds, SectionHeader, SectionKind}
+use Rattle.elfobj.proofs.Common.{SectionProfile, Some, ap, arith, cases_lt, e_shnum, false, file_bytes, header, headers}
+use Rattle.elfobj.proofs.Common.{headers_at, headers_length, holds, is_alloc, is_out_of_bounds, is_outside_profile}
+use Rattle.elfobj.proofs.Common.{is_outside_profile_by, length, linked_kind, list_any_none, name_table, or_parts, refl}
+use Rattle.elfobj.proofs.Common.{subst, sym, true, ℕ, ⊎_elim, ◌&&◌, ◌+◌, ◌<◌, ◌∙◌, ◌≡◌, ◌≤◌}
 use Rattle.elfobj.proofs.Passing.{none_at}
 use Rattle.elfobj.proofs.Steps.{file_within, linked_parts}
 

@@ -1,26 +1,16 @@
 -- Symbols that one pass reads: all of their entries are within the profile.
-use Rattle.std.proofs.Common.{◌≡◌, ℕ, zero, suc, ◌+◌, ◌-◌, ◌*◌, ◌/◌, ◌<◌, ◌≤◌, List, [], ◌∷◌, ◌++◌, Bool, true, false}
-use Rattle.std.proofs.Common.{not, get_or, length, drop, nat_lt, find, Some, None, refl, ap, sym, ◌∙◌, subst, arith}
-use Rattle.std.proofs.Common.{⊎_elim}
-use Rattle.std.specs.List.{count_by, list_all, list_any, slice_range}
+use Rattle.elfobj.proofs.Common.{AreNamed, Bool, IsInside, List, None, SectionHeader, Some, Span, SymbolEntry, []}
+use Rattle.elfobj.proofs.Common.{and_from, ap, arith, bytes_at, cases_lt, count_by, drop, e_shnum, entries_of, false}
+use Rattle.elfobj.proofs.Common.{false≢true, file_bytes, find, get_or, get_or-drop, get_or-take, get_or_append_left}
+use Rattle.elfobj.proofs.Common.{get_or_push, header, headers, holds, is_symbol_table, le-ltb, length, length-drop}
+use Rattle.elfobj.proofs.Common.{length-take-le, list_any, list_any_none, lt-ltb, map_push, named_symbol, nat_lt, not}
+use Rattle.elfobj.proofs.Common.{null_symbol, or_from, refl, slice_range, subst, suc, sym, symbol_entries_below}
+use Rattle.elfobj.proofs.Common.{symbol_entry_at, symbol_name, symbol_of, symbol_refusals, symbol_table, symbols_from}
+use Rattle.elfobj.proofs.Common.{true, zero, ℕ, ⊎_elim, ◌*◌, ◌++◌, ◌+◌, ◌-◌, ◌/◌, ◌<◌, ◌∙◌, ◌∷◌, ◌≡◌, ◌≤◌}
+use Rattle.std.specs.List.{list_all}
 use Rattle.std.proofs.Math.Bool.{beq}
-use Rattle.std.proofs.lemmas.Bool.{and_from, cases_lt, false≢true, le-ltb, lt-ltb, or_from}
-use Rattle.std.proofs.lemmas.List.{get_or-drop, get_or-take, get_or_append_left, get_or_push, length-drop}
-use Rattle.std.proofs.lemmas.List.{length-take-le, map_push}
-use Rattle.std.proofs.lemmas.List.Folds.{list_any_none}
-use Rattle.elfobj_file.specs.ElfHeader.{e_shnum}
-use Rattle.elfobj_file.specs.Refusal.{holds, symbol_refusals}
-use Rattle.elfobj_file.specs.SectionHeaders.{file_bytes, header, headers}
-use Rattle.elfobj_file.specs.Spans.{IsInside, bytes_at}
-use Rattle.elfobj_file.specs.SymbolEntries.{symbol_entries_below, symbol_entry_at}
-use Rattle.elfobj_file.specs.Symbols.{entries_of, is_symbol_table, named_symbol, null_symbol, symbol_name, symbol_of}
-use Rattle.elfobj_file.specs.Symbols.{symbol_table, symbols_from}
 use Rattle.elfobj_file.specs.Tables.{has_misplaced_entry, has_wrong_header, is_local_entry, is_wrong_symbol}
-use Rattle.elfobj_file.specs.declared.section_header.SectionHeader.{SectionHeader}
-use Rattle.elfobj_file.specs.declared.span.Span.{Span}
 use Rattle.elfobj_file.specs.declared.symbol.Symbol.{Symbol}
-use Rattle.elfobj_file.specs.declared.symbol_entry.SymbolEntry.{SymbolEntry}
-use Rattle.elfobj.specs.PartSpans.{AreNamed}
 use Rattle.elfobj.proofs.SymbolTables.{entries_length, entry_told, named_push, right_table, symbols_pass, wrong_symbol}
 use Rattle.elfobj.proofs.SymbolTables.{wrong_table}
 

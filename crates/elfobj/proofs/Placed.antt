@@ -1,15 +1,10 @@
 -- Places that have been given the stretches of their relocations.
-use Rattle.std.proofs.Common.{◌≡◌, ℕ, ◌+◌, ◌<◌, List, [], ◌∷◌, ◌++◌, get_or, length, map, set, take, refl, ap, sym, ◌∙◌}
-use Rattle.std.proofs.Common.{subst, arith}
-use Rattle.std.proofs.lemmas.List.{get_or-map, length-map, map-set, map_push, set-get_or, take_more, take_more_set}
-use Rattle.elfobj.specs.Linkable.{ArePartsOf}
-use Rattle.elfobj.specs.PartSpans.{AreNamed, ArePlaced, AreRead, AreRelocated, name_in, relocations_in}
-use Rattle.elfobj_file.specs.Sections.{LinkedSection, sections_of}
-use Rattle.elfobj_file.specs.Spans.{IsInside, bytes_at}
-use Rattle.elfobj_file.specs.Symbols.{symbols_of}
-use Rattle.elfobj_file.specs.declared.span.Span.{Span}
-use Rattle.elfobj.specs.declared.part_spans.PartSpans.{PartSpans}
-use Rattle.elfobj_file.specs.declared.relocation.Relocation.{Relocation}
+use Rattle.elfobj.proofs.Common.{AreNamed, ArePartsOf, AreRead, AreRelocated, IsInside, LinkedSection, List, PartSpans}
+use Rattle.elfobj.proofs.Common.{Relocation, Span, [], ap, arith, bytes_at, get_or, get_or-map, length, length-map, map}
+use Rattle.elfobj.proofs.Common.{map_push, refl, relocations_in, sections_of, set, subst, sym, symbols_of, take}
+use Rattle.elfobj.proofs.Common.{take_more, ℕ, ◌++◌, ◌+◌, ◌<◌, ◌∙◌, ◌∷◌, ◌≡◌}
+use Rattle.std.proofs.lemmas.List.{map-set, set-get_or, take_more_set}
+use Rattle.elfobj.specs.PartSpans.{ArePlaced, name_in}
 use Rattle.elfobj_file.specs.declared.section.Section.{Section}
 use Rattle.elfobj_file.specs.declared.symbol.Symbol.{Symbol}
 

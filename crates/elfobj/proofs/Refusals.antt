@@ -1,20 +1,12 @@
 -- The lowest refusal of a file: the first that its header, sections, symbols and relocations give, in this order.
-use Rattle.std.proofs.Common.{◌≡◌, ◌⊎◌, ℕ, List, Bool, true, false, refl, ap, ◌∙◌, Option, Some, None, sym, ◌++◌, inl}
-use Rattle.std.proofs.Common.{inr, ⊎_elim}
-use Rattle.std.specs.List.{find, list_any}
-use Rattle.std.specs.Option.{option_or}
-use Rattle.std.proofs.lemmas.Bool.{false≢true}
-use Rattle.std.proofs.lemmas.List.Folds.{find-append}
-use Rattle.elfobj_file.specs.ElfHeader.{e_shstrndx}
-use Rattle.elfobj_file.specs.SectionHeaders.{file_bytes, header, headers}
-use Rattle.elfobj_file.specs.Sections.{name_table}
-use Rattle.elfobj.specs.Linkable.{PassesTests}
-use Rattle.elfobj_file.specs.Refusal.{holds, is_outside_profile_by, header_refusals, section_refusals, symbol_refusals}
-use Rattle.elfobj_file.specs.Refusal.{relocation_refusals, object_refusal}
-use Rattle.elfobj_file.specs.declared.refusal.ObjectRefusal.{ObjectRefusal}
-use Rattle.elfobj_file.specs.declared.refusal.ObjectRefusal.TheVariants.{NoMemory, SectionBounds, SectionProfile}
-use Rattle.elfobj_file.specs.declared.section_header.SectionHeader.{SectionHeader}
+use Rattle.elfobj.proofs.Common.{Bool, List, NoMemory, None, ObjectRefusal, Option, PassesTests, SectionBounds}
+use Rattle.elfobj.proofs.Common.{SectionHeader, SectionProfile, Some, ap, e_shstrndx, false, false≢true, file_bytes}
+use Rattle.elfobj.proofs.Common.{find, find-append, header, header_refusals, headers, holds, inl, inr}
+use Rattle.elfobj.proofs.Common.{is_outside_profile_by, list_any, name_table, object_refusal, option_or, refl}
+use Rattle.elfobj.proofs.Common.{relocation_refusals, sym, symbol_refusals, true, ℕ, ⊎_elim, ◌++◌, ◌∙◌, ◌≡◌, ◌⊎◌}
+use Rattle.elfobj_file.specs.Refusal.{section_refusals}
 use Rattle.elfobj.proofs.Found.{found_is}
+use Rattle.growth.specs.Memory.{no_memory}
 
 -- the ELF header is refused
 pub refused_by_header : (bytes : List ℕ) (r : ObjectRefusal) → find (holds bytes) header_refusals ≡ Some r
@@ -67,25 +59,27 @@ refused_by_relocations bytes o h k = find-append (holds bytes) symbol_refusals r
     ∙ ap (λ x. option_or x (find (holds bytes) relocation_refusals)) h ∙ k
 
 -- the same of calls that may also want memory
-pub symbols_told : (bytes : List ℕ) (e : ObjectRefusal) → (e ≡ NoMemory) ⊎ (find (holds bytes) symbol_refusals ≡ Some e)
-    → (e ≡ NoMemory) ⊎ (find (holds bytes) (symbol_refusals ++ relocation_refusals) ≡ Some e)
+pub symbols_told : (bytes : List ℕ) (e : ObjectRefusal)
+    → (e ≡ NoMemory no_memory) ⊎ (find (holds bytes) symbol_refusals ≡ Some e)
+    → (e ≡ NoMemory no_memory) ⊎ (find (holds bytes) (symbol_refusals ++ relocation_refusals) ≡ Some e)
 symbols_told bytes e h = ⊎_elim (λ a. inl a) (λ a. inr (refused_by_symbols bytes e a)) h
 
 pub relocations_told : (bytes : List ℕ) (e : ObjectRefusal) → find (holds bytes) symbol_refusals ≡ None
-    → (e ≡ NoMemory) ⊎ (find (holds bytes) relocation_refusals ≡ Some e)
-    → (e ≡ NoMemory) ⊎ (find (holds bytes) (symbol_refusals ++ relocation_refusals) ≡ Some e)
+    → (e ≡ NoMemory no_memory) ⊎ (find (holds bytes) relocation_refusals ≡ Some e)
+    → (e ≡ NoMemory no_memory) ⊎ (find (holds bytes) (symbol_refusals ++ relocation_refusals) ≡ Some e)
 relocations_told bytes e n h = ⊎_elim (λ a. inl a) (λ a. inr (refused_by_relocations bytes (Some e) n a)) h
 
 pub tables_told : (bytes : List ℕ) (e : ObjectRefusal) → find (holds bytes) header_refusals ≡ None → PassesTests bytes
-    → (e ≡ NoMemory) ⊎ (find (holds bytes) (symbol_refusals ++ relocation_refusals) ≡ Some e)
-    → (e ≡ NoMemory) ⊎ (object_refusal bytes ≡ Some e)
+    → (e ≡ NoMemory no_memory) ⊎ (find (holds bytes) (symbol_refusals ++ relocation_refusals) ≡ Some e)
+    → (e ≡ NoMemory no_memory) ⊎ (object_refusal bytes ≡ Some e)
 tables_told bytes e n t h = ⊎_elim (λ a. inl a) (λ a. inr (refused_by_tables bytes (Some e) n t a)) h
 
 -- out of memory is no refusal of the bytes
 pub no_memory_found : (bytes : List ℕ) (rs : List ObjectRefusal) (r : ObjectRefusal) → find (holds bytes) rs ≡ Some r
-    → r ≡ NoMemory → find (holds bytes) rs ≡ None
+    → r ≡ NoMemory no_memory → find (holds bytes) rs ≡ None
 unfolding holds
-no_memory_found bytes rs r h e = absurd (false≢true (found_is (holds bytes) rs NoMemory (h ∙ ap (λ x. Some x) e)))
+no_memory_found bytes rs r h e = absurd (false≢true
+    (found_is (holds bytes) rs (NoMemory no_memory) (h ∙ ap (λ x. Some x) e)))
 
 -- the refusals that section headers give
 pub bounds_refused : (bytes : List ℕ) → holds bytes SectionBounds ≡ true
@@ -110,8 +104,8 @@ profile_told bytes file names hs r b e f g h k =
 -- the same of a call that may also want memory
 pub sections_told : (bytes : List ℕ) (e : ObjectRefusal) → find (holds bytes) header_refusals ≡ None
     → holds bytes SectionBounds ≡ false
-    → (e ≡ NoMemory) ⊎ ((holds bytes SectionProfile ≡ true) × (e ≡ SectionProfile))
-    → (e ≡ NoMemory) ⊎ (object_refusal bytes ≡ Some e)
+    → (e ≡ NoMemory no_memory) ⊎ ((holds bytes SectionProfile ≡ true) × (e ≡ SectionProfile))
+    → (e ≡ NoMemory no_memory) ⊎ (object_refusal bytes ≡ Some e)
 sections_told bytes e n b h = ⊎_elim (λ a. inl a)
     (λ a. inr (refused_by_sections bytes SectionProfile n (profile_refused bytes b a.0)
     ∙ ap (λ x. Some x) (sym a.1))) h

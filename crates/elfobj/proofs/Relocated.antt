@@ -1,18 +1,10 @@
 -- Which sections have relocations, and how many at most, by the places of these.
-use Rattle.std.proofs.Common.{◌≡◌, ◌∙◌, ◌≤◌, ◌<◌, ◌-◌, ℕ, Bool, true, false, List, [], ◌∷◌, length, map, drop, get_or}
-use Rattle.std.proofs.Common.{Some, refl, ap, sym, arith}
-use Rattle.std.specs.Prelude.{nat_lt}
-use Rattle.std.specs.List.{All, slice_get}
-use Rattle.std.proofs.lemmas.Bool.{ltb-false, ltb-true, le-ltb, lt-ltb}
-use Rattle.std.proofs.lemmas.List.{get_or-map, length-drop, length-map, length-take-le}
-use Rattle.std.proofs.lemmas.List.Elements.{All-head, All-tail}
+use Rattle.elfobj.proofs.Common.{All, All-head, All-tail, Bool, IsInside, LinkedSection, List, PartSpans, Relocation}
+use Rattle.elfobj.proofs.Common.{Some, Span, [], ap, arith, drop, false, get_or, get_or-map, le-ltb, length}
+use Rattle.elfobj.proofs.Common.{length-drop, length-map, length-take-le, lt-ltb, ltb-false, ltb-true, map, nat_lt}
+use Rattle.elfobj.proofs.Common.{refl, relocations_in, slice_get, sym, true, ℕ, ◌-◌, ◌<◌, ◌∙◌, ◌∷◌, ◌≡◌, ◌≤◌}
 use Rattle.std.proofs.lemmas.Option.{slice_get-get_or}
-use Rattle.elfobj.specs.PartSpans.{ArePlaced, is_relocated, relocations_in}
-use Rattle.elfobj.specs.declared.part_spans.PartSpans.{PartSpans}
-use Rattle.elfobj_file.specs.Sections.{LinkedSection}
-use Rattle.elfobj_file.specs.Spans.{IsInside}
-use Rattle.elfobj_file.specs.declared.relocation.Relocation.{Relocation}
-use Rattle.elfobj_file.specs.declared.span.Span.{Span}
+use Rattle.elfobj.specs.PartSpans.{ArePlaced, is_relocated}
 use Rattle.elfobj.proofs.Placed.{mapped}
 
 abbrev has_any : List Relocation → Bool

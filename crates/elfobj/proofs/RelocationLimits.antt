@@ -1,31 +1,16 @@
 -- The relocations of each linked section of an object that is not refused are within the profile.
-use Rattle.std.proofs.Common.{◌≡◌, ℕ, zero, suc, ◌<◌, ◌≤◌, List, [], ◌∷◌, Bool, false, length, map, get_or, refl, ap}
-use Rattle.std.proofs.Common.{sym, ◌∙◌, subst, arith, Option, Some, None}
-use Rattle.std.specs.List.{All, list_any}
-use Rattle.std.specs.Option.{option_to_list}
-use Rattle.std.proofs.lemmas.Bool.{leb-false, ltb-false, or_parts, true≢false}
-use Rattle.std.proofs.lemmas.List.Elements.{All-append, All-cons, All-nil}
+use Rattle.elfobj.proofs.Common.{All, All-append, All-cons, All-nil, AreApart, Bool, FiniArray, HasRelocationsOfProfile}
+use Rattle.elfobj.proofs.Common.{InitArray, IsRelocationOfProfile, LinkedSection, List, Nobits, None, Note, Option}
+use Rattle.elfobj.proofs.Common.{PreinitArray, Progbits, Relocation, RelocationEntry, SectionHeader, SectionKind, Some}
+use Rattle.elfobj.proofs.Common.{Unwind, [], ap, arith, e_shnum, false, field_end, get_or, header, holds, leb-false}
+use Rattle.elfobj.proofs.Common.{length, linked_kind, linked_section, list_any, ltb-false, map, meets, object_refusal}
+use Rattle.elfobj.proofs.Common.{option_to_list, or_parts, r_sym, refl, relocation_entries, relocation_of}
+use Rattle.elfobj.proofs.Common.{relocations_at, section_of, sections_below, sections_of, share_bytes, subst, suc, sym}
+use Rattle.elfobj.proofs.Common.{symbols_of, true≢false, zero, ℕ, ◌<◌, ◌∙◌, ◌∷◌, ◌≡◌, ◌≤◌}
 use Rattle.std.proofs.lemmas.List.Kept.{AllPairs-cons}
-use Rattle.elfobj_file.specs.ElfHeader.{e_shnum}
-use Rattle.elfobj_file.specs.LinkedKinds.{linked_kind}
-use Rattle.elfobj.specs.Profile.{AreApart, HasRelocationsOfProfile, IsRelocationOfProfile}
-use Rattle.elfobj_file.specs.Refusal.{holds, object_refusal}
-use Rattle.elfobj_file.specs.RelocationEntries.{r_sym}
-use Rattle.elfobj_file.specs.Relocations.{field_end, meets, relocation_entries, relocation_of, relocations_at}
-use Rattle.elfobj_file.specs.Relocations.{share_bytes}
-use Rattle.elfobj_file.specs.SectionHeaders.{header}
-use Rattle.elfobj_file.specs.Sections.{LinkedSection, linked_section, section_of, sections_below, sections_of}
-use Rattle.elfobj_file.specs.Symbols.{symbols_of}
 use Rattle.elfobj_file.specs.Tables.{has_field_outside, has_overlap, has_shared_bytes, has_strange_symbol}
-use Rattle.elfobj_file.specs.Tables.{has_wrong_bounds}
-use Rattle.elfobj_file.specs.Tables.{has_wrong_relocation_section, is_outside, names_no_symbol}
-use Rattle.elfobj_file.specs.declared.relocation.Relocation.{Relocation}
-use Rattle.elfobj_file.specs.declared.relocation_entry.RelocationEntry.{RelocationEntry}
+use Rattle.elfobj_file.specs.Tables.{has_wrong_bounds, has_wrong_relocation_section, is_outside, names_no_symbol}
 use Rattle.elfobj_file.specs.declared.section.Section.{Section}
-use Rattle.elfobj_file.specs.declared.section.SectionKind.{SectionKind}
-use Rattle.elfobj_file.specs.declared.section.SectionKind.TheVariants.{Progbits, Nobits, Note, InitArray, FiniArray}
-use Rattle.elfobj_file.specs.declared.section.SectionKind.TheVariants.{PreinitArray, Unwind}
-use Rattle.elfobj_file.specs.declared.section_header.SectionHeader.{SectionHeader}
 use Rattle.elfobj.proofs.Limits.{accepted_parts}
 
 pub field_inside : (kind : SectionKind) (size : ℕ) (r : Relocation) → is_outside kind size r ≡ false

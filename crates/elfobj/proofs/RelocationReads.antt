@@ -1,43 +1,27 @@
 -- The relocations that are read are those of the linked sections; and the lowest refusal that their entries give.
-use Rattle.std.proofs.Common.{◌≡◌, ℕ, zero, suc, ◌+◌, ◌*◌, ◌<◌, ◌≤◌, List, [], ◌∷◌, ◌++◌, Bool, true, false, ◌||◌, ◌⊎◌}
-use Rattle.std.proofs.Common.{get_or, length, map, take, refl, ap, sym, ◌∙◌, subst, arith, inl, inr, ⊎_elim, find}
-use Rattle.std.proofs.Common.{Option, Some, None}
-use Rattle.std.specs.List.{All, list_any}
-use Rattle.std.specs.Option.{IfSome, option_or, option_to_list}
-use Rattle.std.proofs.lemmas.Bool.{and_parts, cases_lt, or_from, or_left, or_parts, or_right}
-use Rattle.std.proofs.lemmas.List.{map-append, map_push, take_all, take_more}
-use Rattle.std.proofs.lemmas.List.Elements.{All-append, All-cons, All-get_or, All-map, All-nil, All-push}
-use Rattle.std.specs.List.Sorted.{IsPermutation}
-use Rattle.std.proofs.lemmas.List.Folds.{find-append, list_any-append, list_any_none}
+use Rattle.elfobj.proofs.Common.{All, All-append, All-cons, All-get_or, All-map, All-nil, All-push, Any, AreRelocated}
+use Rattle.elfobj.proofs.Common.{AreTablesOf, Bool, FieldBounds, FieldOverlap, IfSome, IsPermutation, IsTableOf}
+use Rattle.elfobj.proofs.Common.{LinkedSection, List, NoMemory, None, ObjectRefusal, Option, PassesTests, Relocation}
+use Rattle.elfobj.proofs.Common.{RelocationEntry, RelocationSection, RelocationType, SectionHeader, SectionKind, Some}
+use Rattle.elfobj.proofs.Common.{Span, [], ap, arith, cases_lt, changes, e_shnum, entries_in, entry_refusals, false}
+use Rattle.elfobj.proofs.Common.{find, find-append, get_or, has_refused_entry, header, headers, holds, inl, inr}
+use Rattle.elfobj.proofs.Common.{is_out_of_bounds, is_refused_for, length, linked_kind, linked_section, list_any}
+use Rattle.elfobj.proofs.Common.{list_any-append, list_any_none, map, map-append, map_push, option_or, option_to_list}
+use Rattle.elfobj.proofs.Common.{or_from, or_left, or_parts, or_right, refl, relocation_entries}
+use Rattle.elfobj.proofs.Common.{relocation_entries_below, relocation_entry_at, relocation_of, relocation_refusals}
+use Rattle.elfobj.proofs.Common.{relocation_section, relocations_at, relocations_in, section_of, sections_below}
+use Rattle.elfobj.proofs.Common.{sections_of, share_bytes, subst, suc, sym, symbols_of, table_entries, take, take_all}
+use Rattle.elfobj.proofs.Common.{take_more, true, zero, ℕ, ⊎_elim, ◌*◌, ◌++◌, ◌+◌, ◌<◌, ◌||◌, ◌∙◌, ◌∷◌, ◌≡◌, ◌≤◌, ◌⊎◌}
+use Rattle.std.proofs.lemmas.Bool.{and_parts}
 use Rattle.std.proofs.lemmas.List.Sorted.{All-permutation, IsPermutation-map, list_any-IsPermutation}
-use Rattle.elfobj_file.specs.ElfHeader.{e_shnum}
-use Rattle.elfobj_file.specs.LinkedKinds.{linked_kind}
-use Rattle.elfobj.specs.Linkable.{PassesTests}
-use Rattle.elfobj.specs.PartSpans.{AreRelocated, relocations_in}
-use Rattle.elfobj_file.specs.Refusal.{entry_refusals, holds, is_out_of_bounds, relocation_refusals}
-use Rattle.elfobj_file.specs.RelocationEntries.{relocation_entry_at, relocation_entries_below}
-use Rattle.elfobj_file.specs.Relocations.{changes, entries_in, relocation_entries, relocation_of, relocation_section}
-use Rattle.elfobj_file.specs.Relocations.{relocations_at, share_bytes}
-use Rattle.elfobj.specs.Runs.{AreTablesOf, IsTableOf, has_refused_entry, is_refused_for, table_entries}
-use Rattle.elfobj_file.specs.SectionHeaders.{header, headers}
-use Rattle.elfobj_file.specs.Sections.{LinkedSection, linked_section, section_of, sections_below, sections_of}
-use Rattle.elfobj_file.specs.Symbols.{symbols_of}
 use Rattle.elfobj_file.specs.Tables.{has_field_outside, has_overlap, has_shared_bytes, has_strange_symbol}
-use Rattle.elfobj_file.specs.Tables.{has_strange_type}
-use Rattle.elfobj_file.specs.Tables.{has_wrong_bounds, has_wrong_relocation_section, has_wrong_type, is_outside}
-use Rattle.elfobj_file.specs.Tables.{is_wrong_below, linked_sections}
-use Rattle.elfobj_file.specs.declared.span.Span.{Span}
-use Rattle.elfobj_file.specs.declared.refusal.ObjectRefusal.{ObjectRefusal}
-use Rattle.elfobj_file.specs.declared.refusal.ObjectRefusal.TheVariants.{FieldOverlap, FieldBounds, NoMemory}
-use Rattle.elfobj_file.specs.declared.refusal.ObjectRefusal.TheVariants.{RelocationSection, RelocationType}
-use Rattle.elfobj_file.specs.declared.relocation.Relocation.{Relocation}
-use Rattle.elfobj_file.specs.declared.relocation_entry.RelocationEntry.{RelocationEntry}
-use Rattle.elfobj.specs.declared.relocation_fault.EntryFault.TheVariants.{Any, Symbol, Kind, Bounds}
+use Rattle.elfobj_file.specs.Tables.{has_strange_type, has_wrong_bounds, has_wrong_relocation_section, has_wrong_type}
+use Rattle.elfobj_file.specs.Tables.{is_outside, is_wrong_below, linked_sections}
+use Rattle.elfobj.specs.declared.relocation_fault.EntryFault.TheVariants.{Symbol, Kind, Bounds}
 use Rattle.elfobj.specs.declared.relocation_run.SectionTable.{SectionTable}
 use Rattle.elfobj_file.specs.declared.section.Section.{Section}
-use Rattle.elfobj_file.specs.declared.section.SectionKind.{SectionKind}
-use Rattle.elfobj_file.specs.declared.section_header.SectionHeader.{SectionHeader}
 use Rattle.elfobj.proofs.Found.{found_is, found_not, relocations_in_file}
+use Rattle.growth.specs.Memory.{no_memory}
 
 -- numbers of linked sections are numbers of headers
 one_below : (bytes : List ℕ) (n m : ℕ) (h : SectionHeader) (o : Option SectionKind) → n < m
@@ -234,8 +218,8 @@ unfolding holds has_wrong_relocation_section
 sections_refused bytes h = rw h refl
 
 pub err_told : (bytes : List ℕ) (e : ObjectRefusal)
-    → (e ≡ NoMemory) ⊎ ((e ≡ RelocationSection) × (is_wrong_below bytes (e_shnum bytes) ≡ true))
-    → (e ≡ NoMemory) ⊎ (find (holds bytes) relocation_refusals ≡ Some e)
+    → (e ≡ NoMemory no_memory) ⊎ ((e ≡ RelocationSection) × (is_wrong_below bytes (e_shnum bytes) ≡ true))
+    → (e ≡ NoMemory no_memory) ⊎ (find (holds bytes) relocation_refusals ≡ Some e)
 err_told bytes e h = ⊎_elim (λ a. inl a) (λ a. inr (sections_refused bytes a.1 ∙ ap (λ x. Some x) (sym a.0))) h
 
 pub sections_same : (bytes : List ℕ) (ss : List Section) (ts ts' : List SectionTable) (all : List Relocation)

@@ -1,21 +1,16 @@
 -- One pass over the headers finds the relocation section of each section, or a header that is refused.
-use Rattle.std.proofs.Common.{◌≡◌, ℕ, zero, suc, ◌+◌, ◌<◌, ◌≤◌, List, [], ◌∷◌, Bool, true, false, cond, ◌||◌, ◌&&◌}
-use Rattle.std.proofs.Common.{get_or, set, length, refl, ap, sym, ◌∙◌, arith, add-one, ◌≢◌, ⊎_elim, find, is_some}
-use Rattle.std.proofs.Common.{replicate, Option, Some, None, nat_le, eqb}
+use Rattle.elfobj.proofs.Common.{Bool, List, None, Option, SectionHeader, Some, [], add-one, and_from, ap, arith}
+use Rattle.elfobj.proofs.Common.{cases_Bool, cases_lt, changes, cond, e_shnum, eqb, eqb-true, false, false≢true, find}
+use Rattle.elfobj.proofs.Common.{find-append, get_or, get_or-set_other, get_or-set_same, header, headers, headers_below}
+use Rattle.elfobj.proofs.Common.{headers_length, is_relocation_section, is_some, is_symbol_table, leb-false, length}
+use Rattle.elfobj.proofs.Common.{length-set, nat_le, option_or, or_from, or_left, or_parts, or_right, refl}
+use Rattle.elfobj.proofs.Common.{relocation_section, replicate, set, suc, sym, symbol_table_number, true, zero, ℕ}
+use Rattle.elfobj.proofs.Common.{⊎_elim, ◌&&◌, ◌+◌, ◌<◌, ◌||◌, ◌∙◌, ◌∷◌, ◌≡◌, ◌≢◌, ◌≤◌}
 use Rattle.std.specs.List.{position}
-use Rattle.std.specs.Option.{option_or}
-use Rattle.std.proofs.lemmas.Bool.{cases_Bool, cases_lt, or_parts, or_from, or_left, or_right, and_from, and_left}
-use Rattle.std.proofs.lemmas.Bool.{and_right, false≢true, eqb-true, eqb-false, le-leb, leb-false}
-use Rattle.std.proofs.lemmas.List.{get_or-replicate, get_or-set_same, get_or-set_other, length-replicate, length-set}
-use Rattle.std.proofs.lemmas.List.Folds.{find-append}
-use Rattle.elfobj_file.specs.ElfHeader.{e_shnum}
+use Rattle.std.proofs.lemmas.Bool.{and_left, and_right, eqb-false, le-leb}
+use Rattle.std.proofs.lemmas.List.{get_or-replicate, length-replicate}
 use Rattle.elfobj.specs.Reading.{AreTables, AreTablesBelow, entered, is_wrong_after}
-use Rattle.elfobj_file.specs.Relocations.{changes, is_relocation_section, relocation_section}
-use Rattle.elfobj_file.specs.SectionHeaders.{header, headers, headers_below}
-use Rattle.elfobj_file.specs.Symbols.{is_symbol_table, symbol_table_number}
 use Rattle.elfobj_file.specs.Tables.{is_linked, is_wrong_below, is_wrong_relocation_section, is_wrong_table}
-use Rattle.elfobj_file.specs.declared.section_header.SectionHeader.{SectionHeader}
-use Rattle.elfobj_file.proofs.Headers.{headers_length}
 
 pub tables_none : (bytes : List ℕ) (n : ℕ) (ts : List (Option SectionHeader)) → n ≡ e_shnum bytes
     → ts ≡ replicate n None → AreTablesBelow bytes 0 ts

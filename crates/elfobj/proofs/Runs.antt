@@ -1,25 +1,17 @@
 -- The relocations of a table are a part of the run of entries that covers it.
-use Rattle.std.proofs.Common.{◌≡◌, ℕ, zero, suc, ◌+◌, ◌-◌, ◌*◌, ◌/◌, ◌%◌, ◌<◌, ◌≤◌, List, [], ◌∷◌, ◌++◌, get_or, length}
-use Rattle.std.proofs.Common.{map, take, drop, refl, ap, sym, ◌∙◌, subst, arith, ⊎_elim}
-use Rattle.std.specs.List.{All, slice_range}
-use Rattle.std.proofs.Math.Nat.{div-add-mod}
+use Rattle.elfobj.proofs.Common.{All, All-head, All-more, All-push, All-tail, All-weaker, AreRelocated, IsInside}
+use Rattle.elfobj.proofs.Common.{IsTableOf, List, Progbits, Relocation, Span, [], ap, append-nil, append_assoc, arith}
+use Rattle.elfobj.proofs.Common.{cases_lt, div-add-mod, drop, get_or, get_or_append_left, get_or_push, length}
+use Rattle.elfobj.proofs.Common.{length-append, length-drop, length-map, map, map-append, map_push, refl}
+use Rattle.elfobj.proofs.Common.{relocation_entries_below, relocation_entry_at, relocation_of, relocations_at}
+use Rattle.elfobj.proofs.Common.{relocations_in, slice_range, subst, suc, sym, table_entries, take, take_all, take_more}
+use Rattle.elfobj.proofs.Common.{zero, ℕ, ⊎_elim, ◌%◌, ◌*◌, ◌++◌, ◌+◌, ◌-◌, ◌/◌, ◌<◌, ◌∙◌, ◌∷◌, ◌≡◌, ◌≤◌}
 use Rattle.std.proofs.Math.Seq.{drop-append-add}
-use Rattle.std.proofs.lemmas.Bool.{cases_lt}
-use Rattle.std.proofs.lemmas.List.{append-nil, append_assoc, drop-append-le, get_or_append_left, get_or_push}
-use Rattle.std.proofs.lemmas.List.{length-append, length-drop, length-map, map-append, take-append-le, take_all}
-use Rattle.std.proofs.lemmas.List.{take_more, map_push}
-use Rattle.std.proofs.lemmas.List.Elements.{All-head, All-more, All-push, All-tail, All-weaker}
-use Rattle.elfobj.specs.PartSpans.{AreRelocated, relocations_in}
-use Rattle.elfobj_file.specs.Spans.{IsInside}
-use Rattle.elfobj_file.specs.RelocationEntries.{relocation_entry_at, relocation_entries_below}
-use Rattle.elfobj_file.specs.Relocations.{relocation_of, relocations_at}
-use Rattle.elfobj.specs.Runs.{AreRuns, IsCovered, IsRun, IsTableOf, table_entries}
-use Rattle.elfobj_file.specs.declared.span.Span.{Span}
-use Rattle.elfobj_file.specs.declared.relocation.Relocation.{Relocation}
+use Rattle.std.proofs.lemmas.List.{drop-append-le, take-append-le}
+use Rattle.elfobj.specs.Runs.{AreRuns, IsCovered, IsRun}
 use Rattle.elfobj.specs.declared.relocation_run.RelocationRun.{RelocationRun}
 use Rattle.elfobj.specs.declared.relocation_run.SectionTable.{SectionTable}
 use Rattle.elfobj_file.specs.declared.section.Section.{Section}
-use Rattle.elfobj_file.specs.declared.section.SectionKind.TheVariants.{Progbits}
 use Rattle.elfobj_file.proofs.Cuts.{cut_cut}
 
 -- entries one after another

@@ -1,27 +1,15 @@
 -- One pass over the headers reads the linked sections and their places, in order.
-use Rattle.std.proofs.Common.{◌≡◌, ℕ, ◌+◌, ◌<◌, ◌≤◌, List, [], ◌∷◌, ◌++◌, Bool, true, false, not, ◌&&◌, ◌||◌, cond}
-use Rattle.std.proofs.Common.{length, map, refl, ap, sym, ◌∙◌, subst, ⊎_elim, add-one, append-nil, Option, Some, None}
-use Rattle.std.proofs.Common.{nat_lt, eqb}
-use Rattle.std.specs.Option.{option_map_or}
-use Rattle.std.proofs.lemmas.Bool.{cases_Bool, false_from_ne_true, or_parts, ltb-false, not-false, eqb-true, true≢false}
-use Rattle.std.proofs.lemmas.List.{map_push}
-use Rattle.std.proofs.lemmas.List.Elements.{All-push}
-use Rattle.std.proofs.lemmas.Option.{none-some, same_Some}
-use Rattle.elfobj_file.specs.ElfHeader.{e_shnum}
-use Rattle.elfobj.specs.Linkable.{IsLinkable, IsPlaced, PassesTests}
-use Rattle.elfobj_file.specs.Names.{is_name}
-use Rattle.elfobj.specs.PartSpans.{AreRead, IsFileWithin, IsWithin, name_in, bytes_in}
-use Rattle.elfobj_file.specs.Refusal.{holds, is_looked_at, is_out_of_bounds, is_outside_profile}
-use Rattle.elfobj_file.specs.SectionHeaders.{header}
+use Rattle.elfobj.proofs.Common.{All-push, AreRead, Bool, FiniArray, InitArray, IsFileWithin, IsLinkable, IsPlaced}
+use Rattle.elfobj.proofs.Common.{LinkedSection, List, Nobits, None, Note, Option, PartSpans, PassesTests, PreinitArray}
+use Rattle.elfobj.proofs.Common.{Progbits, SectionHeader, SectionKind, Some, Unwind, [], add-one, ap, append-nil}
+use Rattle.elfobj.proofs.Common.{cases_Bool, cond, e_shnum, eqb, eqb-true, false, false_from_ne_true, header, holds}
+use Rattle.elfobj.proofs.Common.{is_alloc, is_looked_at, is_name, is_out_of_bounds, is_outside_profile, length}
+use Rattle.elfobj.proofs.Common.{linked_as, linked_kind, ltb-false, map, map_push, name_of, nat_lt, none-some, not}
+use Rattle.elfobj.proofs.Common.{not-false, option_map_or, or_parts, refl, same_Some, section_of, sections_below, subst}
+use Rattle.elfobj.proofs.Common.{sym, true, true≢false, ℕ, ⊎_elim, ◌&&◌, ◌++◌, ◌+◌, ◌<◌, ◌||◌, ◌∙◌, ◌∷◌, ◌≡◌, ◌≤◌}
+use Rattle.elfobj.specs.PartSpans.{IsWithin, name_in, bytes_in}
 use Rattle.elfobj_file.specs.SectionKinds.{kind_of}
-use Rattle.elfobj_file.specs.LinkedKinds.{is_alloc, linked_kind}
-use Rattle.elfobj_file.specs.Sections.{LinkedSection, section_of, linked_as, sections_below, name_of}
-use Rattle.elfobj.specs.declared.part_spans.PartSpans.{PartSpans}
 use Rattle.elfobj_file.specs.declared.section.Section.{Section}
-use Rattle.elfobj_file.specs.declared.section.SectionKind.{SectionKind}
-use Rattle.elfobj_file.specs.declared.section.SectionKind.TheVariants.{Progbits, Nobits, Note, InitArray, FiniArray}
-use Rattle.elfobj_file.specs.declared.section.SectionKind.TheVariants.{PreinitArray, Unwind}
-use Rattle.elfobj_file.specs.declared.section_header.SectionHeader.{SectionHeader}
 use Rattle.elfobj.proofs.Passing.{none_at}
 
 -- one more section and its place

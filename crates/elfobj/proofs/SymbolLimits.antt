@@ -1,26 +1,17 @@
 -- Each symbol of an object that is not refused is within the profile, and there are fewer than 2^32.
-use Rattle.std.proofs.Common.{◌≡◌, ℕ, ◌/◌, ◌<◌, List, [], ◌∷◌, Bool, true, false, cond, not, ◌&&◌, length, map, drop}
-use Rattle.std.proofs.Common.{refl, ap, sym, ◌∙◌, arith, ⊎_elim, Option, Some, None, eqb, nat_lt}
-use Rattle.std.specs.Prelude.{IsTrue}
-use Rattle.std.specs.List.{All, list_any}
-use Rattle.std.specs.Option.{option_map_or, unwrap_or}
-use Rattle.std.proofs.lemmas.Bool.{and_cases, or_parts, not-false, false≢true, eqb-true, ltb-false, ltb-true}
-use Rattle.std.proofs.lemmas.List.{length-map}
-use Rattle.std.proofs.lemmas.List.Elements.{All-cons, All-nil}
-use Rattle.elfobj_file.specs.ElfHeader.{e_shnum}
-use Rattle.elfobj_file.specs.Names.{is_name, string_at}
-use Rattle.elfobj.specs.Profile.{IsCommonBlock, IsNameOf, IsSectionBelow, IsSymbolOfProfile}
-use Rattle.elfobj_file.specs.Refusal.{holds, object_refusal}
+use Rattle.elfobj.proofs.Common.{All, All-cons, All-nil, Bool, IsCommonBlock, IsNameOf, IsSectionBelow}
+use Rattle.elfobj.proofs.Common.{IsSymbolOfProfile, IsTrue, List, NamedSymbol, None, Option, SectionHeader, Some}
+use Rattle.elfobj.proofs.Common.{SymbolEntry, [], and_cases, ap, arith, cond, drop, e_shnum, entries_of, eqb, eqb-true}
+use Rattle.elfobj.proofs.Common.{false, false≢true, holds, is_name, length, length-map, list_any, ltb-false, ltb-true}
+use Rattle.elfobj.proofs.Common.{map, named_symbol, nat_lt, not, not-false, null_symbol, object_refusal, option_map_or}
+use Rattle.elfobj.proofs.Common.{or_parts, refl, string_at, strings_of, sym, symbol_of, symbol_table, symbols_from}
+use Rattle.elfobj.proofs.Common.{symbols_in, symbols_of, true, unwrap_or, ℕ, ⊎_elim, ◌&&◌, ◌/◌, ◌<◌, ◌∙◌, ◌∷◌, ◌≡◌}
 use Rattle.elfobj_file.specs.SymbolEntries.{st_bind}
-use Rattle.elfobj_file.specs.Symbols.{NamedSymbol, entries_of, named_symbol, null_symbol, strings_of, symbol_of}
-use Rattle.elfobj_file.specs.Symbols.{symbol_table, symbols_from, symbols_in, symbols_of}
 use Rattle.elfobj_file.specs.SymbolKinds.{binding_of}
 use Rattle.elfobj_file.specs.Tables.{has_wrong_entry, has_wrong_symbol, is_local_entry, is_not_local, is_wrong_common}
 use Rattle.elfobj_file.specs.Tables.{is_wrong_non_local, is_wrong_symbol}
-use Rattle.elfobj_file.specs.declared.section_header.SectionHeader.{SectionHeader}
 use Rattle.elfobj_file.specs.declared.symbol.Binding.TheVariants.{Local, Global, Weak}
 use Rattle.elfobj_file.specs.declared.symbol.SymbolPlace.TheVariants.{Common, Undefined, Absolute, Section}
-use Rattle.elfobj_file.specs.declared.symbol_entry.SymbolEntry.{SymbolEntry}
 use Rattle.elfobj.proofs.Limits.{accepted_parts, name_told}
 use Rattle.elfobj.proofs.SymbolTables.{entries_length, table_in_file}
 

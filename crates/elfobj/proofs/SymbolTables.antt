@@ -1,28 +1,18 @@
 -- The symbols that are read are those of the symbol table, which lies in the file; or the table is refused.
-use Rattle.std.proofs.Common.{◌≡◌, ℕ, zero, suc, ◌+◌, ◌*◌, ◌/◌, ◌%◌, ◌<◌, ◌≤◌, List, [], ◌∷◌, ◌++◌, Bool, true, false}
-use Rattle.std.proofs.Common.{get_or, length, map, take, drop, refl, ap, sym, ◌∙◌, subst, arith, find, Option, Some}
-use Rattle.std.proofs.Common.{None, nat_lt, eqb}
-use Rattle.std.specs.List.{list_any, count_by}
-use Rattle.std.proofs.lemmas.Bool.{or_parts, or_from, or_left, or_right, not-false, false≢true, eqb-true, ltb-false}
-use Rattle.std.proofs.lemmas.List.{length-append, take_more, map_push}
-use Rattle.std.proofs.lemmas.List.Elements.{All-push, All-nil}
-use Rattle.elfobj_file.specs.ElfHeader.{e_shnum}
-use Rattle.elfobj.specs.Linkable.{PassesTests}
-use Rattle.elfobj.specs.PartSpans.{AreNamed}
-use Rattle.elfobj_file.specs.Spans.{IsInside, bytes_at}
-use Rattle.elfobj_file.specs.Refusal.{holds, is_out_of_bounds, symbol_refusals}
-use Rattle.elfobj_file.specs.SectionHeaders.{file_bytes, header, headers}
-use Rattle.elfobj_file.specs.SymbolEntries.{symbol_entries_below, symbol_entry_at}
-use Rattle.elfobj_file.specs.Symbols.{NamedSymbol, entries_of, is_symbol_table, named_symbol, null_symbol, strings_of}
-use Rattle.elfobj_file.specs.Symbols.{symbol_name, symbol_of, symbol_table, symbols_from, symbols_in, symbols_of}
+use Rattle.elfobj.proofs.Common.{All-nil, All-push, AreNamed, Bool, IsInside, List, NamedSymbol, None, Option}
+use Rattle.elfobj.proofs.Common.{PassesTests, SectionHeader, Some, Span, SymbolEntry, SymbolTable, [], ap, arith}
+use Rattle.elfobj.proofs.Common.{bytes_at, count_by, drop, e_shnum, entries_of, eqb, eqb-true, false, false≢true}
+use Rattle.elfobj.proofs.Common.{file_bytes, find, get_or, header, headers, holds, is_out_of_bounds, is_symbol_table}
+use Rattle.elfobj.proofs.Common.{length, length-append, list_any, ltb-false, map, map_push, named_symbol, nat_lt}
+use Rattle.elfobj.proofs.Common.{not-false, null_symbol, or_from, or_left, or_parts, or_right, refl, strings_of, subst}
+use Rattle.elfobj.proofs.Common.{suc, sym, symbol_entries_below, symbol_entry_at, symbol_name, symbol_of}
+use Rattle.elfobj.proofs.Common.{symbol_refusals, symbol_table, symbols_from, symbols_in, symbols_of, take, take_more}
+use Rattle.elfobj.proofs.Common.{true, zero, ℕ, ◌%◌, ◌*◌, ◌++◌, ◌+◌, ◌/◌, ◌<◌, ◌∙◌, ◌∷◌, ◌≡◌, ◌≤◌}
 use Rattle.elfobj_file.specs.Tables.{has_misplaced_entry, has_wrong_entry, has_wrong_header, has_wrong_symbol}
 use Rattle.elfobj_file.specs.Tables.{has_wrong_symbol_table, is_string_table, is_wrong_non_local, is_wrong_symbol}
 use Rattle.elfobj_file.specs.Tables.{is_wrong_symbol_table}
-use Rattle.elfobj_file.specs.declared.span.Span.{Span}
-use Rattle.elfobj_file.specs.declared.refusal.ObjectRefusal.TheVariants.{SymbolTable, Symbol as WrongSymbol}
-use Rattle.elfobj_file.specs.declared.section_header.SectionHeader.{SectionHeader}
+use Rattle.elfobj_file.specs.declared.refusal.ObjectRefusal.TheVariants.{Symbol as WrongSymbol}
 use Rattle.elfobj_file.specs.declared.symbol.Symbol.{Symbol}
-use Rattle.elfobj_file.specs.declared.symbol_entry.SymbolEntry.{SymbolEntry}
 use Rattle.elfobj.proofs.Found.{IsTableIn, found_is, found_not, strings_type, symbols_in_file}
 use Rattle.elfobj.proofs.Passing.{none_at}
 

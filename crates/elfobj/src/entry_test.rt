@@ -16,16 +16,17 @@ use crate::relocation_fault::{EntryFault, is_refused_for};
 use crate::relocation_run::SectionTable;
 use elfobj_file::constants::RELA_SIZE;
 use elfobj_file::relocation_entry::read_relocation_entry;
-use std::alloc::{AllocError, Global};
+use growth::{NoMemory, vec};
+use std::alloc::Global;
 
 /// The list `past` for entries of which none is known to have passed.
-pub fn none_passed(alloc: Global, count: usize) -> Result<Vec<usize>, AllocError>
+pub fn none_passed(alloc: Global, count: usize) -> Result<Vec<usize>, NoMemory>
     ensures long { IfOk result (λ numbers. length numbers.items ≡ count) }
     ensures own { IfOk result (λ numbers. (k : ℕ) → k < count → get_or numbers.items k 0 ≡ k) }
 {
-    let mut past = Vec::with_capacity(alloc, count)?;
+    let mut past = vec::with_capacity(alloc, count)?;
     for entry in 0..count {
-        past.push(entry)?;
+        vec::push(&mut past, entry)?;
     }
     Ok(past)
 }

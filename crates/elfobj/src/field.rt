@@ -7,7 +7,7 @@ ghost use Rattle.elfobj_file.specs.Tables.{is_outside};
 
 use crate::relocation::Relocation;
 use crate::section::SectionKind;
-use std::alloc::AllocError;
+use growth::{NoMemory, vec};
 
 /// Whether a relocation changes a byte past the end of its section of `size` bytes, or lies in one that has no bytes in
 /// the file.
@@ -55,17 +55,15 @@ fn are_ascending(relocations: &[Relocation]) -> bool
 
 /// Fills `room` with these relocations in the order of their offsets. They are copied if they have that order, as
 /// assemblers write them, and else sorted.
-pub fn put_in_order(
-    relocations: &[Relocation],
-    room: &mut Vec<Relocation>,
-) -> Result<(), AllocError>
+pub fn put_in_order(relocations: &[Relocation], room: &mut Vec<Relocation>) -> Result<(), NoMemory>
     ensures same { OnOk result (IsPermutation relocations.now room.new.items) }
     ensures order { OnOk result (IsNonDecreasingBy (λ relocation. relocation.offset) room.new.items) }
 {
     room.clear();
-    room.extend_from_slice(relocations)?;
-    if !are_ascending(relocations) {
-        room.sort_unstable_by_key(|r| r.offset);
+    vec::extend_from_slice(room, relocations)?;
+    if are_ascending(relocations) {
+        return Ok(());
     }
+    room.sort_unstable_by_key(|r| r.offset);
     Ok(())
 }

@@ -12,7 +12,8 @@ ghost use Rattle.elfobj_file.specs.Relocations.{field_end, share_bytes};
 
 use crate::relocation::Relocation;
 use elfobj_file::span::Span;
-use std::alloc::{AllocError, Global};
+use growth::{NoMemory, vec};
+use std::alloc::Global;
 
 /// Whether a byte of a field has a mark.
 fn is_marked(marks: &[bool], relocation: &Relocation) -> bool
@@ -114,12 +115,12 @@ pub fn is_any_shared(
     all: &[Relocation],
     spans: &[Span],
     size: usize,
-) -> Result<bool, AllocError>
+) -> Result<bool, NoMemory>
     requires within { All (IsInside (length all.now)) spans.now }
     requires order { IsNonDecreasingBy (λ span. span.start) spans.now }
     requires fields { All (λ span. AreBelow all.now span.start span.end size) spans.now }
     ensures { IfOk result (λ shared. shared ≡ list_any share_bytes (map (relocations_in all.now) spans.now)) }
 {
-    let mut marks = vec![in alloc; false; size]?;
+    let mut marks = vec::from_elem(alloc, false, size)?;
     Ok(is_any_met(all, spans, &mut marks))
 }

@@ -8,7 +8,7 @@
 //! - `relocation_fault` over `entry_test`: the tests of entries, before any is kept;
 //! - `field_marks`: whether fields share a byte;
 //! - `field`, `relocation_run`, `linked`, `part_spans`, `span`: what an object keeps of its sections and relocations;
-//! - `meter`, `memory`: the counts of work and the error for refused memory, for all crates;
+//! - `meter`: the counts of work, for all crates;
 //! - the part `file`: the tables and entries of a file. Other families name this crate alone.
 #![tactic(auto)]
 
@@ -16,7 +16,6 @@ mod entry_test;
 pub mod field;
 mod field_marks;
 mod linked;
-pub mod memory;
 pub mod meter;
 pub mod object;
 mod ordered_table;

@@ -15,7 +15,8 @@ use crate::section::{Section, SectionIndex, SectionKind};
 use elfobj_file::names::StringTable;
 use elfobj_file::section_header::SectionHeader;
 use elfobj_file::span::Span;
-use std::alloc::{AllocError, Global};
+use growth::{NoMemory, vec};
+use std::alloc::Global;
 
 /// The linked sections in table order, with the spans of their parts.
 #[derive(Drop)]
@@ -69,23 +70,23 @@ fn section_and_spans(
 
 impl LinkedSections {
     /// No sections, with room for `count`.
-    fn with_room(alloc: Global, count: usize) -> Result<LinkedSections, AllocError>
+    fn with_room(alloc: Global, count: usize) -> Result<LinkedSections, NoMemory>
         ensures sections { IfOk result (λ l. l.sections.items ≡ []) }
         ensures part_spans { IfOk result (λ l. l.part_spans.items ≡ []) }
     {
         Ok(LinkedSections {
-            sections: Vec::with_capacity(alloc, count)?,
-            part_spans: Vec::with_capacity(alloc, count)?,
+            sections: vec::with_capacity(alloc, count)?,
+            part_spans: vec::with_capacity(alloc, count)?,
         })
     }
 
     /// Adds a section and the spans of its parts.
-    fn push(&mut self, section: Section, parts: PartSpans) -> Result<(), AllocError>
+    fn push(&mut self, section: Section, parts: PartSpans) -> Result<(), NoMemory>
         ensures sections { OnOk result (self.new.sections.items ≡ self.old.sections.items ++ section ∷ []) }
         ensures part_spans { OnOk result (self.new.part_spans.items ≡ self.old.part_spans.items ++ parts ∷ []) }
     {
-        self.sections.push(section)?;
-        self.part_spans.push(parts)?;
+        vec::push(&mut self.sections, section)?;
+        vec::push(&mut self.part_spans, parts)?;
         Ok(())
     }
 }
@@ -101,7 +102,7 @@ pub fn linked_sections(
     bytes: &[u8],
     names: &StringTable,
     headers: &[SectionHeader],
-) -> Result<LinkedSections, AllocError>
+) -> Result<LinkedSections, NoMemory>
     requires table { HasSectionTable bytes.now }
     requires names { IsNameTable bytes.now names.now.header }
     requires file { names.now.file.now ≡ bytes.now }
@@ -129,7 +130,7 @@ pub fn passing_sections(
     bytes: &[u8],
     names: &SectionHeader,
     headers: &[SectionHeader],
-) -> Result<Option<LinkedSections>, AllocError>
+) -> Result<Option<LinkedSections>, NoMemory>
     requires table { HasSectionTable bytes.now }
     requires names { IsNameTable bytes.now names.now }
     requires headers { headers.now ≡ headers_of bytes.now }

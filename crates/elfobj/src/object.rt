@@ -6,6 +6,7 @@ ghost use Rattle.std.specs.List.{All, AllPairs, slice_get};
 ghost use Rattle.elfobj.specs.Raised.{raised};
 ghost use Rattle.elfobj.specs.declared.meter.Count.TheVariants.{Objects};
 ghost use Rattle.elfobj_file.specs.declared.refusal.ObjectRefusal.TheVariants.{NoMemory};
+ghost use Rattle.growth.specs.Memory.{no_memory};
 
 use crate::meter::{Count, Meter};
 use crate::part_spans::PartSpans;
@@ -63,8 +64,10 @@ impl Object {
         meter: &mut Meter,
     ) -> Result<Object, (Vec<u8>, ObjectRefusal)>
         ensures ok { IfOk result (λ object. (object_refusal bytes.items ≡ None) × (object ≡ object_of bytes.items)) }
-        ensures refused { IfErr result (λ error. (error.1 ≡ NoMemory) ⊎ (object_refusal bytes.items ≡ Some error.1)) }
-        ensures memory { IfErr result (λ error. error.1 ≡ NoMemory → find (holds bytes.items) header_refusals ≡ None) }
+        ensures refused { IfErr result (λ error.
+            (error.1 ≡ NoMemory no_memory) ⊎ (object_refusal bytes.items ≡ Some error.1)) }
+        ensures memory { IfErr result (λ error.
+            error.1 ≡ NoMemory no_memory → find (holds bytes.items) header_refusals ≡ None) }
         ensures bytes { IfErr result (λ error. error.0.items ≡ bytes.items) }
         ensures counted { meter.new ≡ raised meter.old Objects 1 }
     {

@@ -14,7 +14,8 @@ use crate::relocation_run::{Relocations, SectionTable};
 use elfobj_file::constants::RELA_SIZE;
 use elfobj_file::relocation_entry::read_relocation_entry;
 use elfobj_file::span::Span;
-use std::alloc::{AllocError, Global};
+use growth::{NoMemory, vec};
+use std::alloc::Global;
 
 /// The number of entries of these tables.
 fn entry_count(tables: &[SectionTable]) -> usize {
@@ -33,7 +34,7 @@ fn push_ordered(
     table: &SectionTable,
     symbols: usize,
     all: &mut Vec<Relocation>,
-) -> Result<bool, AllocError>
+) -> Result<bool, NoMemory>
     requires { table.now.start + 24 * table.now.count ≤ length bytes.now }
     ensures read { IfOk result (λ b. b ≡ true
         → all.new.items ≡ all.old.items ++ map relocation_of (table_entries bytes.now table.now)) }
@@ -55,7 +56,7 @@ fn push_ordered(
             return Ok(false);
         };
         end = own;
-        all.push(relocation)?;
+        vec::push(all, relocation)?;
     }
     Ok(true)
 }
@@ -67,7 +68,7 @@ pub fn read_ordered(
     bytes: &[u8],
     tables: &[SectionTable],
     symbols: usize,
-) -> Result<Option<Relocations>, AllocError>
+) -> Result<Option<Relocations>, NoMemory>
     requires { All (IsTableOf bytes.now) tables.now }
     ensures read { IfOk result
         (λ found. IfSome found (λ read. AreRelocated
@@ -84,15 +85,15 @@ pub fn read_ordered(
     if bytes.len() / RELA_SIZE < count {
         return Ok(None);
     }
-    let mut all = Vec::with_capacity(alloc, count)?;
-    let mut spans = Vec::with_capacity(alloc, tables.len())?;
+    let mut all = vec::with_capacity(alloc, count)?;
+    let mut spans = vec::with_capacity(alloc, tables.len())?;
     for table in tables {
         let start = all.len();
         if !push_ordered(bytes, table, symbols, &mut all)? {
             return Ok(None);
         }
         let end = all.len();
-        spans.push(Span { start, end })?;
+        vec::push(&mut spans, Span { start, end })?;
     }
     Ok(Some(Relocations { all, spans }))
 }

@@ -8,7 +8,8 @@ ghost use Rattle.elfobj.specs.PartSpans.{IsWithin, IsFileWithin, bytes_in, is_re
 use crate::section::SectionKind;
 use elfobj_file::section_header::SectionHeader;
 use elfobj_file::span::{EMPTY_SPAN, Span};
-use std::alloc::{AllocError, Global};
+use growth::{NoMemory, iterator};
+use std::alloc::Global;
 
 /// The spans of the parts of a section.
 #[derive(Clone, Copy)]
@@ -73,11 +74,8 @@ impl PartSpans {
 }
 
 /// For each section whether it has relocations.
-pub fn relocated_sections(alloc: Global, part_spans: &[PartSpans]) -> Result<Vec<bool>, AllocError>
+pub fn relocated_sections(alloc: Global, part_spans: &[PartSpans]) -> Result<Vec<bool>, NoMemory>
     ensures { IfOk result (λ list. list.items ≡ map is_relocated part_spans.now) }
 {
-    part_spans
-        .iter()
-        .map(|place| place.is_relocated())
-        .collect(alloc)
+    iterator::collect(part_spans.iter().map(|place| place.is_relocated()), alloc)
 }

@@ -12,7 +12,8 @@ use crate::relocation_run::{SectionTable, class_range};
 use crate::section::{Section, SectionKind};
 use elfobj_file::constants::RELA_SIZE;
 use elfobj_file::relocation_entry::RelocationEntry;
-use std::alloc::{AllocError, Global};
+use growth::{NoMemory, vec};
+use std::alloc::Global;
 
 /// A way in which an entry is outside the profile, in the order of the refusals' numbers.
 #[derive(Clone, Copy)]
@@ -72,14 +73,11 @@ impl SectionTable {
 }
 
 /// These tables in the order of their sections' sizes, the smallest first.
-pub fn smallest_first(
-    alloc: Global,
-    tables: &[SectionTable],
-) -> Result<Vec<SectionTable>, AllocError>
+pub fn smallest_first(alloc: Global, tables: &[SectionTable]) -> Result<Vec<SectionTable>, NoMemory>
     ensures same { IfOk result (λ ordered. IsPermutation tables.now ordered.items) }
     ensures order { IfOk result (λ ordered. IsNonDecreasingBy (λ table. field_ends table.section) ordered.items) }
 {
-    let mut sorted = tables.to_vec(alloc)?;
+    let mut sorted = vec::to_vec(tables, alloc)?;
     sorted.sort_unstable_by_key(|t| t.field_ends());
     Ok(sorted)
 }
@@ -125,7 +123,7 @@ fn is_class_refused(
     class: usize,
     fault: EntryFault,
     symbols: usize,
-) -> Result<bool, AllocError>
+) -> Result<bool, NoMemory>
     requires class { class < 24 }
     requires long { 24 ≤ length bytes.now }
     requires tables { All (IsTableOf bytes.now) tables.now }
@@ -147,7 +145,7 @@ pub fn is_any_refused(
     tables: &[SectionTable],
     fault: EntryFault,
     symbols: usize,
-) -> Result<bool, AllocError>
+) -> Result<bool, NoMemory>
     requires long { 24 ≤ length bytes.now }
     requires tables { All (IsTableOf bytes.now) tables.now }
     requires order { IsNonDecreasingBy (λ table. field_ends table.section) tables.now }

@@ -13,7 +13,8 @@ use crate::section::Section;
 use elfobj_file::constants::RELA_SIZE;
 use elfobj_file::relocation_entry::read_relocation_entry;
 use elfobj_file::span::{EMPTY_SPAN, Span};
-use std::alloc::{AllocError, Global};
+use growth::{NoMemory, vec};
+use std::alloc::Global;
 
 /// The table of a linked section's relocations in the file.
 #[derive(Clone, Copy)]
@@ -88,14 +89,14 @@ fn push_entries(
     start: usize,
     count: usize,
     all: &mut Vec<Relocation>,
-) -> Result<(), AllocError>
+) -> Result<(), NoMemory>
     requires { start + 24 * count ≤ length bytes.now }
     ensures { OnOk result (all.new.items ≡ all.old.items ++ map relocation_of
         (relocation_entries_below bytes.now start count)) }
 {
     for k in 0..count {
         let entry = read_relocation_entry(bytes, start + RELA_SIZE * k);
-        all.push(entry.relocation())?;
+        vec::push(all, entry.relocation())?;
     }
     Ok(())
 }
@@ -105,19 +106,19 @@ fn read_runs(
     alloc: Global,
     bytes: &[u8],
     tables: &[SectionTable],
-) -> Result<(Vec<Relocation>, Vec<RelocationRun>), AllocError>
+) -> Result<(Vec<Relocation>, Vec<RelocationRun>), NoMemory>
     requires long { 24 ≤ length bytes.now }
     requires within { All (λ t. t.start + 24 * t.count ≤ length bytes.now) tables.now }
     ensures { IfOk result (λ r. AreRuns bytes.now tables.now r.0.items 24 r.1.items) }
 {
-    let mut all = Vec::with_capacity(alloc, entry_count(tables, bytes.len()))?;
-    let mut runs = Vec::with_capacity(alloc, RELA_SIZE)?;
+    let mut all = vec::with_capacity(alloc, entry_count(tables, bytes.len()))?;
+    let mut runs = vec::with_capacity(alloc, RELA_SIZE)?;
     for class in 0..RELA_SIZE {
         let (low, end) = class_range(tables, class, bytes.len());
         let first = all.len();
         let count = end - low;
         push_entries(bytes, RELA_SIZE * low + class, count, &mut all)?;
-        runs.push(RelocationRun { low, count, first })?;
+        vec::push(&mut runs, RelocationRun { low, count, first })?;
     }
     Ok((all, runs))
 }
@@ -144,19 +145,19 @@ fn find_spans(
     tables: &[SectionTable],
     all: &[Relocation],
     runs: &[RelocationRun],
-) -> Result<Vec<Span>, AllocError>
+) -> Result<Vec<Span>, NoMemory>
     requires runs { AreRuns bytes.now tables.now all.now 24 runs.now }
     ensures { IfOk result (λ v. AreRelocated
         (map (λ t. map relocation_of (table_entries bytes.now t)) tables.now) all.now v.items) }
 {
-    let mut spans = Vec::with_capacity(alloc, tables.len())?;
+    let mut spans = vec::with_capacity(alloc, tables.len())?;
     for table in tables {
         let span = if table.count == 0 {
             EMPTY_SPAN
         } else {
             span_in(&runs[table.start % RELA_SIZE], table)
         };
-        spans.push(span)?;
+        vec::push(&mut spans, span)?;
     }
     Ok(spans)
 }
@@ -166,7 +167,7 @@ pub fn read_tables(
     alloc: Global,
     bytes: &[u8],
     tables: &[SectionTable],
-) -> Result<Relocations, AllocError>
+) -> Result<Relocations, NoMemory>
     requires long { 24 ≤ length bytes.now }
     requires tables { All (IsTableOf bytes.now) tables.now }
     ensures { IfOk result (λ read. AreRelocated

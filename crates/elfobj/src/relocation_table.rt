@@ -18,7 +18,9 @@ ghost use Rattle.elfobj_file.specs.SectionTable.{HasSectionTable};
 ghost use Rattle.elfobj_file.specs.Sections.{sections_of};
 ghost use Rattle.elfobj_file.specs.Symbols.{symbols_of};
 ghost use Rattle.elfobj_file.specs.Tables.{is_linked, is_wrong_below, is_wrong_table, linked_sections};
-ghost use Rattle.elfobj_file.specs.declared.refusal.ObjectRefusal.TheVariants.{NoMemory, RelocationSection};
+ghost use Rattle.elfobj_file.specs.declared.refusal.ObjectRefusal.TheVariants.{NoMemory as OutOfMemory};
+ghost use Rattle.elfobj_file.specs.declared.refusal.ObjectRefusal.TheVariants.{RelocationSection};
+ghost use Rattle.growth.specs.Memory.{no_memory};
 
 use crate::field_marks::is_any_shared;
 use crate::ordered_table::read_ordered;
@@ -30,7 +32,8 @@ use crate::symbol_table::symbol_table_number;
 use elfobj_file::constants::{RELA_SIZE, SHT_REL};
 use elfobj_file::section_header::SectionHeader;
 use elfobj_file::span::Span;
-use std::alloc::{AllocError, Global};
+use growth::{NoMemory, vec};
+use std::alloc::Global;
 
 /// Whether the section with this header number is linked.
 fn is_linked(headers: &[SectionHeader], number: usize) -> bool
@@ -86,12 +89,12 @@ fn enter(tables: &mut [Option<SectionHeader>], table: &SectionHeader)
 }
 
 /// A list without tables, of this length.
-fn no_tables(alloc: Global, count: usize) -> Result<Vec<Option<SectionHeader>>, AllocError>
+fn no_tables(alloc: Global, count: usize) -> Result<Vec<Option<SectionHeader>>, NoMemory>
     ensures { IfOk result (λ v. v.items ≡ replicate count None) }
 {
-    let mut tables = Vec::with_capacity(alloc, count)?;
+    let mut tables = vec::with_capacity(alloc, count)?;
     for _ in 0..count {
-        tables.push(None)?;
+        vec::push(&mut tables, None)?;
     }
     Ok(tables)
 }
@@ -107,12 +110,13 @@ fn changing_tables(
     requires headers { headers.now ≡ headers_of bytes.now }
     ensures right { IfOk result (λ v. is_wrong_below bytes.now (e_shnum bytes.now) ≡ false) }
     ensures tables { IfOk result (λ v. AreTables bytes.now v.items) }
-    ensures wrong { IfErr result (λ e. (e ≡ NoMemory)
+    ensures wrong { IfErr result (λ e. (e ≡ OutOfMemory no_memory)
         ⊎ ((e ≡ RelocationSection) × (is_wrong_below bytes.now (e_shnum bytes.now) ≡ true))) }
 {
     let symtab = symbol_table_number(headers);
-    let Ok(mut tables) = no_tables(alloc, headers.len()) else {
-        return Err(ObjectRefusal::NoMemory);
+    let mut tables = match no_tables(alloc, headers.len()) {
+        Ok(tables) => tables,
+        Err(no_memory) => return Err(ObjectRefusal::NoMemory(no_memory)),
     };
     for (number, table) in headers.iter().enumerate() {
         if table.is_relocation_section() {
@@ -152,16 +156,16 @@ fn section_tables(
     bytes: &[u8],
     sections: &[Section],
     tables: &[Option<SectionHeader>],
-) -> Result<Vec<SectionTable>, AllocError>
+) -> Result<Vec<SectionTable>, NoMemory>
     requires sections { sections.now ≡ linked_sections bytes.now }
     requires tables { AreTables bytes.now tables.now }
     requires tests { PassesTests bytes.now }
     ensures { IfOk result (λ v. AreTablesOf bytes.now sections.now v.items) }
 {
-    let mut own = Vec::with_capacity(alloc, sections.len())?;
+    let mut own = vec::with_capacity(alloc, sections.len())?;
     for section in sections {
         let table = tables[section.number.0 as usize];
-        own.push(section_table(section, table, bytes.len()))?;
+        vec::push(&mut own, section_table(section, table, bytes.len()))?;
     }
     Ok(own)
 }
@@ -172,7 +176,7 @@ fn entry_refusal(
     bytes: &[u8],
     tables: &[SectionTable],
     symbols: usize,
-) -> Result<Option<ObjectRefusal>, AllocError>
+) -> Result<Option<ObjectRefusal>, NoMemory>
     requires long { 24 ≤ length bytes.now }
     requires right { is_wrong_below bytes.now (e_shnum bytes.now) ≡ false }
     requires tables { AreTablesOf bytes.now (linked_sections bytes.now) tables.now }
@@ -209,17 +213,17 @@ fn largest_size(tables: &[SectionTable]) -> u64
 }
 
 /// These spans in the order of their starts.
-fn in_order(alloc: Global, spans: &[Span]) -> Result<Vec<Span>, AllocError>
+fn in_order(alloc: Global, spans: &[Span]) -> Result<Vec<Span>, NoMemory>
     ensures same { IfOk result (λ v. IsPermutation spans.now v.items) }
     ensures order { IfOk result (λ v. IsNonDecreasingBy (λ s. s.start) v.items) }
 {
-    let mut sorted = spans.to_vec(alloc)?;
+    let mut sorted = vec::to_vec(spans, alloc)?;
     sorted.sort_unstable_by_key(|s| s.start);
     Ok(sorted)
 }
 
 /// Whether two relocations of one section share a byte. All fields end at `size` or before.
-fn is_any_overlap(alloc: Global, relocations: &Relocations, size: usize) -> Result<bool, AllocError>
+fn is_any_overlap(alloc: Global, relocations: &Relocations, size: usize) -> Result<bool, NoMemory>
     requires within { All (IsInside (length relocations.now.all.items)) relocations.now.spans.items }
     requires fields { All (λ s. AreBelow relocations.now.all.items s.start s.end size) relocations.now.spans.items }
     ensures { IfOk result (λ b. b ≡ list_any share_bytes
@@ -246,7 +250,8 @@ fn read_tested(
     ensures ok { IfOk result (λ r. find (holds bytes.now) relocation_refusals ≡ None) }
     ensures relocations { IfOk result
         (λ r. AreRelocated (map (λ s. s.relocations) (sections_of bytes.now)) r.all.items r.spans.items) }
-    ensures refused { IfErr result (λ e. (e ≡ NoMemory) ⊎ (find (holds bytes.now) relocation_refusals ≡ Some e)) }
+    ensures refused { IfErr result (λ e. (e ≡ OutOfMemory no_memory) ⊎
+        (find (holds bytes.now) relocation_refusals ≡ Some e)) }
 {
     let refusal = entry_refusal(alloc, bytes, tables, symbols)?;
     if let Some(refusal) = refusal {
@@ -278,7 +283,7 @@ pub fn read_relocations(
         (λ read. AreRelocated (map (λ section. section.relocations) (sections_of bytes.now)) read.all.items
         read.spans.items) }
     ensures refused { IfErr result
-        (λ refusal. (refusal ≡ NoMemory) ⊎ (find (holds bytes.now) relocation_refusals ≡ Some refusal)) }
+        (λ refusal. (refusal ≡ OutOfMemory no_memory) ⊎ (find (holds bytes.now) relocation_refusals ≡ Some refusal)) }
 {
     let changing = changing_tables(alloc, bytes, headers)?;
     let tables = section_tables(alloc, bytes, sections, &changing)?;

@@ -12,7 +12,9 @@ ghost use Rattle.elfobj_file.specs.SectionTable.{HasSectionTable};
 ghost use Rattle.elfobj.specs.PartSpans.{AreRead, is_relocated};
 ghost use Rattle.elfobj_file.specs.Sections.{sections_of};
 ghost use Rattle.elfobj_file.specs.TableOf.{table_of};
-ghost use Rattle.elfobj_file.specs.declared.refusal.ObjectRefusal.TheVariants.{NoMemory, SectionBounds, SectionProfile};
+ghost use Rattle.elfobj_file.specs.declared.refusal.ObjectRefusal.TheVariants.{NoMemory as OutOfMemory};
+ghost use Rattle.elfobj_file.specs.declared.refusal.ObjectRefusal.TheVariants.{SectionBounds, SectionProfile};
+ghost use Rattle.growth.specs.Memory.{no_memory};
 
 use crate::linked::{LinkedSections, linked_sections, passing_sections};
 use crate::part_spans::{relocated_sections, set_relocation_ranges};
@@ -26,6 +28,7 @@ use elfobj_file::constants::SHT_STRTAB;
 use elfobj_file::elf_header::{header_refusal, name_table_number};
 use elfobj_file::names::StringTable;
 use elfobj_file::section_header::{SectionHeader, read_headers};
+use growth::NoMemory;
 use std::alloc::Global;
 
 /// The header of the section name table.
@@ -80,7 +83,7 @@ fn looked_sections(
     requires bounds { holds bytes.now SectionBounds ≡ false }
     ensures passes { OnOk result (holds bytes.now SectionProfile ≡ false) }
     ensures read { IfOk result (λ l. AreRead bytes.now (sections_of bytes.now) l.sections.items l.part_spans.items) }
-    ensures refused { IfErr result (λ e. (e ≡ NoMemory)
+    ensures refused { IfErr result (λ e. (e ≡ OutOfMemory no_memory)
         ⊎ ((holds bytes.now SectionProfile ≡ true) × (e ≡ SectionProfile))) }
 {
     let table = StringTable::of_header(alloc, bytes, names)?;
@@ -104,7 +107,7 @@ fn read_sections(
     requires bounds { holds bytes.now SectionBounds ≡ false }
     ensures passes { OnOk result (holds bytes.now SectionProfile ≡ false) }
     ensures read { IfOk result (λ l. AreRead bytes.now (sections_of bytes.now) l.sections.items l.part_spans.items) }
-    ensures refused { IfErr result (λ e. (e ≡ NoMemory)
+    ensures refused { IfErr result (λ e. (e ≡ OutOfMemory no_memory)
         ⊎ ((holds bytes.now SectionProfile ≡ true) × (e ≡ SectionProfile))) }
 {
     match passing_sections(alloc, bytes, names, headers)? {
@@ -143,7 +146,8 @@ fn read_tables(
         p.symbols.names.items p.relocations.items) }
     ensures relocated { IfOk result (λ p. p.relocated.items ≡ map is_relocated p.linked.part_spans.items) }
     ensures refused { IfErr result
-        (λ e. (e ≡ NoMemory) ⊎ (find (holds bytes.now) (symbol_refusals ++ relocation_refusals) ≡ Some e)) }
+        (λ e. (e ≡ OutOfMemory no_memory) ⊎
+        (find (holds bytes.now) (symbol_refusals ++ relocation_refusals) ≡ Some e)) }
 {
     let symbols = read_symbols(alloc, bytes, headers)?;
     let count = symbols.symbols.len();
@@ -172,8 +176,10 @@ pub fn read_parts(alloc: Global, bytes: &[u8]) -> Result<Parts, ObjectRefusal>
         parts.symbols.symbols.items
         parts.symbols.names.items parts.relocations.items) }
     ensures relocated { IfOk result (λ parts. parts.relocated.items ≡ map is_relocated parts.linked.part_spans.items) }
-    ensures refused { IfErr result (λ refusal. (refusal ≡ NoMemory) ⊎ (object_refusal bytes.now ≡ Some refusal)) }
-    ensures memory { IfErr result (λ refusal. refusal ≡ NoMemory → find (holds bytes.now) header_refusals ≡ None) }
+    ensures refused { IfErr result (λ refusal. (refusal ≡ OutOfMemory no_memory) ⊎
+        (object_refusal bytes.now ≡ Some refusal)) }
+    ensures memory { IfErr result (λ refusal.
+        refusal ≡ OutOfMemory no_memory → find (holds bytes.now) header_refusals ≡ None) }
 {
     if let Some(refusal) = header_refusal(bytes) {
         return Err(refusal);

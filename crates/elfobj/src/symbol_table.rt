@@ -14,7 +14,8 @@ ghost use Rattle.elfobj_file.specs.Symbols.{symbols_of};
 ghost use Rattle.elfobj_file.specs.TableOf.{table_of};
 ghost use Rattle.elfobj_file.specs.Tables.{has_misplaced_entry, has_wrong_header, is_local_entry, is_string_table};
 ghost use Rattle.elfobj_file.specs.Tables.{is_wrong_non_local, is_wrong_symbol};
-ghost use Rattle.elfobj_file.specs.declared.refusal.ObjectRefusal.TheVariants.{NoMemory};
+ghost use Rattle.elfobj_file.specs.declared.refusal.ObjectRefusal.TheVariants.{NoMemory as OutOfMemory};
+ghost use Rattle.growth.specs.Memory.{no_memory};
 
 use crate::refusal::ObjectRefusal;
 use crate::symbols::{Symbols, read_passing};
@@ -23,7 +24,8 @@ use elfobj_file::names::StringTable;
 use elfobj_file::section_header::SectionHeader;
 use elfobj_file::span::{EMPTY_SPAN, Span};
 use elfobj_file::symbol_entry::{SymbolEntry, read_symbol_entry};
-use std::alloc::{AllocError, Global};
+use growth::{NoMemory, vec};
+use std::alloc::Global;
 
 /// The index of the first header of a symbol table.
 pub fn symbol_table_number(headers: &[SectionHeader]) -> Option<usize>
@@ -73,15 +75,15 @@ fn read_entries(
     alloc: Global,
     bytes: &[u8],
     table: &SectionHeader,
-) -> Result<Vec<SymbolEntry>, AllocError>
+) -> Result<Vec<SymbolEntry>, NoMemory>
     requires { table.now.sh_offset + table.now.sh_size ≤ length bytes.now }
     ensures { IfOk result (λ v. v.items ≡ entries_of bytes.now table.now) }
 {
     let count = table.sh_size as usize / SYM_SIZE;
     let start = table.sh_offset as usize;
-    let mut entries = Vec::with_capacity(alloc, count)?;
+    let mut entries = vec::with_capacity(alloc, count)?;
     for k in 0..count {
-        entries.push(read_symbol_entry(bytes, start + SYM_SIZE * k))?;
+        vec::push(&mut entries, read_symbol_entry(bytes, start + SYM_SIZE * k))?;
     }
     Ok(entries)
 }
@@ -150,7 +152,7 @@ fn named_symbols(
     alloc: Global,
     strings: &StringTable,
     entries: &[SymbolEntry],
-) -> Result<Symbols, AllocError>
+) -> Result<Symbols, NoMemory>
     requires some { 0 < length entries.now }
     requires names { list_any (is_wrong_non_local (table_of strings.now)) (drop 1 entries.now) ≡ false }
     ensures { IfOk result (λ s. AreNamed strings.now.file.now
@@ -182,7 +184,8 @@ fn read_tested(
     requires right { has_wrong_header headers.now table.now ≡ false }
     ensures ok { IfOk result (λ s. find (holds bytes.now) symbol_refusals ≡ None) }
     ensures symbols { IfOk result (λ s. AreNamed bytes.now (symbols_of bytes.now) s.symbols.items s.names.items) }
-    ensures refused { IfErr result (λ e. (e ≡ NoMemory) ⊎ (find (holds bytes.now) symbol_refusals ≡ Some e)) }
+    ensures refused { IfErr result (λ e. (e ≡ OutOfMemory no_memory) ⊎
+        (find (holds bytes.now) symbol_refusals ≡ Some e)) }
 {
     let entries = read_entries(alloc, bytes, table)?;
     if has_misplaced_entry(table, &entries) {
@@ -210,7 +213,7 @@ pub fn read_symbols(
     ensures symbols { IfOk result
         (λ read. AreNamed bytes.now (symbols_of bytes.now) read.symbols.items read.names.items) }
     ensures refused { IfErr result
-        (λ refusal. (refusal ≡ NoMemory) ⊎ (find (holds bytes.now) symbol_refusals ≡ Some refusal)) }
+        (λ refusal. (refusal ≡ OutOfMemory no_memory) ⊎ (find (holds bytes.now) symbol_refusals ≡ Some refusal)) }
 {
     if are_several(headers) {
         return Err(ObjectRefusal::SymbolTable);

@@ -14,7 +14,8 @@ use elfobj_file::constants::SYM_SIZE;
 use elfobj_file::section_header::SectionHeader;
 use elfobj_file::span::{EMPTY_SPAN, Span};
 use elfobj_file::symbol_entry::read_symbol_entry;
-use std::alloc::{AllocError, Global};
+use growth::{NoMemory, vec};
+use std::alloc::Global;
 
 /// The symbols in table order, with the ranges of their names in the file.
 #[derive(Drop)]
@@ -36,25 +37,25 @@ const NULL_SYMBOL: Symbol = Symbol {
 
 impl Symbols {
     /// The null symbol alone, with room for `count` symbols.
-    pub fn of_null(alloc: Global, count: usize) -> Result<Symbols, AllocError>
+    pub fn of_null(alloc: Global, count: usize) -> Result<Symbols, NoMemory>
         ensures { (file : List ℕ)
             → IfOk result (λ read. AreNamed file (null_symbol ∷ []) read.symbols.items read.names.items) }
     {
         let mut symbols = Symbols {
-            symbols: Vec::with_capacity(alloc, count)?,
-            names: Vec::with_capacity(alloc, count)?,
+            symbols: vec::with_capacity(alloc, count)?,
+            names: vec::with_capacity(alloc, count)?,
         };
         symbols.push(NULL_SYMBOL, EMPTY_SPAN)?;
         Ok(symbols)
     }
 
     /// Adds a symbol and the range of its name.
-    pub fn push(&mut self, symbol: Symbol, name: Span) -> Result<(), AllocError>
+    pub fn push(&mut self, symbol: Symbol, name: Span) -> Result<(), NoMemory>
         ensures symbols { OnOk result (self.new.symbols.items ≡ self.old.symbols.items ++ symbol ∷ []) }
         ensures names { OnOk result (self.new.names.items ≡ self.old.names.items ++ name ∷ []) }
     {
-        self.symbols.push(symbol)?;
-        self.names.push(name)?;
+        vec::push(&mut self.symbols, symbol)?;
+        vec::push(&mut self.names, name)?;
         Ok(())
     }
 }
@@ -68,7 +69,7 @@ pub fn read_passing(
     table: &SectionHeader,
     strings: &SectionHeader,
     sections: u16,
-) -> Result<Option<Symbols>, AllocError>
+) -> Result<Option<Symbols>, NoMemory>
     requires some { 1 ≤ table.now.sh_size / 24 }
     requires low { 1 ≤ table.now.sh_info }
     requires high { table.now.sh_info ≤ table.now.sh_size / 24 }

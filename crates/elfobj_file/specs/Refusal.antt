@@ -91,7 +91,7 @@ holds bytes FieldBounds = has_wrong_bounds bytes
 -- and shares no byte with another field
 holds bytes FieldOverlap = has_overlap bytes
 -- no bytes are refused so: memory has run out
-holds bytes NoMemory = false
+holds bytes (NoMemory _) = false
 
 -- those that the ELF header alone gives
 abbrev pub header_refusals : List ObjectRefusal

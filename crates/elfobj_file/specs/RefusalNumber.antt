@@ -22,4 +22,4 @@ refusal_number RelocationSection = 10
 refusal_number RelocationType = 11
 refusal_number FieldBounds = 12
 refusal_number FieldOverlap = 13
-refusal_number NoMemory = 14
+refusal_number (NoMemory _) = 14

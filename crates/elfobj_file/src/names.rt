@@ -13,7 +13,8 @@ use crate::constants::MAX_NAME_LENGTH;
 use crate::lanes::{LANES, graphic_run};
 use crate::section_header::SectionHeader;
 use crate::span::Span;
-use std::alloc::{AllocError, Global};
+use growth::{NoMemory, vec};
+use std::alloc::Global;
 
 /// Whether a byte may occur in a name: one from `!` to `~`.
 pub fn is_graphic(b: u8) -> bool
@@ -50,10 +51,10 @@ fn length_before(b: u8, is_end: bool, next: u16) -> u16
 }
 
 /// The lengths of the names in a table, found in one pass from its end.
-fn name_lengths(alloc: Global, table: &[u8]) -> Result<Vec<u16>, AllocError>
+fn name_lengths(alloc: Global, table: &[u8]) -> Result<Vec<u16>, NoMemory>
     ensures { IfOk result (λ v. v.items ≡ name_lengths table.now) }
 {
-    let mut lengths = vec![in alloc; 0; table.len()]?;
+    let mut lengths = vec::from_elem(alloc, 0, table.len())?;
     let mut next = 0;
     let mut is_end = false;
     for at in (0..table.len()).rev() {
@@ -144,7 +145,7 @@ impl<'a> StringTable<'a> {
         alloc: Global,
         file: &'a [u8],
         header: &SectionHeader,
-    ) -> Result<StringTable<'a>, AllocError>
+    ) -> Result<StringTable<'a>, NoMemory>
         requires { header.now.sh_offset + header.now.sh_size ≤ length file.now }
         ensures file { IfOk result (λ table. table.file.now ≡ file.now) }
         ensures header { IfOk result (λ table. table.header ≡ header.now) }

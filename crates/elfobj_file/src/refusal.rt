@@ -1,6 +1,6 @@
 //! Why bytes are no object of the profile.
 
-use std::alloc::AllocError;
+use growth::NoMemory;
 
 /// Why `Object::read` refuses. 1 to 13 are conditions on the bytes, in the order of the tests: the lowest one that
 /// holds is answered. `NoMemory` may replace any answer but 1 to 5, which the ELF header alone gives.
@@ -35,17 +35,17 @@ pub enum ObjectRefusal {
     /// 13: two relocations of one section that share a byte.
     FieldOverlap,
     /// 14: out of memory.
-    NoMemory,
+    NoMemory(NoMemory),
 }
 
-impl From<AllocError> for ObjectRefusal {
+impl From<NoMemory> for ObjectRefusal {
     ghost use Rattle.std.specs.Prelude.{◌≡◌};
     ghost use Rattle.elfobj_file.specs.declared.refusal.ObjectRefusal.TheVariants.{NoMemory};
 
-    ghost from_gives = { λ _ e. e ≡ NoMemory };
+    ghost from_gives = { λ no_memory e. e ≡ NoMemory no_memory };
 
-    fn from(_failed: AllocError) -> ObjectRefusal {
-        ObjectRefusal::NoMemory
+    fn from(no_memory: NoMemory) -> ObjectRefusal {
+        ObjectRefusal::NoMemory(no_memory)
     }
 }
 
@@ -71,7 +71,7 @@ impl ObjectRefusal {
             ObjectRefusal::RelocationType => 11,
             ObjectRefusal::FieldBounds => 12,
             ObjectRefusal::FieldOverlap => 13,
-            ObjectRefusal::NoMemory => 14,
+            ObjectRefusal::NoMemory(_) => 14,
         }
     }
 }

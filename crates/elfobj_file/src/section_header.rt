@@ -13,7 +13,8 @@ use crate::names::{StringTable, looked_name};
 use crate::numbers::{read_u32, read_u64};
 use crate::section::SectionKind;
 use crate::span::Span;
-use std::alloc::{AllocError, Global};
+use growth::{NoMemory, vec};
+use std::alloc::Global;
 
 /// The fields of a section header that the reader uses.
 #[derive(Clone, Copy)]
@@ -174,16 +175,19 @@ pub fn read_header(bytes: &[u8], at: usize) -> SectionHeader
 
 /// The section headers in table order, with header number 0 as an unused one.
 #[tactic(auto, using(crate::proofs::Headers::header_read), unfolding(crate::specs::SectionHeaders::header, crate::specs::SectionHeaders::headers))]
-pub fn read_headers(alloc: Global, bytes: &[u8]) -> Result<Vec<SectionHeader>, AllocError>
+pub fn read_headers(alloc: Global, bytes: &[u8]) -> Result<Vec<SectionHeader>, NoMemory>
     requires { HasSectionTable bytes.now }
     ensures { IfOk result (λ all. all.items ≡ headers bytes.now) }
 {
     let start = section_table_offset(bytes) as usize;
     let count = usize::from(section_count(bytes));
-    let mut headers = Vec::with_capacity(alloc, count)?;
-    headers.push(NULL_HEADER)?;
+    let mut headers = vec::with_capacity(alloc, count)?;
+    vec::push(&mut headers, NULL_HEADER)?;
     for k in 1..count {
-        headers.push(read_header(bytes, start + usize::from(SHDR_SIZE) * k))?;
+        vec::push(
+            &mut headers,
+            read_header(bytes, start + usize::from(SHDR_SIZE) * k),
+        )?;
     }
     Ok(headers)
 }

@@ -1,35 +1,16 @@
 -- All rows, one after another.
-use Rattle.std.proofs.Common.{◌≡◌, ◌∙◌, sym, refl, ap, subst, ℕ, ◌+◌, ◌-◌, ◌<◌, ◌≤◌, zero, suc, List, [], ◌∷◌, ◌++◌}
-use Rattle.std.proofs.Common.{length, map, flat_map, take, drop, Some, Bool, true, false, ◌&&◌, bytes_eq}
-use Rattle.std.proofs.Common.{arith, eq-eqb, slice_get}
-use Rattle.std.specs.List.{AllZip}
-use Rattle.std.specs.Option.{option_map}
-use Rattle.std.proofs.lemmas.List.{drop_at, length-append, length-drop, length-map, map-append, take_all}
-use Rattle.std.proofs.lemmas.Option.{same_Some, slice_get-map}
-use Rattle.std.proofs.lemmas.Slice.Eq.{bytes_eq-Decides}
-use Rattle.emit_image.specs.declared.section.ImagePiece.{ImagePiece}
-use Rattle.ldmodel_laws.specs.PlacedOnce.{Differ}
-use Rattle.ldmodel_laws.specs.Spread.{EachLater, entries_in}
-use Rattle.ldmodel.specs.Each.{Each}
-use Rattle.ldmodel.specs.Layout.{Layout, PlacedPiece, PlacedOutput}
-use Rattle.ldmodel.specs.PlacementView.{starts_of}
-use Rattle.ldmodel.specs.Project.{Project}
-use Rattle.ldmodel.specs.Rows.{Piece}
-use Rattle.ldmodel.specs.Sections.{is_same_part}
-use Rattle.ldmodel.specs.SymbolValues.{placed_part, placed_pieces}
-use Rattle.ldmodel.specs.declared.sections.Part.{Part}
-use Rattle.ldmodel.specs.declared.sections.Part.TheVariants.{InTable, InCommon}
-use Rattle.ldmodel.specs.declared.sections.SectionKey.{SectionKey}
+use Rattle.emit.proofs.Common.{AllZip, AreRowsAt, AreSources, Bool, Differ, Each, EachLater, ImagePiece, InCommon}
+use Rattle.emit.proofs.Common.{InTable, IsJoinedRow, IsRowAt, IsSized, KnownLink, Layout, List, Part, Piece}
+use Rattle.emit.proofs.Common.{PlacedOutput, PlacedPiece, Project, SectionRef, Some, [], ap, arith, bytes_eq}
+use Rattle.emit.proofs.Common.{bytes_eq-Decides, drop, drop_at, each_at, entries_in, eq-eqb, false, find_at, flat_map}
+use Rattle.emit.proofs.Common.{is_same_part, later_of_map, length, length-append, length-drop, length-map, map}
+use Rattle.emit.proofs.Common.{map-append, option_map, placed_part, placed_pieces, refl, same_Some, slice_get}
+use Rattle.emit.proofs.Common.{slice_get-map, starts_of, subst, suc, sym, take, take_all, true, zero, zip_more, ℕ, ◌&&◌}
+use Rattle.emit.proofs.Common.{◌++◌, ◌+◌, ◌-◌, ◌<◌, ◌∙◌, ◌∷◌, ◌≡◌, ◌≤◌}
 use Rattle.place.specs.declared.indexed_layout.IndexedLayout.{IndexedLayout}
 use Rattle.emit.specs.declared.relocated.Relocated.{Relocated}
-use Rattle.emit_relocate.specs.KnownLink.{KnownLink}
-use Rattle.place.proofs.Lists.{each_at, find_at}
-use Rattle.ldmodel_laws.proofs.EachOf.{zip_more}
 use Rattle.emit.proofs.Lists.{get_left, take_next}
 use Rattle.emit.proofs.Running.{drop_drop}
-use Rattle.emit.specs.Output.{IsJoinedRow}
-use Rattle.emit.specs.Pieces.{AreRowsAt, AreSources, IsRowAt, IsSized}
-use Rattle.ldmodel_laws.proofs.EachOf.{later_of_map}
 
 -- ---- each input section is found
 
@@ -81,7 +62,7 @@ all_found s rows placed differ =
 
 -- ---- row by row
 
-module _ (p : Project) (stays : SectionKey → Bool) (indexed_layout : IndexedLayout) (r : Relocated)
+module _ (p : Project) (stays : SectionRef → Bool) (indexed_layout : IndexedLayout) (r : Relocated)
     (rows : List (List Piece))
     (starts : List ℕ) where
   -- the rows before a number are drawn, and the others begin at the addresses that are left

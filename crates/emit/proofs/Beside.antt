@@ -1,17 +1,10 @@
 -- The fields of input sections that are not known to have stayed.
-use Rattle.std.proofs.Common.{◌≡◌, ℕ, List, [], ◌∷◌, ◌++◌, length, map, Option, None, Some, refl, ap, sym, ◌∙◌, subst}
-use Rattle.std.specs.Prelude.{false, flat_map, is_some, slice_get}
-use Rattle.std.specs.List.{AllZip}
-use Rattle.emit_fields.specs.declared.patch.Patch.{Patch}
-use Rattle.ldmodel.specs.Project.{NamedObject}
+use Rattle.emit.proofs.Common.{AllZip, AreRunsUnless, IsRunUnless, KnownLink, List, NamedObject, None, ObjectSection}
+use Rattle.emit.proofs.Common.{Option, Patch, SectionRef, Some, [], ap, ends_of, false, flat_map, is_some, key_in}
+use Rattle.emit.proofs.Common.{length, map, refl, sections_in, slice_get, subst, sym, ℕ, ◌++◌, ◌∙◌, ◌∷◌, ◌≡◌}
 use Rattle.ldmodel.specs.Stayed.{GoodLink}
-use Rattle.ldmodel.specs.declared.sections.SectionKey.{SectionKey}
-use Rattle.emit_relocate.specs.Changes.{AreChanged, Evaluated, IsEvaluatedAt, IsEvaluatedOf, Results}
-use Rattle.emit_relocate.specs.Changes.{section_key}
-use Rattle.emit_relocate.specs.Filled.{ObjectSection, ends_of, sections_in}
-use Rattle.emit_relocate.specs.KnownLink.{KnownLink}
+use Rattle.emit_relocate.specs.Changes.{AreChanged, Evaluated, IsEvaluatedAt, IsEvaluatedOf, Results, section_ref}
 use Rattle.emit_relocate.specs.declared.previous_link_info.FileRange.{FileRange}
-use Rattle.emit.specs.Runs.{AreRunsUnless, IsRunUnless, key_in}
 
 abbrev pub run_of : Evaluated → List Patch
 run_of c = c.run
@@ -20,7 +13,7 @@ flat_runs : (cs : List Evaluated) → flat_map run_of cs ≡ flat_map (λ run. r
 flat_runs [] = refl
 flat_runs (c ∷ cs) = ap (λ r. c.run ++ r) (flat_runs cs)
 
-module _ (old : GoodLink) (l : KnownLink) (range : SectionKey → Option FileRange) where
+module _ (old : GoodLink) (l : KnownLink) (range : SectionRef → Option FileRange) where
   gone : (r : Option FileRange) → is_some r ≡ false → r ≡ None
   gone None e = refl
   gone (Some r) e = cc
@@ -34,9 +27,9 @@ module _ (old : GoodLink) (l : KnownLink) (range : SectionKey → Option FileRan
         let here : slice_get l.project.objects h.key.0 ≡ Some s.object =
         ap (slice_get l.project.objects) (sym (by_place h.key.0)) ∙ h.named in
         let same : object.0 ≡ h.key.0 = one s.object object.0 h.key.0 named here in
-        let key : section_key h.key s ≡ key_in object s =
-        ap (λ n. section_key (record { 0 = n }) s) (sym same) in
-        (subst (λ r. IsEvaluatedAt old l (section_key h.key s) r s c)
+        let key : section_ref h.key s ≡ key_in object s =
+        ap (λ n. section_ref (record { 0 = n }) s) (sym same) in
+        (subst (λ r. IsEvaluatedAt old l (section_ref h.key s) r s c)
         (ap range key ∙ gone (range (key_in object s)) stays) h.outcome).run
 
     runs_unless : (ss : List ObjectSection) (cs : List Evaluated) → AllZip (IsEvaluatedOf old l range) ss cs

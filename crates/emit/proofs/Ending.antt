@@ -1,17 +1,10 @@
 -- Each input section of a layout ends at an address.
-use Rattle.std.proofs.Common.{◌+◌, ◌<◌, ◌^◌, List, [], ◌∷◌, sym, subst}
-use Rattle.std.specs.List.{All}
-use Rattle.std.proofs.lemmas.List.Elements.{All-nil, All-push}
-use Rattle.ldscript.specs.statements.Numbering.{OutputSectionAt, output_sections, regions}
-use Rattle.ldscript.specs.statements.declared.section.OutputSection.{OutputSection}
-use Rattle.ldscript.specs.statements.declared.statement.Region.{Region}
-use Rattle.ldscript.specs.statements.declared.statement.Statement.{Statement}
+use Rattle.emit.proofs.Common.{All, All-nil, All-push, Body, Layout, List, OutputSection, OutputSectionAt, PlacedOutput}
+use Rattle.emit.proofs.Common.{PlacedPiece, Region, Statement, [], nothing_placed, opened, output_sections}
+use Rattle.emit.proofs.Common.{placed_section, regions, subst, sym, ◌+◌, ◌<◌, ◌^◌, ◌∷◌}
 use Rattle.ldmodel_laws.specs.Traces.{BodyEffect, dot_noted, inputs_counted, symbol_given, dot_moved, entry_placed}
 use Rattle.ldmodel_laws.specs.Traces.{data_added, BodyEffects, no_effect, effect_then, AddsSection, Trace, all_added}
 use Rattle.ldmodel_laws.specs.Traces.{nothing_added, region_added, section_added}
-use Rattle.ldmodel.specs.Placement.{Body}
-use Rattle.ldmodel.specs.Layout.{Layout, PlacedPiece, PlacedOutput, nothing_placed}
-use Rattle.ldmodel.specs.Placement.{opened, placed_section}
 
 -- an input section ends at an address
 abbrev pub EndsBelow : PlacedPiece → Type 0

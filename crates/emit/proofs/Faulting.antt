@@ -1,18 +1,10 @@
 -- The faults of relocation.
-use Rattle.std.proofs.Common.{◌≡◌, List, ◌++◌, Option, Some, None, ap, ◌∙◌}
-use Rattle.std.specs.List.{filter_map}
-use Rattle.std.specs.Option.{option_map}
-use Rattle.std.specs.Prelude.{option_to_list}
-use Rattle.std.specs.Result.{result_err}
+use Rattle.emit.proofs.Common.{KnownLink, Layout, List, None, Option, Project, Some, ap, entry_fault, entry_point}
+use Rattle.emit.proofs.Common.{fault_of, faults_in, filter_map, nothing_placed, option_map, option_to_list}
+use Rattle.emit.proofs.Common.{relocation_faults, result_err, site_field, sites, ◌++◌, ◌∙◌, ◌≡◌}
 use Rattle.ldmodel.specs.Fault.{Fault}
-use Rattle.ldmodel.specs.FaultCode.{fault_of}
-use Rattle.ldmodel.specs.Layout.{Layout, nothing_placed}
-use Rattle.ldmodel.specs.Project.{Project}
-use Rattle.ldmodel.specs.Relocations.{entry_fault, relocation_faults, site_field, sites}
-use Rattle.ldmodel.specs.SymbolValues.{SymbolValue, entry_point}
+use Rattle.ldmodel.specs.SymbolValues.{SymbolValue}
 use Rattle.ldmodel.specs.declared.fault.Fault as code
-use Rattle.ldmodel_project.specs.ByPlace.{faults_in}
-use Rattle.emit_relocate.specs.KnownLink.{KnownLink}
 
 -- some fault of the entry symbol, or none, in front of others
 pub faults_in_front : (p : Project) (v : SymbolValue) (f : Option code.Fault) (fs : List code.Fault)

@@ -1,12 +1,7 @@
 -- Links without faults.
-use Rattle.std.proofs.Common.{◌≡◌, ◌∙◌, ◌≤◌, ℕ, Bool, true, false, cond, List, arith, refl}
-use Rattle.std.specs.Prelude.{Result, Ok, Err, nat_lt}
-use Rattle.std.proofs.lemmas.Bool.{ltb-true}
+use Rattle.emit.proofs.Common.{Bool, Err, Layout, List, Ok, Project, Result, arith, cond, false, image_length, layout}
+use Rattle.emit.proofs.Common.{ltb-true, max_image_length, nat_lt, of_length, refl, true, ℕ, ◌∙◌, ◌≡◌, ◌≤◌}
 use Rattle.ldmodel.specs.Fault.{Fault}
-use Rattle.ldmodel.specs.Layout.{Layout}
-use Rattle.ldmodel.specs.Link.{layout, max_image_length, of_length}
-use Rattle.ldmodel.specs.Project.{Project}
-use Rattle.ldmodel.specs.SectionHeaders.{image_length}
 
 not_longer : (b : Bool) (m n : ℕ) (faults : List Fault) (s : Layout) → nat_lt m n ≡ b → n ≤ m
     → (let r : Result Layout (List Fault) = cond b (Err faults) (Ok s) in r) ≡ Ok s

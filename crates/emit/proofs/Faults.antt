@@ -1,24 +1,11 @@
 -- The faults of relocation of a project of which one object differs from that of another project.
-use Rattle.std.proofs.Common.{◌≡◌, ◌==◌, ℕ, Bool, true, false, [], ◌++◌, flat_map, Option, Some, None, refl, sym, ap}
-use Rattle.std.proofs.Common.{◌∙◌}
-use Rattle.std.specs.Prelude.{slice_get}
-use Rattle.std.specs.List.{Contains, filter_map}
-use Rattle.std.specs.Option.{option_map_or}
-use Rattle.std.specs.Result.{result_err}
-use Rattle.std.proofs.lemmas.Bool.{eq-eqb, eqb-true, false≢true}
-use Rattle.std.proofs.lemmas.Option.{same_Some}
-use Rattle.elfobj.specs.Sections.{LinkedSection}
+use Rattle.emit.proofs.Common.{Bool, Contains, DiffersInContents, HasSameFrame, InTable, Layout, LinkedSection}
+use Rattle.emit.proofs.Common.{NamedObject, None, Option, PlacedPiece, Project, Site, Some, [], ap, entry_fault}
+use Rattle.emit.proofs.Common.{entry_point, eq-eqb, eqb-true, false, false≢true, filter_map, flat_map, in_flat_map}
+use Rattle.emit.proofs.Common.{none_in_nil, option_map_or, placed_part, refl, relocation_faults, result_err, same_Some}
+use Rattle.emit.proofs.Common.{site_field, sites, sites_at, sites_of, sites_of_section, slice_get, sym, true, ℕ, ◌++◌}
+use Rattle.emit.proofs.Common.{◌==◌, ◌∙◌, ◌≡◌}
 use Rattle.ldmodel.specs.Fault.{Fault}
-use Rattle.ldmodel.specs.Layout.{Layout, PlacedPiece}
-use Rattle.ldmodel.specs.Project.{NamedObject, Project}
-use Rattle.ldmodel.specs.Relocations.{Site, entry_fault, relocation_faults, site_field, sites, sites_at}
-use Rattle.ldmodel.specs.Relocations.{sites_of_section}
-use Rattle.ldmodel.specs.SymbolValues.{entry_point, placed_part}
-use Rattle.ldmodel.specs.declared.sections.Part.TheVariants.{InTable}
-use Rattle.ldmodel_laws.specs.Outline.{HasSameFrame, DiffersInContents}
-use Rattle.ldmodel_laws.proofs.Finding.{in_flat_map}
-use Rattle.ldmodel_laws.proofs.Members.{none_in_nil}
-use Rattle.emit.specs.LocatedSections.{sites_of}
 use Rattle.emit.proofs.Others.{field_same, object_of_site}
 use Rattle.emit.proofs.Places.{both_nil, none_at, none_of_all, none_of_each, same_results}
 

@@ -1,13 +1,8 @@
 -- A layout has the fills of the output sections of its script, in the order of the text.
-use Rattle.std.proofs.Common.{◌≡◌, ◌∙◌, sym, ap, ℕ, List, [], ◌∷◌, ◌++◌, map, append_assoc, Option}
-use Rattle.std.proofs.lemmas.List.{append-nil, map-append}
-use Rattle.ldscript.specs.statements.Numbering.{OutputSectionAt, output_sections, regions}
-use Rattle.ldscript.specs.statements.declared.section.OutputSection.{OutputSection}
-use Rattle.ldscript.specs.statements.declared.statement.Region.{Region}
-use Rattle.ldscript.specs.statements.declared.statement.Statement.{Statement}
+use Rattle.emit.proofs.Common.{Layout, List, Option, OutputSection, OutputSectionAt, PlacedOutput, Region, Statement}
+use Rattle.emit.proofs.Common.{[], ap, append-nil, append_assoc, map, map-append, nothing_placed, output_sections}
+use Rattle.emit.proofs.Common.{placed_section, regions, sym, ℕ, ◌++◌, ◌∙◌, ◌∷◌, ◌≡◌}
 use Rattle.ldmodel_laws.specs.Traces.{AddsSection, Trace, all_added, nothing_added, region_added, section_added}
-use Rattle.ldmodel.specs.Layout.{Layout, PlacedOutput, nothing_placed}
-use Rattle.ldmodel.specs.Placement.{placed_section}
 
 -- the fills of the output sections so far
 abbrev fills : Layout → List (Option (List ℕ))

@@ -1,28 +1,17 @@
 -- The bytes of an image outside of the input sections of an object turn on what the objects hold besides.
-use Rattle.std.proofs.Common.{◌≡◌, ◌+◌, ◌-◌, ◌<◌, ◌≤◌, ◌==◌, inl, inr, ℕ, nat_lt, Bool, true, false, cond, not}
-use Rattle.std.proofs.Common.{◌&&◌, List, length, find, slice_index, Option, Some, None, refl, sym, ap, ◌∙◌}
-use Rattle.std.proofs.Common.{subst, arith, bytes_eq}
-use Rattle.std.specs.Prelude.{slice_get}
-use Rattle.std.specs.List.{Contains}
-use Rattle.std.proofs.lemmas.Bool.{eqb-true, and_parts}
-use Rattle.std.proofs.lemmas.Slice.Eq.{bytes_eq-Decides}
-use Rattle.ldmodel.specs.Each.{Each}
-use Rattle.ldmodel.specs.Image.{byte_at, covering_data, covering_piece, covers, file_headers, file_section_at, tail_at}
-use Rattle.ldmodel.specs.Layout.{Layout, PlacedData, PlacedPiece, PlacedOutput}
-use Rattle.ldmodel.specs.Project.{NamedObject, Project}
-use Rattle.ldmodel.specs.SectionHeaders.{FilePart}
-use Rattle.ldmodel.specs.Segments.{SectionInFile, Segment, file_offset, in_file, segments}
+use Rattle.emit.proofs.Common.{AreNamed, Bool, Contains, DiffersInContents, Each, FilePart, HasSameFrame, IsOutside}
+use Rattle.emit.proofs.Common.{IsSpread, Layout, List, NamedObject, None, Option, PlacedOutput, PlacedPiece, Project}
+use Rattle.emit.proofs.Common.{SectionInFile, Segment, Some, and_parts, ap, arith, byte_at, bytes_eq, bytes_eq-Decides}
+use Rattle.emit.proofs.Common.{cond, covers, eqb-true, false, file_headers, file_offset, find, in_file, in_filter, inl}
+use Rattle.emit.proofs.Common.{inr, length, linked, map_in, member_of, nat_lt, not, piece_end, refl, segments}
+use Rattle.emit.proofs.Common.{slice_get, slice_index, subst, sym, true, ℕ, ◌&&◌, ◌+◌, ◌-◌, ◌<◌, ◌==◌, ◌∙◌, ◌≡◌, ◌≤◌}
+use Rattle.ldmodel.specs.Image.{covering_data, covering_piece, file_section_at, tail_at}
+use Rattle.ldmodel.specs.Layout.{PlacedData}
 use Rattle.ldmodel.specs.Stayed.{FileRange, GoodLink, LinkedPiece, linked_piece, linked_pieces, range_in}
 use Rattle.ldmodel_laws.specs.ByteCases.{byte_among, byte_past_headers, piece_byte}
-use Rattle.ldmodel_laws.specs.ImageBytes.{AreNamed}
-use Rattle.ldmodel_laws.specs.Outline.{HasSameFrame, DiffersInContents}
-use Rattle.ldmodel_laws.specs.Spread.{IsSpread, piece_end}
 use Rattle.ldmodel_laws.proofs.ByteCases.{by_cases}
-use Rattle.ldmodel_laws.proofs.Finding.{map_in, member_of}
-use Rattle.ldmodel_laws.proofs.InImage.{linked, offset_by_name}
-use Rattle.ldmodel_laws.proofs.Members.{in_filter}
+use Rattle.ldmodel_laws.proofs.InImage.{offset_by_name}
 use Rattle.ldmodel_laws.proofs.PieceBytes.{all_sections, covered}
-use Rattle.emit.specs.InPlaceRewrites.{IsOutside}
 use Rattle.emit.proofs.Others.{part_same}
 use Rattle.emit.proofs.Places.{Found, found}
 

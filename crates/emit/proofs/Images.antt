@@ -1,55 +1,27 @@
 -- The image of a link, where the sections of one object were written over the image of another link.
-use Rattle.std.proofs.Common.{◌≡◌, ◌+◌, ◌-◌, ◌<◌, ◌≤◌, ◌==◌, ◌⊎◌, inl, inr, ⊎_elim, ℕ, nat_le, nat_lt, Bool}
-use Rattle.std.proofs.Common.{true, false, cond, not, ◌&&◌, List, [], ◌∷◌, length, map, find, filter, slice_index}
-use Rattle.std.proofs.Common.{Option, Some, None, refl, sym, ap, ◌∙◌, subst, arith, bytes_eq}
-use Rattle.std.specs.Prelude.{slice_get}
-use Rattle.std.specs.List.{All, AllZip, Contains, filter_map}
-use Rattle.std.specs.Option.{option_map, option_map_or}
-use Rattle.std.proofs.lemmas.Bool.{cases_lt, eq-eqb, eqb-true, false≢true, le-leb, lt-ltb}
-use Rattle.std.proofs.lemmas.Bool.{and_parts, and_from}
+use Rattle.emit.proofs.Common.{All, All-contains, AllZip, AreNamed, AreWritten, Bool, ComesOf, Contains, Each}
+use Rattle.emit.proofs.Common.{EachLater, HasLocatedSections, InCommon, InTable, IsAsBefore, IsBare, IsInPlaceRewrite}
+use Rattle.emit.proofs.Common.{IsLocatedSection, IsNothing, IsPlannedAt, IsSpread, IsWhole, KnownLink, Layout}
+use Rattle.emit.proofs.Common.{LinkedSection, List, LocatedSection, NamedObject, Nobits, None, NotBoth, ObjectOutline}
+use Rattle.emit.proofs.Common.{ObjectPlace, Option, Part, PlacedOutput, PlacedPiece, Project, Relocation, SectionIndex}
+use Rattle.emit.proofs.Common.{Segment, Site, Some, Written, [], and_parts, ap, arith, at_place, byte_at, bytes_eq}
+use Rattle.emit.proofs.Common.{bytes_eq-Decides, cases_lt, cond, covers, eq-eqb, eqb-true, false, false≢true, fault_at}
+use Rattle.emit.proofs.Common.{fields_of, file_offset, filter, filter_map, find, find_mapped, find_only, first_or_later}
+use Rattle.emit.proofs.Common.{flat_map_in, image, image_length, in_flat_map, in_map, inl, inr, is_evaluated, is_part}
+use Rattle.emit.proofs.Common.{is_same_part, later_imply, later_of_map, length, linked, map, nat_le, nat_lt, none_in}
+use Rattle.emit.proofs.Common.{none_in_nil, not, object_byte, object_named, object_outline, offset_in_file, option_map}
+use Rattle.emit.proofs.Common.{option_map_or, part_byte, patch_of, patched_byte, placed_part, placed_pieces, range_of}
+use Rattle.emit.proofs.Common.{refl, same_Some, section_byte, section_numbered, segments, site_field, sites_at}
+use Rattle.emit.proofs.Common.{sites_of, sites_there, slice_get, slice_get-map, slice_index, subst, sym, true, ℕ}
+use Rattle.emit.proofs.Common.{⊎_elim, ◌&&◌, ◌+◌, ◌-◌, ◌<◌, ◌==◌, ◌∙◌, ◌∷◌, ◌≡◌, ◌≤◌, ◌⊎◌}
+use Rattle.std.proofs.lemmas.Bool.{le-leb, lt-ltb, and_from}
 use Rattle.std.proofs.lemmas.List.FromFn.{fill_by_all, get_or-map-range_with_len, length-map-range_with_len}
-use Rattle.std.proofs.lemmas.List.Elements.{All-contains}
-use Rattle.std.proofs.lemmas.Option.{same_Some, slice_get-map}
-use Rattle.std.proofs.lemmas.Slice.Eq.{bytes_eq-Decides}
-use Rattle.elfobj.specs.Sections.{LinkedSection}
-use Rattle.elfobj.specs.declared.relocation.Relocation.{Relocation}
-use Rattle.elfobj.specs.declared.section.SectionIndex.{SectionIndex}
-use Rattle.elfobj.specs.declared.section.SectionKind.TheVariants.{Nobits}
-use Rattle.emit_fields.specs.Patches.{patched_byte}
-use Rattle.ldmodel.specs.Each.{Each}
-use Rattle.ldmodel.specs.Image.{byte_at, covers, image, object_named, section_numbered}
-use Rattle.ldmodel.specs.Layout.{Layout, PlacedPiece, PlacedOutput}
-use Rattle.ldmodel.specs.Project.{NamedObject, Project}
-use Rattle.ldmodel.specs.Relocations.{Site, fields_of, is_evaluated, patch_of, site_field, sites_at}
-use Rattle.ldmodel.specs.Sections.{is_same_part}
-use Rattle.ldmodel.specs.SectionHeaders.{image_length}
-use Rattle.ldmodel.specs.Segments.{Segment, file_offset, segments}
 use Rattle.ldmodel.specs.Stayed as model
 use Rattle.ldmodel.specs.Stayed.{GoodLink, LinkedPiece, linked_piece, linked_pieces, range_in}
-use Rattle.ldmodel.specs.SymbolValues.{is_part, placed_part, placed_pieces}
-use Rattle.ldmodel.specs.declared.names.ObjectPlace.{ObjectPlace}
-use Rattle.ldmodel.specs.declared.sections.Part.{Part}
-use Rattle.ldmodel.specs.declared.sections.Part.TheVariants.{InTable, InCommon}
-use Rattle.ldmodel_laws.specs.ByteCases.{object_byte, part_byte, section_byte}
-use Rattle.ldmodel_laws.specs.ImageBytes.{AreNamed, offset_in_file}
-use Rattle.ldmodel_laws.specs.Outline.{ObjectOutline, SectionOutline, object_outline}
-use Rattle.ldmodel_laws.specs.Outline.{section_outline}
-use Rattle.ldmodel_laws.specs.Spread.{EachLater, IsSpread}
-use Rattle.ldmodel_laws.proofs.Finding.{NotBoth, find_only, flat_map_in, in_flat_map, in_map, find_mapped, none_in}
-use Rattle.ldmodel_laws.proofs.Members.{first_or_later, none_in_nil, at_place}
-use Rattle.ldmodel_laws.proofs.InImage.{linked}
+use Rattle.ldmodel_laws.specs.Outline.{SectionOutline, section_outline}
 use Rattle.ldmodel_laws.proofs.Once.{later_map, names_later}
 use Rattle.ldmodel_laws.proofs.PieceBytes.{byte_of_piece, one_name, same_name, covered}
-use Rattle.ldmodel_laws.proofs.EachOf.{later_of_map, later_imply}
-use Rattle.emit_relocate.specs.PreviousLinkInfo.{range_of}
-use Rattle.emit_relocate.specs.Fields.{fault_at}
-use Rattle.emit_relocate.specs.KnownLink.{KnownLink}
 use Rattle.emit_relocate.proofs.Lists.{partner_in, partner_of}
-use Rattle.emit.specs.Plan.{AreWritten, ComesOf, IsAsBefore, IsNothing, IsPlannedAt, IsWhole, Written}
-use Rattle.emit.specs.Plan.{sites_there}
-use Rattle.emit.specs.InPlaceRewrites.{IsBare, IsInPlaceRewrite}
-use Rattle.emit.specs.LocatedSections.{HasLocatedSections, IsLocatedSection, sites_of}
-use Rattle.emit.specs.declared.located_section.LocatedSection.{LocatedSection}
 use Rattle.emit.proofs.Frame.{byte_same}
 use Rattle.emit.proofs.Places.{Found, found}
 use Rattle.emit.proofs.Planning.{sites_at_spot}

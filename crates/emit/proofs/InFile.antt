@@ -1,25 +1,13 @@
 -- An output section of a layout with an input section that brings bytes has bytes in the file.
-use Rattle.std.proofs.Common.{◌≡◌, ◌∙◌, ◌+◌, ◌<◌, ◌≤◌, Bool, true, false, not, ◌&&◌, List, [], ◌∷◌, length}
-use Rattle.std.proofs.Common.{◌-◌, ap, arith, cond, refl, subst, sym, ◌==◌}
-use Rattle.std.specs.Prelude.{◌||◌}
-use Rattle.std.specs.List.{All, Contains, list_any}
-use Rattle.std.proofs.lemmas.Bool.{ne_eqb}
-use Rattle.std.proofs.lemmas.List.Elements.{All-nil, All-push}
-use Rattle.elfobj.specs.declared.section.SectionKind.{SectionKind}
+use Rattle.emit.proofs.Common.{All, All-nil, All-push, Bool, Contains, IsSpread, Layout, List, OutputSection}
+use Rattle.emit.proofs.Common.{OutputSectionAt, PlacedOutput, PlacedPiece, Project, Region, SectionKind, Statement, []}
+use Rattle.emit.proofs.Common.{any_in, ap, arith, cond, false, file_offset, is_in_file, is_nobits, length, list_any}
+use Rattle.emit.proofs.Common.{member_of, ne_eqb, not, nothing_placed, output_sections, piece_end, placed_section, refl}
+use Rattle.emit.proofs.Common.{regions, segments, subst, sym, true, ◌&&◌, ◌+◌, ◌-◌, ◌<◌, ◌==◌, ◌||◌, ◌∙◌, ◌∷◌, ◌≡◌, ◌≤◌}
 use Rattle.elfobj.specs.declared.section.SectionKind.TheVariants as kinds
-use Rattle.ldscript.specs.statements.Numbering.{OutputSectionAt, output_sections, regions}
-use Rattle.ldscript.specs.statements.declared.section.OutputSection.{OutputSection}
-use Rattle.ldscript.specs.statements.declared.statement.Region.{Region}
-use Rattle.ldscript.specs.statements.declared.statement.Statement.{Statement}
-use Rattle.ldmodel_laws.proofs.Finding.{member_of}
-use Rattle.ldmodel_laws.proofs.Members.{any_in}
-use Rattle.ldmodel_laws.specs.Spread.{IsSpread, piece_end}
 use Rattle.ldmodel_laws.specs.Traces.{AddsSection, Trace, all_added, nothing_added, region_added, section_added}
-use Rattle.ldmodel.specs.Layout.{Layout, PlacedPiece, PlacedOutput, nothing_placed}
-use Rattle.ldmodel.specs.Placement.{is_in_file, is_nobits, placed_section}
-use Rattle.ldmodel.specs.Project.{Project}
-use Rattle.ldmodel.specs.Segments.{file_offset, segments}
-use Rattle.ldmodel.specs.Stayed.{FileRange as FileBytes, linked_piece}
+use Rattle.ldmodel.specs.Stayed.{linked_piece}
+use Rattle.ldmodel.specs.Stayed.{FileRange as FileBytes}
 
 -- an output section has bytes in the file by what stands in it
 abbrev pub IsByContents : PlacedOutput → Type 0

@@ -1,38 +1,19 @@
 -- Output sections of the members of lists.
-use Rattle.std.proofs.Common.{◌≡◌, ◌∙◌, sym, refl, ap, subst, ℕ, ◌+◌, ◌<◌, ◌≤◌, List, [], ◌∷◌, ◌++◌, length, map, take}
-use Rattle.std.proofs.Common.{filter, Bool, true, false, cond, not, ◌==◌, Some, arith, get_or, slice_get}
-use Rattle.std.proofs.Common.{append-nil}
-use Rattle.std.specs.List.{AllZip}
-use Rattle.std.specs.Option.{option_map}
-use Rattle.std.proofs.lemmas.Bool.{eqb-true, false_from_ne_true}
-use Rattle.std.proofs.lemmas.List.{length-map, map-append, take_all}
-use Rattle.std.proofs.lemmas.List.Elements.{All-push, filter-append}
-use Rattle.std.proofs.lemmas.Option.{same_Some, slice_get-map}
-use Rattle.std.proofs.lemmas.Slice.Zip.{AllZip-long}
+use Rattle.emit.proofs.Common.{All-push, AllZip, AllZip-long, AreDataOf, AreDrawnOf, AreNamed, AreStayedByKey, Bool}
+use Rattle.emit.proofs.Common.{ImagePiece, ImageSection, IsImageSection, IsJoinedRow, IsJoinedSection, IsOutput, Layout}
+use Rattle.emit.proofs.Common.{List, OutputDrawing, OutputSectionAt, Placed, PlacedOutput, Project, SectionInFile}
+use Rattle.emit.proofs.Common.{SectionRef, Some, [], ap, append-nil, arith, cond, eqb-true, false, false_from_ne_true}
+use Rattle.emit.proofs.Common.{filter, filter-append, get_or, length, length-map, map, map-append, nonempty, not}
+use Rattle.emit.proofs.Common.{option_map, placed_of, refl, same_Some, segments, slice_get, slice_get-map, subst, sym}
+use Rattle.emit.proofs.Common.{take, take_all, true, zip_more, ℕ, ◌++◌, ◌+◌, ◌<◌, ◌==◌, ◌∙◌, ◌∷◌, ◌≡◌, ◌≤◌}
 use Rattle.emit_image.specs.InMemory.{IsSectionFilled}
-use Rattle.emit_image.specs.Joined.{IsJoinedSection}
-use Rattle.emit_image.specs.OfLink.{IsImageSection}
-use Rattle.emit_image.specs.declared.section.ImagePiece.{ImagePiece}
-use Rattle.emit_image.specs.declared.section.ImageSection.{ImageSection}
-use Rattle.ldmodel_laws.specs.ImageBytes.{AreNamed}
 use Rattle.place.proofs.Walking.{in_file_are}
 use Rattle.place.specs.Offsets.{IsOffset}
 use Rattle.ldmodel_laws.specs.FileLayout.{IsFileLayout}
-use Rattle.ldmodel.specs.Layout.{Layout, PlacedOutput}
-use Rattle.ldmodel.specs.PlacementView.{placed_of}
-use Rattle.ldmodel.specs.Project.{Project}
-use Rattle.ldmodel.specs.Segments.{SectionInFile, nonempty, segments}
-use Rattle.ldmodel.specs.declared.placed.Placed.{Placed}
 use Rattle.ldmodel.specs.declared.placed.PlacedData.{PlacedData}
-use Rattle.ldmodel.specs.declared.sections.SectionKey.{SectionKey}
-use Rattle.ldscript.specs.statements.Numbering.{OutputSectionAt}
-use Rattle.ldmodel_laws.proofs.EachOf.{zip_more}
 use Rattle.emit.proofs.Lists.{at_zip, next_zip}
-use Rattle.emit.specs.DataRuns.{AreDataOf}
 use Rattle.emit.specs.Joined.{AreJoined, IsAt}
-use Rattle.emit.specs.Output.{AreDrawn, AreDrawnOf, IsDrawn, IsOutput, IsJoinedRow, AreStayedByKey}
-use Rattle.emit.specs.Output.{in_file_at, with_bytes}
-use Rattle.emit.specs.declared.output.OutputDrawing.{OutputDrawing}
+use Rattle.emit.specs.Output.{AreDrawn, IsDrawn, in_file_at, with_bytes}
 
 zip_map : {X Y : Type 0} (f : X → Y) (xs : List X) → AllZip (λ x y. y ≡ f x) xs (map f xs)
 zip_map f [] = tt
@@ -46,7 +27,7 @@ same_at f g xs ys k x y e at_x at_y =
     let right : slice_get (map g ys) k ≡ Some (g y) = slice_get-map g ys k ∙ ap (option_map g) at_y in
     same_Some _ _ (sym right ∙ ap (λ l. slice_get l k) (sym e) ∙ left)
 
-module _ (p : Project) (s : Layout) (stays : SectionKey → Bool) (places : List Placed) (os : List OutputSectionAt)
+module _ (p : Project) (s : Layout) (stays : SectionRef → Bool) (places : List Placed) (os : List OutputSectionAt)
     (offsets : List ℕ) (rows : List (List ImagePiece)) (runs : List (List PlacedData)) where
   -- the output section of a number
   pub record Joint (k : ℕ) (place : Placed) : Type 0 where
@@ -143,7 +124,7 @@ with_one s q = go (q.size == 0)
     go true = refl
     go false = refl
 
-pub drawn_same : (p : Project) (s : Layout) (stays : SectionKey → Bool) (qs : List PlacedOutput) (q : PlacedOutput)
+pub drawn_same : (p : Project) (s : Layout) (stays : SectionRef → Bool) (qs : List PlacedOutput) (q : PlacedOutput)
     (ys : List ImageSection) (b c : Bool) → (q.size == 0) ≡ b → q.has_file_bytes ≡ c → one_of s q b c ≡ []
     → AreDrawnOf p s stays qs ys → AreDrawnOf p s stays (qs ++ q ∷ []) ys
 drawn_same p s stays qs q ys b c e f none h =
@@ -158,7 +139,7 @@ drawn_same p s stays qs q ys b c e f none h =
       joined = h.joined;
     }
 
-pub drawn_more : (p : Project) (s : Layout) (stays : SectionKey → Bool) (qs : List PlacedOutput) (q : PlacedOutput)
+pub drawn_more : (p : Project) (s : Layout) (stays : SectionRef → Bool) (qs : List PlacedOutput) (q : PlacedOutput)
     (old new : List ImageSection) (y : ImageSection) → (q.size == 0) ≡ false → q.has_file_bytes ≡ true
     → IsDrawn p s stays q y → new ≡ old ++ y ∷ []
     → AreDrawnOf p s stays qs old → AreDrawnOf p s stays (qs ++ q ∷ []) new
@@ -177,7 +158,7 @@ drawn_more p s stays qs q old new y e f is pushed h =
     })
 
 -- all are drawn
-pub drawn_all : (p : Project) (s : Layout) (stays : SectionKey → Bool) (ys : List ImageSection) → AreNamed s.sections
+pub drawn_all : (p : Project) (s : Layout) (stays : SectionRef → Bool) (ys : List ImageSection) → AreNamed s.sections
     → IsFileLayout s.sections (segments s.sections) → AreDrawnOf p s stays s.sections ys → AreDrawn p s stays ys
 drawn_all p s stays ys named file h =
     let same = in_file_are s.sections (segments s.sections) named file.grouping.parts in

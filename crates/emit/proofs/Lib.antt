@@ -1,4 +1,5 @@
 -- Lemmas of the crate.
+pub mod Common
 mod RelocatedLists
 mod Ending
 mod InFile

@@ -1,12 +1,8 @@
 -- Lists: what is known of each member, pair by pair and place by place.
-use Rattle.std.proofs.Common.{◌≡◌, ◌∙◌, sym, refl, ap, subst, ℕ, ◌<◌, zero, suc, List, [], ◌∷◌, ◌++◌, length, map}
-use Rattle.std.proofs.Common.{◌+◌, ◌≤◌, take, Some, arith, get_or, slice_get}
-use Rattle.std.specs.List.{All, AllZip, Contains}
-use Rattle.std.specs.Option.{option_map}
-use Rattle.std.proofs.lemmas.List.{take_all}
-use Rattle.std.proofs.lemmas.Option.{same_Some, slice_get-map, slice_get_read}
-use Rattle.std.proofs.lemmas.Slice.Zip.{AllZip-long}
-use Rattle.ldmodel_laws.proofs.EachOf.{zip_more}
+use Rattle.emit.proofs.Common.{All, AllZip, AllZip-long, Contains, List, Some, [], ap, arith, get_or, length, map}
+use Rattle.emit.proofs.Common.{option_map, refl, same_Some, slice_get, slice_get-map, subst, suc, sym, take, take_all}
+use Rattle.emit.proofs.Common.{zero, zip_more, ℕ, ◌++◌, ◌+◌, ◌<◌, ◌∙◌, ◌∷◌, ◌≡◌, ◌≤◌}
+use Rattle.std.proofs.lemmas.Option.{slice_get_read}
 
 -- what follows for each pair, of whose first members all are in the list
 pub zip_each : {A B : Type 0} (R S : A → B → Type 0) (xs : List A) (ys : List B)

@@ -1,38 +1,24 @@
 -- The map that is made of the values of a link.
-use Rattle.std.proofs.Common.{◌≡◌, ◌∙◌, ℕ, ◌<◌, zero, suc, Bool, true, false, cond, List, [], ◌∷◌, length, map}
-use Rattle.std.proofs.Common.{inl, inr, filter, get_or, ap, sym, subst, refl, arith, Global, Vec}
-use Rattle.std.specs.Prelude.{Contains, Result, Ok, Err, IfOk}
-use Rattle.std.specs.List.{All, AllPairs}
+use Rattle.emit.proofs.Common.{All, AllPairs, AreValues, Bool, Contains, Each, Err, Global, HasFacts, IfOk}
+use Rattle.emit.proofs.Common.{IsPlacementView, Layout, List, Ok, Project, Result, SymbolTableState, Values, Vec, []}
+use Rattle.emit.proofs.Common.{all_of_each, ap, arith, cond, each_of_all, entries_in, false, filter, get_or, inl, inr}
+use Rattle.emit.proofs.Common.{length, map, number_or_0, output_sections, refl, rows, rows_in, shown_sections}
+use Rattle.emit.proofs.Common.{shown_symbol, subst, suc, sym, true, value_in, value_of, zero, ℕ, ◌<◌, ◌∙◌, ◌∷◌, ◌≡◌}
 use Rattle.std.specs.Ordering.{is_lt}
-use Rattle.ldscript.specs.Numbered.{shown_sections}
-use Rattle.ldscript.specs.Numbering.{output_sections}
-use Rattle.ldmodel.specs.Each.{Each}
-use Rattle.ldmodel.specs.Layout.{Layout}
-use Rattle.ldmodel.specs.PlacementView.{IsPlacementView}
 use Rattle.ldmodel.specs.MapText.{map_text}
 use Rattle.ldmodel.specs.Names.{declared_names, decision}
 use Rattle.ldmodel.specs.OutputSymbols as model
 use Rattle.ldmodel.specs.OutputSymbols.{in_byte_order, is_before, is_defined, output_symbol, output_symbols}
-use Rattle.ldmodel.specs.Project.{Project}
-use Rattle.ldmodel.specs.Rows.{rows}
-use Rattle.ldmodel.specs.SymbolValues.{SymbolValue, number_or_0}
-use Rattle.ldmodel_laws.specs.Spread.{entries_in}
-use Rattle.ldmodel_laws.proofs.EachOf.{all_of_each, each_of_all}
+use Rattle.ldmodel.specs.SymbolValues.{SymbolValue}
 use Rattle.place.specs.LinkLayout.{IsLinkLayout}
 use Rattle.place.specs.declared.link_layout.LinkLayout.{LinkLayout}
-use Rattle.symres.specs.SymbolTable.{SymbolTableState}
-use Rattle.place.specs.sections.Meetings.{AreOutputs}
-use Rattle.ldmodel_project.specs.ByPlace.{rows_in}
-use Rattle.emit_relocate.specs.Values.{value_of}
+use Rattle.place.specs.sections.OverlapFaults.{AreOutputs}
 use Rattle.emit_relocate.specs.declared.value.SymbolValue as code
 use Rattle.emit_relocate.specs.declared.value.SymbolValue.TheVariants as value
 use Rattle.emit_text.specs.MapOf.{AreSymbolsOf, IsMapOf, IsSymbolOf, IsValue, symbol_names}
 use Rattle.emit_text.specs.declared.maps.MapParts.{MapParts}
 use Rattle.emit_text.specs.declared.symbols.MapSymbol.{MapSymbol}
-use Rattle.emit_relocate.specs.SymbolRows.{value_in}
-use Rattle.emit_relocate.specs.LinkValues.{AreValues, HasFacts, shown_symbol}
 use Rattle.emit_relocate.specs.declared.values.OutputSymbol.{OutputSymbol}
-use Rattle.emit_relocate.specs.declared.values.Values.{Values}
 use Rattle.emit.specs.Listed.{map_symbol, number_of}
 use Rattle.emit_text.proofs.ByteOrder.{Asc, Below, In, Lt, Name, contained_in, distinct_once, filtered_asc, filtered_in}
 use Rattle.emit_text.proofs.ByteOrder.{in_contained, in_sorted, sorted_asc, sorted_in}

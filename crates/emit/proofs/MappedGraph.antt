@@ -1,9 +1,7 @@
 -- What is reached in a graph, mapped, is what is reached in the mapped graph, where starts and steps turn on what the
 -- map keeps of a node.
-use Rattle.std.proofs.Common.{◌≡◌, ◌∙◌, ℕ, zero, suc, Bool, true, false, cond, ◌||◌, List, [], ◌∷◌, length, map}
-use Rattle.std.proofs.Common.{filter, ap, refl, sym}
-use Rattle.std.specs.List.{list_any}
-use Rattle.std.proofs.lemmas.List.{length-map}
+use Rattle.emit.proofs.Common.{Bool, List, [], ap, cond, false, filter, length, length-map, list_any, map, refl, suc}
+use Rattle.emit.proofs.Common.{sym, true, zero, ℕ, ◌||◌, ◌∙◌, ◌∷◌, ◌≡◌}
 use Rattle.ldmodel.specs.Reach.{reached, reached_in}
 
 module _ {X Y : Type 0} (f : X → Y) where

@@ -1,28 +1,12 @@
 -- Numbers of the sections of objects.
-use Rattle.std.proofs.Common.{◌≡◌, ◌∙◌, sym, refl, ap, subst, ℕ, ◌+◌, ◌-◌, ◌<◌, ◌≤◌, zero, suc, List, [], ◌∷◌, ◌++◌}
-use Rattle.std.proofs.Common.{length}
-use Rattle.std.proofs.Common.{map, flat_map, take, drop, Bool, Some, false, ◌==◌, arith, get_or, slice_get}
-use Rattle.std.specs.List.{AllPairs, AllZip}
-use Rattle.std.proofs.lemmas.Bool.{eqb-true, false_from_ne_true}
-use Rattle.std.specs.Option.{option_map}
-use Rattle.std.proofs.lemmas.List.Sums.{sum_by-cons}
-use Rattle.std.proofs.lemmas.List.{length-append, length-map}
-use Rattle.std.proofs.lemmas.Option.{same_Some, slice_get-map}
-use Rattle.elfobj.specs.Object.{ObjectData}
-use Rattle.elfobj.specs.Sections.{LinkedSection, section_of}
-use Rattle.elfobj.specs.declared.section.Section.{Section}
-use Rattle.emit_fields.specs.declared.patch.Patch.{Patch}
-use Rattle.ldmodel_laws.specs.Spread.{EachLater}
-use Rattle.ldmodel.specs.Project.{NamedObject}
-use Rattle.ldmodel.specs.declared.sections.SectionKey.{SectionKey}
-use Rattle.emit_relocate.specs.Filled.{ObjectSection, ends_of, sections_in, sections_of}
-use Rattle.emit_relocate.specs.KnownLink.{KnownLink}
-use Rattle.emit.specs.Numbers.{HaveNumbers}
-use Rattle.emit.specs.Runs.{AreRunsUnless, IsRunUnless}
+use Rattle.emit.proofs.Common.{AllPairs, AllZip, AreRunsUnless, Bool, EachLater, HaveNumbers, IsRunUnless, KnownLink}
+use Rattle.emit.proofs.Common.{LinkedSection, List, NamedObject, ObjectData, ObjectSection, Patch, Section, SectionRef}
+use Rattle.emit.proofs.Common.{Some, [], ap, arith, drop, ends_of, eqb-true, false, false_from_ne_true, flat_map}
+use Rattle.emit.proofs.Common.{get_or, later_of_map, later_of_pairs, length, length-append, length-map, map, option_map}
+use Rattle.emit.proofs.Common.{refl, same_Some, section_of, sections_in, sections_of, slice_get, slice_get-map, subst}
+use Rattle.emit.proofs.Common.{suc, sum_by-cons, sym, take, zero, ℕ, ◌++◌, ◌+◌, ◌-◌, ◌<◌, ◌==◌, ◌∙◌, ◌∷◌, ◌≡◌, ◌≤◌}
 use Rattle.place.specs.IndexedLayout.{linked_in}
-use Rattle.ldmodel_laws.proofs.EachOf.{later_of_pairs}
 use Rattle.emit.proofs.Lists.{get_left, get_right}
-use Rattle.ldmodel_laws.proofs.EachOf.{later_of_map}
 
 -- sections whose numbers ascend have different ones
 pub numbers_differ : (o : ObjectData) (xs : List Section) → xs ≡ map section_of o.sections
@@ -127,7 +111,7 @@ run_of R (x ∷ xs) (r ∷ rs) zero s h e =
 run_of R (x ∷ xs) (r ∷ rs) (suc n) s h e =
     let rest = run_of R xs rs n s h.1 e in record { run = rest.run; at = rest.at; is = rest.is }
 
-pub run_found : (l : KnownLink) (stays : SectionKey → Bool) (o : NamedObject) (x : LinkedSection)
+pub run_found : (l : KnownLink) (stays : SectionRef → Bool) (o : NamedObject) (x : LinkedSection)
     (ends : List ℕ) (patches run : List Patch) (place section first number begin end : ℕ)
     → first ≡ linked_in (take place l.project.objects)
     → AreRunsUnless l stays patches ends → slice_get l.project.objects place ≡ Some o

@@ -1,15 +1,9 @@
 -- Objects of the same outlines have the same names and the same symbols, place by place.
-use Rattle.std.proofs.Common.{◌≡◌, ◌∙◌, ℕ, List, [], Option, Some, None, map, ap, refl, sym}
-use Rattle.std.specs.Prelude.{option_and_then, slice_get}
-use Rattle.std.specs.Option.{option_map, option_map_or}
-use Rattle.std.proofs.lemmas.Option.{slice_get-map}
-use Rattle.std.proofs.lemmas.Simd.{map-map}
-use Rattle.elfobj.specs.Symbols.{NamedSymbol}
+use Rattle.emit.proofs.Common.{DiffersInContents, List, NamedObject, NamedSymbol, None, ObjectOutline, Option, Project}
+use Rattle.emit.proofs.Common.{Some, [], ap, map, map-map, object_name, object_outline, option_and_then, option_map}
+use Rattle.emit.proofs.Common.{option_map_or, refl, slice_get, slice_get-map, sym, ℕ, ◌∙◌, ◌≡◌}
 use Rattle.ldmodel.specs.Live.{symbol_at}
-use Rattle.ldmodel.specs.NameFaults.{object_name}
 use Rattle.ldmodel.specs.Names.{symbol_tables}
-use Rattle.ldmodel.specs.Project.{NamedObject, Project}
-use Rattle.ldmodel_laws.specs.Outline.{DiffersInContents, ObjectOutline, object_outline}
 
 abbrev outlined_symbols : ObjectOutline → List NamedSymbol
 outlined_symbols x = x.symbols

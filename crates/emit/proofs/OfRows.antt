@@ -1,49 +1,21 @@
 -- Input sections as they are drawn.
-use Rattle.std.proofs.Common.{◌≡◌, ◌∙◌, sym, refl, ap, subst, ℕ, ◌+◌, ◌<◌, ◌≤◌, zero, suc, List, [], ◌∷◌, ◌++◌}
-use Rattle.std.proofs.Common.{length, map}
-use Rattle.std.proofs.Common.{take, find, Option, Some, None, Bool, true, false, cond, ◌==◌, arith, get_or, slice_get}
-use Rattle.std.proofs.Common.{inr, eq-eqb}
-use Rattle.std.specs.List.{All, AllZip, count_by}
-use Rattle.std.specs.Option.{option_map, option_map_or}
-use Rattle.std.proofs.lemmas.Bool.{eqb-true, false_from_ne_true, true≢false}
-use Rattle.std.proofs.lemmas.List.{get_or_default, length-map, take_all}
-use Rattle.std.proofs.lemmas.List.Sums.{sum_by-cons}
-use Rattle.std.proofs.lemmas.Option.{get_or_from_slice_get, same_Some, slice_get-map}
-use Rattle.std.proofs.lemmas.Slice.Eq.{bytes_eq-Decides}
-use Rattle.elfobj.specs.Sections.{LinkedSection, section_of}
-use Rattle.elfobj.specs.declared.relocation.SymbolIndex.{SymbolIndex}
-use Rattle.elfobj.specs.declared.section.SectionIndex.{SectionIndex}
-use Rattle.emit_fields.specs.Patches.{AreInOrder, patched_byte}
-use Rattle.emit_fields.specs.declared.patch.Patch.{Patch}
+use Rattle.emit.proofs.Common.{All, AllZip, AreInOrder, AreNamesDistinct, AreObjectsNamed, Bool, HaveNumbers}
+use Rattle.emit.proofs.Common.{ImagePiece, InCommon, InTable, IsDrawnPiece, IsImagePiece, IsJoinedRow, IsPlacedAt}
+use Rattle.emit.proofs.Common.{IsRowAt, IsRowPiece, IsStayedPieceAt, Layout, LinkedSection, List, NamedObject, None}
+use Rattle.emit.proofs.Common.{ObjectData, Option, Part, Patch, Piece, PlacedOutput, PlacedPiece, Project, Section}
+use Rattle.emit.proofs.Common.{SectionIndex, SectionRef, Some, StandFor, SymbolIndex, [], ap, arith, bytes_eq-Decides}
+use Rattle.emit.proofs.Common.{cond, count_by, eq-eqb, eqb-true, false, false_from_ne_true, find, find_at, get_or}
+use Rattle.emit.proofs.Common.{get_or_default, get_or_from_slice_get, has_name, inr, length, length-map, map}
+use Rattle.emit.proofs.Common.{object_byte, object_name, object_named, option_map, option_map_or, part_byte}
+use Rattle.emit.proofs.Common.{patched_byte, piece_in, placed_part, refl, same_Some, section_byte, section_numbered}
+use Rattle.emit.proofs.Common.{section_of, slice_get, slice_get-map, stand_none, subst, suc, sum_by-cons, sym, take}
+use Rattle.emit.proofs.Common.{take_all, true, true≢false, zero, zip_more, ℕ, ◌++◌, ◌+◌, ◌<◌, ◌==◌, ◌∙◌, ◌∷◌, ◌≡◌, ◌≤◌}
 use Rattle.emit_image.specs.Drawing.{IsFilled}
-use Rattle.emit_image.proofs.Joining.{stand_none}
-use Rattle.emit_image.specs.Joined.{IsStayedPieceAt, StandFor}
-use Rattle.emit_image.specs.OfLink.{IsImagePiece}
-use Rattle.emit_image.specs.declared.section.ImagePiece.{ImagePiece}
-use Rattle.ldmodel.specs.Edits.{AreNamesDistinct, has_name}
-use Rattle.ldmodel_laws.specs.ByteCases.{object_byte, part_byte, section_byte}
-use Rattle.ldmodel.specs.Image.{object_named, section_numbered}
-use Rattle.ldmodel.specs.Layout.{Layout, PlacedPiece, PlacedOutput}
-use Rattle.ldmodel.specs.NameFaults.{object_name}
-use Rattle.ldmodel.specs.Project.{NamedObject, Project}
-use Rattle.ldmodel.specs.Rows.{Piece}
 use Rattle.ldmodel.specs.declared.rows.Piece as rows
-use Rattle.ldmodel.specs.declared.sections.Part.{Part}
-use Rattle.ldmodel.specs.declared.sections.Part.TheVariants.{InTable, InCommon}
-use Rattle.ldmodel.specs.declared.sections.SectionKey.{SectionKey}
-use Rattle.ldmodel_project.specs.ByPlace.{piece_in}
-use Rattle.ldmodel_project.specs.Inputs.{AreObjectsNamed}
 use Rattle.elfobj.specs.Numbering.{IsNumberedAt}
-use Rattle.elfobj.specs.Object.{ObjectData}
-use Rattle.elfobj.specs.declared.section.Section.{Section}
-use Rattle.ldmodel.specs.SymbolValues.{placed_part}
-use Rattle.place.proofs.Lists.{find_at}
-use Rattle.ldmodel_laws.proofs.EachOf.{zip_more}
 use Rattle.emit.proofs.Lists.{take_next, zip_each, zip_right}
 use Rattle.emit.specs.StayedPieces.{IsStayedByKey}
-use Rattle.emit.specs.Numbers.{HaveNumbers}
-use Rattle.emit.specs.Output.{IsJoinedRow, IsRow}
-use Rattle.emit.specs.Pieces.{IsDrawnPiece, IsPlacedAt, IsRowAt, IsRowPiece}
+use Rattle.emit.specs.Output.{IsRow}
 
 abbrev one_if : Bool → ℕ
 one_if b = cond b 1 0
@@ -296,16 +268,16 @@ numbered_is o number i x differ at same =
 -- ---- rows
 
 -- the key of a section, by its number
-pub not_stayed : (r : rows.Piece) (number : SectionIndex) (x : LinkedSection) (stays : SectionKey → Bool)
+pub not_stayed : (r : rows.Piece) (number : SectionIndex) (x : LinkedSection) (stays : SectionRef → Bool)
     → r.section.part ≡ InTable number → x.number.0 ≡ number.0 → stays r.section ≡ false
     → stays (record { object = r.section.object; part = InTable x.number }) ≡ false
 not_stayed r number x stays part same new =
-    let key : Part → SectionKey = λ q. record { object = r.section.object; part = q } in
+    let key : Part → SectionRef = λ q. record { object = r.section.object; part = q } in
     let index : x.number ≡ number = ap (λ n. let k : SectionIndex = record { 0 = n } in k) same in
     ap (λ n. stays (key (InTable n))) index ∙ ap (λ q. stays (key q)) (sym part) ∙ new
 
 -- one that is drawn anew, whose key does not stay
-pub row_drawn : (p : Project) (s : Layout) (stays : SectionKey → Bool) (x : rows.Piece) (start : ℕ) (w : PlacedPiece)
+pub row_drawn : (p : Project) (s : Layout) (stays : SectionRef → Bool) (x : rows.Piece) (start : ℕ) (w : PlacedPiece)
     (y : ImagePiece) → IsPlacedAt p s (piece_in p x) start w → stays x.section ≡ false → IsDrawnPiece p s w y
     → IsRowPiece p s stays w y
 row_drawn p s stays x start w y at new h = record {
@@ -320,7 +292,7 @@ row_drawn p s stays x start w y at new h = record {
 }
 
 -- one that stays, whose key does
-pub row_kept : (p : Project) (s : Layout) (stays : SectionKey → Bool) (x : rows.Piece) (start : ℕ) (w : PlacedPiece)
+pub row_kept : (p : Project) (s : Layout) (stays : SectionRef → Bool) (x : rows.Piece) (start : ℕ) (w : PlacedPiece)
     (y : ImagePiece) → IsPlacedAt p s (piece_in p x) start w → stays x.section ≡ true → IsStayedPieceAt start x.size y
     → IsRowPiece p s stays w y
 row_kept p s stays x start w y at stayed h = record {
@@ -339,7 +311,7 @@ row_kept p s stays x start w y at stayed h = record {
 }
 
 -- one that is empty, of which nothing is drawn
-pub row_empty : (p : Project) (s : Layout) (stays : SectionKey → Bool) (x : rows.Piece) (start : ℕ) (w : PlacedPiece)
+pub row_empty : (p : Project) (s : Layout) (stays : SectionRef → Bool) (x : rows.Piece) (start : ℕ) (w : PlacedPiece)
     (y : ImagePiece) → IsPlacedAt p s (piece_in p x) start w → x.size ≡ 0 → y.start ≡ start → y.size ≡ 0
     → y.bytes.now ≡ [] → y.fields.now ≡ [] → y.stays ≡ stays x.section → IsRowPiece p s stays w y
 row_empty p s stays x start w y at empty begun none bytes fields same = record {
@@ -357,7 +329,7 @@ row_empty p s stays x start w y at empty begun none bytes fields same = record {
   };
 }
 
-pub whole_row : (p : Project) (s : Layout) (stays : SectionKey → Bool) (q : PlacedOutput) (ys : List ImagePiece)
+pub whole_row : (p : Project) (s : Layout) (stays : SectionRef → Bool) (q : PlacedOutput) (ys : List ImagePiece)
     → AllZip (IsRowPiece p s stays) q.pieces ys → IsRow p s stays q ys
 whole_row p s stays q ys z = record {
   pieces = zip_each (IsRowPiece p s stays) (IsImagePiece p s) q.pieces ys (λ w y c h. h.piece) z;
@@ -371,17 +343,17 @@ member (x ∷ xs) zero l = (x, refl)
 member (x ∷ xs) (suc k) l = member xs k (omega (arith, l))
 
 -- input sections that are drawn as these, of which those that stay may be joined
-pub record AreDrawnAs (p : Project) (s : Layout) (stays : SectionKey → Bool) (ws : List PlacedPiece)
+pub record AreDrawnAs (p : Project) (s : Layout) (stays : SectionRef → Bool) (ws : List PlacedPiece)
     (ys : List ImagePiece) : Type 0 where
   pub whole : List ImagePiece
   pub pieces : AllZip (IsRowPiece p s stays) ws whole
   pub joined : StandFor whole ys
 
-pub no_entries : (p : Project) (s : Layout) (stays : SectionKey → Bool) → AreDrawnAs p s stays [] []
+pub no_entries : (p : Project) (s : Layout) (stays : SectionRef → Bool) → AreDrawnAs p s stays [] []
 no_entries p s stays = record { whole = []; pieces = tt; joined = stand_none }
 
 -- one entry more
-pub one_entry : (own p : Project) (s : Layout) (stays : SectionKey → Bool) (q : PlacedOutput) (row : List Piece)
+pub one_entry : (own p : Project) (s : Layout) (stays : SectionRef → Bool) (q : PlacedOutput) (row : List Piece)
     (starts : List ℕ) (k : ℕ)
     (piece : Piece) (start : ℕ) (old new : List ImagePiece) → IsRowAt own s row starts q
     → k < length row
@@ -401,7 +373,7 @@ one_entry own p s stays q row starts k piece start old new h l at_row at_start m
       joined = more.2;
     })
 
-pub all_entries : (own p : Project) (s : Layout) (stays : SectionKey → Bool) (q : PlacedOutput) (row : List Piece)
+pub all_entries : (own p : Project) (s : Layout) (stays : SectionRef → Bool) (q : PlacedOutput) (row : List Piece)
     (starts : List ℕ) (k : ℕ)
     (ys : List ImagePiece) → IsRowAt own s row starts q → length row ≤ k
     → AreDrawnAs p s stays (take k q.pieces) ys → IsJoinedRow p s stays q ys

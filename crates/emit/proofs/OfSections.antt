@@ -1,33 +1,14 @@
 -- Sections of objects as they are drawn.
-use Rattle.std.proofs.Common.{◌≡◌, ◌∙◌, sym, refl, ap, subst, ℕ, ◌≤◌, List, [], length, map, filter, Option}
-use Rattle.std.proofs.Common.{Some, get_or, slice_get, inl}
-use Rattle.std.proofs.Common.{false}
-use Rattle.std.specs.List.{All, filter_map}
-use Rattle.std.specs.Option.{option_map}
-use Rattle.std.proofs.lemmas.List.{nil_from_length}
-use Rattle.std.proofs.lemmas.Option.{get_or_from_slice_get, same_Some, slice_get-map, slice_get_within}
-use Rattle.elfobj.specs.Object.{ObjectData}
-use Rattle.elfobj.specs.Profile.{HasRelocationsOfProfile, IsSectionOfProfile, size_in_file}
+use Rattle.emit.proofs.Common.{All, AreInOrder, HasRelocationsOfProfile, ImagePiece, InTable, IsRun, IsRunAt, IsRunOf}
+use Rattle.emit.proofs.Common.{IsSectionOfProfile, IsSectionPiece, KnownLink, LinkedSection, List, NamedObject, Nobits}
+use Rattle.emit.proofs.Common.{ObjectData, Option, Patch, PlacedPiece, Progbits, Relocation, Section, SectionKind, Some}
+use Rattle.emit.proofs.Common.{[], ap, false, fields_of, filter, filter_map, get_or, get_or_from_slice_get, inl}
+use Rattle.emit.proofs.Common.{is_evaluated, length, map, nil_from_length, option_map, patch_of, patched_byte}
+use Rattle.emit.proofs.Common.{placed_part, refl, same_Some, section_of, site_field, size_in_file, slice_get}
+use Rattle.emit.proofs.Common.{slice_get-map, slice_get_within, subst, sym, ℕ, ◌∙◌, ◌≡◌, ◌≤◌}
 use Rattle.elfobj.specs.Relocations.{field_end}
-use Rattle.elfobj.specs.Sections.{LinkedSection, section_of}
-use Rattle.elfobj.specs.declared.relocation.Relocation.{Relocation}
-use Rattle.elfobj.specs.declared.section.Section.{Section}
-use Rattle.elfobj.specs.declared.section.SectionKind.{SectionKind}
-use Rattle.elfobj.specs.declared.section.SectionKind.TheVariants.{Progbits, Nobits, Note, InitArray, FiniArray}
-use Rattle.elfobj.specs.declared.section.SectionKind.TheVariants.{PreinitArray, Unwind}
-use Rattle.emit_fields.specs.Patches.{AreInOrder, patched_byte}
-use Rattle.emit_fields.specs.declared.patch.Patch.{Patch}
-use Rattle.emit_image.specs.declared.section.ImagePiece.{ImagePiece}
-use Rattle.ldmodel.specs.Layout.{PlacedPiece}
-use Rattle.ldmodel.specs.Project.{NamedObject}
-use Rattle.ldmodel.specs.Relocations.{fields_of, is_evaluated, patch_of, site_field}
-use Rattle.ldmodel.specs.SymbolValues.{placed_part}
-use Rattle.ldmodel.specs.declared.sections.Part.TheVariants.{InTable}
-use Rattle.emit_relocate.specs.Fields.{IsRun}
-use Rattle.emit_relocate.specs.Filled.{IsRunAt, IsRunOf}
-use Rattle.emit_relocate.specs.KnownLink.{KnownLink}
+use Rattle.elfobj.specs.declared.section.SectionKind.TheVariants.{Note, InitArray, FiniArray, PreinitArray, Unwind}
 use Rattle.emit.proofs.OfRows.{AreZeros, filled_zeros, zero_byte}
-use Rattle.emit.specs.Pieces.{IsSectionPiece}
 
 -- the section of an object at a place
 pub section_is : (o : ObjectData) (i : ℕ) (x : LinkedSection) (d : Section) → slice_get o.sections i ≡ Some x

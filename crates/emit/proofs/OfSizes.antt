@@ -1,32 +1,16 @@
 -- Each entry of the rows of a project has the size of its section.
-use Rattle.std.proofs.Common.{◌≡◌, ◌∙◌, sym, refl, ap, subst, ℕ, ◌+◌, zero, suc, List, [], ◌∷◌, map, filter, flat_map}
-use Rattle.std.proofs.Common.{Option, Some, None, Bool, true, false, cond, slice_get}
-use Rattle.std.specs.List.{cons_option, enumerate_from, filter_map}
-use Rattle.std.specs.Option.{option_map_or}
-use Rattle.std.proofs.lemmas.Option.{same_Some}
-use Rattle.elfobj.specs.Sections.{LinkedSection}
-use Rattle.ldmodel_laws.specs.PlacedOnce.{AreNumbered}
-use Rattle.ldmodel.specs.Edits.{AreNamesDistinct}
-use Rattle.ldmodel.specs.Each.{Each}
+use Rattle.emit.proofs.Common.{AreNamesDistinct, AreNumbered, Bool, Each, HaveNumbers, InputSection, InputStatementAt}
+use Rattle.emit.proofs.Common.{IsSized, LinkedSection, List, NamedObject, None, Option, Project, Some, [], ap, cond}
+use Rattle.emit.proofs.Common.{cons_option, each_append, each_at, each_filter, each_into_map, enumerate_from, false}
+use Rattle.emit.proofs.Common.{filter, filter_map, flat_map, input_statements, insert_by, live, map, object_name}
+use Rattle.emit.proofs.Common.{object_named, option_map_or, refl, rows, same_Some, section_numbered, slice_get, sort_by}
+use Rattle.emit.proofs.Common.{subst, suc, sym, true, zero, ℕ, ◌+◌, ◌∙◌, ◌∷◌, ◌≡◌}
 use Rattle.ldmodel.specs.Gathering.{candidates}
-use Rattle.ldmodel.specs.Image.{object_named, section_numbered}
 use Rattle.ldmodel.specs.InputSections.{block_at, block_of, common_block, common_blocks, input_sections, is_same_entry}
 use Rattle.ldmodel.specs.InputSections.{linked_input, object_inputs}
-use Rattle.ldmodel.specs.Live.{live}
-use Rattle.ldmodel.specs.NameFaults.{object_name}
-use Rattle.ldmodel.specs.Names.{Common, Decision, Duplicate, Entry, Provided, Script, Strong, Undefined, Weak}
-use Rattle.ldmodel.specs.Names.{decision}
-use Rattle.ldmodel.specs.Project.{NamedObject, Project}
-use Rattle.ldmodel.specs.Rows.{is_taken_by, piece_of, pieces_in, row, rows, sorted_pieces, taken}
-use Rattle.ldmodel.specs.Sections.{InputSection}
-use Rattle.ldmodel.specs.Sorting.{insert_by, sort_by}
-use Rattle.ldscript.specs.statements.Numbering.{InputStatementAt, input_statements}
-use Rattle.place.proofs.Lists.{each_at}
-use Rattle.ldmodel_laws.proofs.EachOf.{each_append}
+use Rattle.ldmodel.specs.Names.{Common, Decision, Duplicate, Entry, Provided, Script, Strong, Undefined, Weak, decision}
+use Rattle.ldmodel.specs.Rows.{is_taken_by, piece_of, pieces_in, row, sorted_pieces, taken}
 use Rattle.emit.proofs.OfRows.{named_self, numbered_is}
-use Rattle.emit.specs.Numbers.{HaveNumbers}
-use Rattle.emit.specs.Pieces.{IsSized}
-use Rattle.ldmodel_laws.proofs.EachOf.{each_filter, each_into_map}
 
 each_any : {X : Type 0} (P : X → Type 0) → ((x : X) → P x) → (xs : List X) → Each P xs
 each_any P f [] = tt

@@ -1,28 +1,17 @@
 -- The symbols of the symbol table.
-use Rattle.std.proofs.Common.{◌≡◌, ◌∙◌, sym, ap, refl, subst, ℕ, ◌+◌, ◌<◌, suc, List, [], ◌∷◌, ◌++◌, length, take}
-use Rattle.std.proofs.Common.{None, Some, arith, get_or, append-nil}
-use Rattle.std.specs.List.{AllZip, cons_option}
-use Rattle.std.proofs.Math.Seq.{take-suc}
-use Rattle.std.proofs.lemmas.List.Elements.{filter_map-append}
-use Rattle.ldmodel.specs.Layout.{Layout}
+use Rattle.emit.proofs.Common.{AllZip, AreTablesFor, AreTablesOf, HasFacts, IsTableSymbol, Layout, List, None, Project}
+use Rattle.emit.proofs.Common.{Some, [], ap, append-nil, arith, binding_number, cons_option, definer_in, definer_of}
+use Rattle.emit.proofs.Common.{filter_map-append, get_or, is_weak, length, refl, subst, suc, sym, take, take-suc}
+use Rattle.emit.proofs.Common.{value_in, value_of, valued, valued_in, zip_more, ℕ, ◌++◌, ◌+◌, ◌<◌, ◌∙◌, ◌∷◌, ◌≡◌}
 use Rattle.ldmodel.specs.Names.{Decision, Strong, Script, Common, Weak, Provided, Undefined, Duplicate, decision}
-use Rattle.ldmodel.specs.Project.{Project}
 use Rattle.ldmodel.specs.OutputSymbols as model
 use Rattle.ldmodel.specs.Tail.{ValuedSymbol, kind_number, st_binding, with_value}
-use Rattle.emit_image.specs.Tables.{AreTablesOf, IsTableSymbol, binding_number}
 use Rattle.emit_image.specs.declared.symbols.SymbolTables.{SymbolTables}
 use Rattle.emit_image.specs.declared.symbols.TableSymbol.{TableSymbol}
-use Rattle.emit_relocate.specs.Values.{value_of}
 use Rattle.emit_relocate.specs.declared.value.SymbolValue.{SymbolValue}
 use Rattle.emit_relocate.specs.declared.value.SymbolValue.TheVariants as value
-use Rattle.emit_text.specs.Definer.{definer_of, is_weak}
 use Rattle.emit_relocate.specs.NameRows.{Facts}
-use Rattle.emit_relocate.specs.SymbolRows.{definer_in, value_in}
-use Rattle.emit_relocate.specs.LinkValues.{HasFacts}
 use Rattle.emit_relocate.specs.declared.values.OutputSymbol.{OutputSymbol}
-use Rattle.ldmodel_laws.proofs.EachOf.{zip_more}
-use Rattle.emit.specs.Sizes.{valued, valued_in}
-use Rattle.emit.specs.Tables.{AreTablesFor}
 
 -- a symbol is weak if what defines its name is
 weak_as : (d : Decision) → binding_number (is_weak (definer_of d)) ≡ st_binding d

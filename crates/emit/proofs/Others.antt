@@ -1,28 +1,13 @@
 -- The other objects of two projects of which one object differs: they are the same, with the same values of symbols.
-use Rattle.std.proofs.Common.{◌≡◌, ◌==◌, ℕ, Bool, true, false, cond, List, filter, Option, Some, None, refl}
-use Rattle.std.proofs.Common.{sym, ap, ◌∙◌, bytes_eq}
-use Rattle.std.specs.Prelude.{slice_get}
-use Rattle.std.specs.List.{Contains}
-use Rattle.std.specs.Option.{option_map, option_map_or}
-use Rattle.std.proofs.lemmas.Bool.{eq-eqb, eqb-true, false≢true}
-use Rattle.std.proofs.lemmas.Option.{same_Some, slice_get-map}
-use Rattle.elfobj.specs.Sections.{LinkedSection}
-use Rattle.elfobj.specs.Symbols.{NamedSymbol}
-use Rattle.elfobj.specs.declared.relocation.Relocation.{Relocation}
-use Rattle.elfobj.specs.declared.section.SectionIndex.{SectionIndex}
-use Rattle.emit_fields.specs.Patches.{patched_byte}
-use Rattle.ldmodel.specs.Image.{object_named, section_numbered}
-use Rattle.ldmodel.specs.Layout.{Layout}
-use Rattle.ldmodel.specs.Project.{NamedObject, Project}
-use Rattle.ldmodel.specs.Relocations.{Site, fields_of, is_evaluated, patch_of, site_field, site_field_with, site_symbol}
-use Rattle.ldmodel.specs.Relocations.{site_value, sites_at}
-use Rattle.ldmodel.specs.SymbolValues.{NotDefined}
+use Rattle.emit.proofs.Common.{Bool, Contains, DiffersInContents, HasSameFrame, InCommon, InTable, Layout}
+use Rattle.emit.proofs.Common.{LinkedSection, List, NamedObject, NamedSymbol, None, NotDefined, ObjectOutline, Option}
+use Rattle.emit.proofs.Common.{Part, Project, Relocation, SectionIndex, Site, Some, ap, bytes_eq, cond, eq-eqb}
+use Rattle.emit.proofs.Common.{eqb-true, false, false≢true, fields_of, filter, in_map, is_evaluated, object_byte}
+use Rattle.emit.proofs.Common.{object_named, object_outline, option_map, option_map_or, part_byte, patch_of}
+use Rattle.emit.proofs.Common.{patched_byte, refl, same_Some, section_byte, section_numbered, site_field, site_value}
+use Rattle.emit.proofs.Common.{sites_at, slice_get, slice_get-map, sym, true, ℕ, ◌==◌, ◌∙◌, ◌≡◌}
+use Rattle.ldmodel.specs.Relocations.{site_field_with, site_symbol}
 use Rattle.ldmodel.specs.Targets.{referenced_value}
-use Rattle.ldmodel.specs.declared.sections.Part.{Part}
-use Rattle.ldmodel.specs.declared.sections.Part.TheVariants.{InTable, InCommon}
-use Rattle.ldmodel_laws.specs.ByteCases.{object_byte, part_byte, section_byte}
-use Rattle.ldmodel_laws.specs.Outline.{HasSameFrame, DiffersInContents, ObjectOutline, object_outline}
-use Rattle.ldmodel_laws.proofs.Finding.{in_map}
 use Rattle.emit.proofs.Places.{Found, found, find_by_place, kept, same_results}
 
 -- a site of a section is one of its object

@@ -1,14 +1,8 @@
 -- Patches as an image takes them.
-use Rattle.std.proofs.Common.{◌≡◌, ◌<◌, ◌+◌, ◌-◌, ℕ, List, length, Ok, ap, arith}
-use Rattle.std.specs.List.{All, Contains}
-use Rattle.std.proofs.lemmas.List.Elements.{All-weaker}
-use Rattle.elfobj.specs.RelocationKinds.{width}
-use Rattle.emit_fields.specs.declared.patch.Patch.{Patch}
+use Rattle.emit.proofs.Common.{All, All-weaker, Contains, EndsBy, IsPatchOfSite, List, Ok, Patch, Site, ap, arith}
+use Rattle.emit.proofs.Common.{length, site_field, width, ℕ, ◌+◌, ◌-◌, ◌<◌, ◌≡◌}
 use Rattle.emit_image.specs.Redrawings.{IsSitePatch}
-use Rattle.emit_image.specs.Stretches.{EndsBy}
-use Rattle.ldmodel.specs.Relocations.{Site, site_field}
 use Rattle.ldmodel.specs.Stayed.{GoodLink, LinkedPiece, link_pieces, sites_in, stayed}
-use Rattle.emit_relocate.specs.Patched.{IsPatchOfSite}
 
 pub each_is : (old new : GoodLink) (qs : List Patch) → All (IsPatchOfSite old new) qs → All (IsSitePatch old new) qs
 each_is old new qs h =

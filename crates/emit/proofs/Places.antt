@@ -1,12 +1,7 @@
 -- What is found in a list by a test, place by place.
-use Rattle.std.proofs.Common.{◌≡◌, ◌<◌, ℕ, zero, suc, Bool, true, false, cond, List, [], ◌∷◌, ◌++◌, length, find}
-use Rattle.std.proofs.Common.{flat_map}
-use Rattle.std.proofs.Common.{get_or, Option, Some, None, refl, sym, ap, ◌∙◌, arith}
-use Rattle.std.specs.Prelude.{slice_get}
-use Rattle.std.specs.List.{Contains, cons_option, filter_map}
-use Rattle.std.proofs.lemmas.List.Elements.{filter_map-append}
-use Rattle.std.proofs.lemmas.Option.{same_Some}
-use Rattle.ldmodel_laws.proofs.Members.{here, later}
+use Rattle.emit.proofs.Common.{Bool, Contains, List, None, Option, Some, [], ap, arith, cond, cons_option, false}
+use Rattle.emit.proofs.Common.{filter_map, filter_map-append, find, flat_map, get_or, here, later, length, refl}
+use Rattle.emit.proofs.Common.{same_Some, slice_get, suc, sym, true, zero, ℕ, ◌++◌, ◌<◌, ◌∙◌, ◌∷◌, ◌≡◌}
 
 -- the member of a place, if it passes a test
 abbrev pub kept : {X : Type 0} → (X → Bool) → Option X → Option X

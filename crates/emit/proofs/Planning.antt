@@ -1,49 +1,25 @@
 -- What is planned for each section of an object.
-use Rattle.std.proofs.Common.{◌≡◌, ◌≢◌, ◌+◌, ◌<◌, ◌≤◌, ◌^◌, ◌==◌, ⊎_elim, cond, ℕ, zero, suc, List, [], ◌∷◌, ◌++◌}
-use Rattle.std.proofs.Common.{length, map, find, take, drop}
-use Rattle.std.proofs.Common.{get_or, Option, Some, None, refl, sym, ap, ◌∙◌, subst, arith, add-one, append-nil}
-use Rattle.std.proofs.Common.{drop-cons}
-use Rattle.std.specs.Prelude.{slice_get, sum_by}
-use Rattle.std.specs.List.{All, AllPairs, AllZip, filter_map}
-use Rattle.std.specs.Option.{option_map, option_map_or}
-use Rattle.std.proofs.lemmas.Bool.{eq-eqb, ne_eqb}
-use Rattle.std.proofs.lemmas.List.{drop_all, length-map, map-append, take_more}
-use Rattle.std.proofs.lemmas.List.Elements.{All-append}
-use Rattle.std.proofs.lemmas.List.Sums.{sum_by-append, sum_by-cons}
+use Rattle.emit.proofs.Common.{All, All-append, AllPairs, AllZip, AreInOrder, Counts, HasRelocationsOfProfile, IsAdded}
+use Rattle.emit.proofs.Common.{IsAtHand, IsFaultlessRun, IsNothing, IsPlanned, IsPlannedAt, IsRefused, IsRun}
+use Rattle.emit.proofs.Common.{IsSectionOfProfile, IsWhole, IsWithin, KnownLink, LinkedSection, List, LocatedSection}
+use Rattle.emit.proofs.Common.{NamedObject, Nobits, None, ObjectData, ObjectPlace, Option, Patch, PlannedSection}
+use Rattle.emit.proofs.Common.{Relocation, Section, SectionKind, Site, Some, Written, [], add-one, ap, append-nil}
+use Rattle.emit.proofs.Common.{arith, bytes_of, capped, cond, count_of, drop, drop-cons, drop_all, eq-eqb, evaluations}
+use Rattle.emit.proofs.Common.{fault_at, fault_of, faults_of, filter_map, find, get_or, get_or_from_slice_get, length}
+use Rattle.emit.proofs.Common.{length-map, map, map-append, ne_eqb, option_map, option_map_or, patch_end, raised, refl}
+use Rattle.emit.proofs.Common.{same_Some, section_of, site_value, sites_at, sites_in_all, sites_there, size_in_file}
+use Rattle.emit.proofs.Common.{slice_get, slice_get-map, slice_get_within, subst, suc, sum_by, sum_by-append}
+use Rattle.emit.proofs.Common.{sum_by-cons, sym, take, take_more, work_of, written, written_all, zero, zip_more, ℕ}
+use Rattle.emit.proofs.Common.{⊎_elim, ◌++◌, ◌+◌, ◌<◌, ◌==◌, ◌^◌, ◌∙◌, ◌∷◌, ◌≡◌, ◌≢◌, ◌≤◌}
 use Rattle.std.proofs.lemmas.Grind.{flat_map-append}
-use Rattle.std.proofs.lemmas.Option.{get_or_from_slice_get, same_Some, slice_get-map, slice_get_within}
-use Rattle.elfobj.specs.Object.{ObjectData}
-use Rattle.elfobj.specs.Profile.{HasRelocationsOfProfile, IsSectionOfProfile, size_in_file}
 use Rattle.elfobj.specs.Relocations.{field_end}
-use Rattle.elfobj.specs.Sections.{LinkedSection, section_of}
 use Rattle.elfobj.specs.declared.meter.Count.TheVariants as count
-use Rattle.elfobj.specs.declared.relocation.Relocation.{Relocation}
-use Rattle.elfobj.specs.declared.section.Section.{Section}
-use Rattle.elfobj.specs.declared.section.SectionKind.{SectionKind}
-use Rattle.elfobj.specs.declared.section.SectionKind.TheVariants.{Nobits}
-use Rattle.emit_fields.specs.Patches.{AreInOrder, patch_end}
-use Rattle.emit_fields.specs.declared.patch.Patch.{Patch}
-use Rattle.ldmodel.specs.Counts.{Counts, capped}
-use Rattle.ldmodel.specs.Project.{NamedObject}
-use Rattle.ldmodel.specs.Raised.{raised}
-use Rattle.ldmodel.specs.Relocations.{Site, site_value, sites_at}
 use Rattle.ldmodel.specs.Fault.{Fault}
-use Rattle.ldmodel.specs.FaultCode.{fault_of}
 use Rattle.ldmodel.specs.declared.fault.Fault as code
-use Rattle.ldmodel.specs.declared.names.ObjectPlace.{ObjectPlace}
-use Rattle.emit_relocate.specs.Fields.{IsAdded, IsRun, evaluations, fault_at, faults_of, work_of}
-use Rattle.emit_relocate.specs.KnownLink.{KnownLink}
 use Rattle.emit_relocate.specs.Sites.{IsPlaced, IsSectionOf}
 use Rattle.emit_relocate.specs.SymbolValues.{IsRow}
 use Rattle.emit_relocate.specs.declared.site.PlacedInput.{PlacedInput}
 use Rattle.emit_relocate.specs.declared.value.SymbolValue.{SymbolValue}
-use Rattle.emit.specs.Plan.{IsAtHand, IsFaultlessRun, IsNothing, IsPlanned, IsPlannedAt, IsRefused}
-use Rattle.emit.specs.Plan.{IsWhole, IsWithin, Written, count_of, sites_in_all, sites_there, written}
-use Rattle.emit.specs.Plan.{written_all}
-use Rattle.emit.specs.declared.plan.PlannedSection.{PlannedSection}
-use Rattle.emit.specs.LocatedSections.{bytes_of}
-use Rattle.emit.specs.declared.located_section.LocatedSection.{LocatedSection}
-use Rattle.ldmodel_laws.proofs.EachOf.{zip_more}
 
 -- ---- the order of fields
 

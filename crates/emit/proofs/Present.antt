@@ -1,23 +1,12 @@
 -- The run of each section of an object of a link is there.
-use Rattle.std.proofs.Common.{◌≡◌, ◌∙◌, sym, refl, ap, subst, ℕ, ◌+◌, ◌<◌, ◌≤◌, zero, suc, List, [], ◌∷◌}
-use Rattle.std.proofs.Common.{length, map, flat_map, take, Bool, Option, Some, None, false, cond, arith, slice_get}
-use Rattle.std.specs.Prelude.{Contains, IfNone, IsSome, nat_lt, slice_index_or}
-use Rattle.std.specs.List.{enumerate_from}
-use Rattle.std.specs.Option.{option_map}
-use Rattle.std.proofs.lemmas.Bool.{false_from_ne_true, ltb-true}
-use Rattle.std.proofs.lemmas.List.{length-append}
-use Rattle.std.proofs.lemmas.List.Elements.{Contains-append_left, Contains-append_right}
-use Rattle.std.proofs.lemmas.Option.{get_or_from_slice_get, same_Some, slice_get-map, slice_get_within}
-use Rattle.elfobj.specs.Sections.{LinkedSection}
-use Rattle.emit_fields.specs.declared.patch.Patch.{Patch}
+use Rattle.emit.proofs.Common.{AreRunsUnless, Bool, Contains, Contains-append_left, Contains-append_right, IfNone}
+use Rattle.emit.proofs.Common.{InTable, InputSection, IsRunUnless, IsSome, KnownLink, LinkedSection, List, NamedObject}
+use Rattle.emit.proofs.Common.{None, ObjectSection, Option, Patch, Project, SectionRef, Some, [], ap, arith, cond}
+use Rattle.emit.proofs.Common.{ends_of, enumerate_from, false, false_from_ne_true, flat_map, get_or_from_slice_get}
+use Rattle.emit.proofs.Common.{length, length-append, ltb-true, map, nat_lt, option_map, refl, same_Some, sections_in}
+use Rattle.emit.proofs.Common.{slice_get, slice_get-map, slice_get_within, slice_index_or, subst, suc, sym, take, zero}
+use Rattle.emit.proofs.Common.{ℕ, ◌+◌, ◌<◌, ◌∙◌, ◌∷◌, ◌≡◌, ◌≤◌}
 use Rattle.ldmodel.specs.InputSections.{common_blocks, input_sections, linked_input, object_inputs}
-use Rattle.ldmodel.specs.Project.{NamedObject, Project}
-use Rattle.ldmodel.specs.Sections.{InputSection}
-use Rattle.ldmodel.specs.declared.sections.Part.TheVariants.{InTable}
-use Rattle.ldmodel.specs.declared.sections.SectionKey.{SectionKey}
-use Rattle.emit_relocate.specs.Filled.{ObjectSection, ends_of, sections_in}
-use Rattle.emit_relocate.specs.KnownLink.{KnownLink}
-use Rattle.emit.specs.Runs.{AreRunsUnless, IsRunUnless}
 use Rattle.emit.proofs.Numbering.{linked_long, run_of, section_at}
 use Rattle.place.specs.IndexedLayout.{linked_in, linked_of}
 use Rattle.gather.specs.SectionTable.{IsTableOf, number_of}
@@ -74,7 +63,7 @@ pub record Stands (ends : List ℕ) (patches : List Patch) (number : ℕ) : Type
   pub within : end ≤ length patches
   pub long : number < length ends
 
-pub run_stands : (l : KnownLink) (stays : SectionKey → Bool) (o : NamedObject) (x : LinkedSection)
+pub run_stands : (l : KnownLink) (stays : SectionRef → Bool) (o : NamedObject) (x : LinkedSection)
     (ends : List ℕ) (patches : List Patch) (place section number : ℕ) → AreRunsUnless l stays patches ends
     → slice_get l.project.objects place ≡ Some o → slice_get o.object.sections section ≡ Some x
     → number ≡ linked_in (take place l.project.objects) + section → Stands ends patches number

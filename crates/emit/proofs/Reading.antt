@@ -1,25 +1,10 @@
 -- What was found of all objects as they were read.
-use Rattle.std.proofs.Common.{◌≡◌, ◌<◌, ℕ, zero, suc, false, List, [], ◌∷◌, length, map, Ok, arith, ◌==◌}
-use Rattle.std.specs.List.{All}
-use Rattle.std.proofs.lemmas.Bool.{ne_eqb}
-use Rattle.std.proofs.lemmas.List.Elements.{All-contains, All-head, All-tail, All-weaker}
-use Rattle.elfobj.specs.Object.{object_of}
-use Rattle.elfobj.specs.Profile.{HasRelocationsOfProfile}
-use Rattle.elfobj.specs.Sections.{LinkedSection, section_of}
-use Rattle.elfobj.specs.declared.section.Section.{Section}
-use Rattle.ldmodel.specs.Edits.{AreNamesDistinct}
-use Rattle.ldmodel.specs.Each.{Each}
-use Rattle.ldmodel.specs.Layout.{Layout}
-use Rattle.ldmodel.specs.Names.{provided}
-use Rattle.ldmodel.specs.Placement.{placement}
-use Rattle.ldmodel.specs.Project.{NamedObject, Project}
-use Rattle.ldmodel.specs.Rows.{rows}
-use Rattle.ldmodel_laws.proofs.EachOf.{each_of_all}
-use Rattle.ldmodel_laws.specs.PlacedOnce.{AreNumbered, IsPlacedOnce}
-use Rattle.ldmodel_laws.specs.Spread.{EachLater}
+use Rattle.emit.proofs.Common.{All, All-contains, All-head, All-tail, All-weaker, AreAscending, AreNamesDistinct}
+use Rattle.emit.proofs.Common.{AreNumbered, AreOfProfile, Each, EachLater, HasRelocationsOfProfile, IsPlacedOnce}
+use Rattle.emit.proofs.Common.{IsRead, Layout, LinkedSection, List, NamedObject, Ok, Project, Section, [], arith}
+use Rattle.emit.proofs.Common.{each_of_all, false, length, map, ne_eqb, object_of, placement, provided, rows}
+use Rattle.emit.proofs.Common.{section_of, suc, zero, ℕ, ◌<◌, ◌==◌, ◌∷◌, ◌≡◌}
 use Rattle.ldmodel_laws.specs.Untouched.{AreRead}
-use Rattle.emit_relocate.specs.Patched.{AreOfProfile}
-use Rattle.emit.specs.Numbered.{AreAscending, IsRead}
 
 abbrev Differ : LinkedSection → LinkedSection → Type 0
 Differ x y = (x.number.0 == y.number.0) ≡ false

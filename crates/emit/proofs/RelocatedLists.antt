@@ -1,14 +1,9 @@
 -- Members of lists: what holds of all, and the one that is found.
-use Rattle.std.proofs.Common.{◌≡◌, ◌⊎◌, inl, inr, ◌<◌, ◌≤◌, ℕ, zero, suc, ◌+◌, Bool, true, false, cond, List}
-use Rattle.std.proofs.Common.{[], ◌∷◌, map, flat_map, find, count_by, Option, Some, None, refl}
-use Rattle.std.proofs.Common.{sym, ap, ◌∙◌, subst, arith, IfSome}
-use Rattle.std.specs.Prelude.{slice_get}
-use Rattle.std.specs.List.{All, Contains, cons_option, enumerate_from, filter_map}
-use Rattle.std.proofs.lemmas.List.Elements.{All-append, All-cons, All-head, All-nil, All-tail}
-use Rattle.std.proofs.lemmas.List.Sums.{sum_by-cons}
-use Rattle.std.proofs.lemmas.Option.{get_or_from_slice_get, slice_get_within}
-use Rattle.ldmodel.specs.Sorting.{insert_by, sort_by}
-use Rattle.ldmodel_laws.proofs.Members.{first_or_later, none_in_nil}
+use Rattle.emit.proofs.Common.{All, All-append, All-cons, All-head, All-nil, All-tail, Bool, Contains, IfSome, List}
+use Rattle.emit.proofs.Common.{None, Option, Some, [], ap, arith, cond, cons_option, count_by, enumerate_from, false}
+use Rattle.emit.proofs.Common.{filter_map, find, first_or_later, flat_map, get_or_from_slice_get, inl, inr, insert_by}
+use Rattle.emit.proofs.Common.{map, none_in_nil, refl, slice_get, slice_get_within, sort_by, subst, suc, sum_by-cons}
+use Rattle.emit.proofs.Common.{sym, true, zero, ℕ, ◌+◌, ◌<◌, ◌∙◌, ◌∷◌, ◌≡◌, ◌≤◌, ◌⊎◌}
 
 pub all_flat_map : {X Y : Type 0} (P : Y → Type 0) (f : X → List Y) (xs : List X) → All (λ x. All P (f x)) xs
     → All P (flat_map f xs)

@@ -1,19 +1,11 @@
 -- The data commands of one output section after another.
-use Rattle.std.proofs.Common.{◌≡◌, ◌∙◌, sym, refl, ap, subst, ℕ, ◌+◌, ◌-◌, ◌<◌, ◌≤◌, zero, suc, List, [], ◌∷◌, ◌++◌}
-use Rattle.std.proofs.Common.{length}
-use Rattle.std.proofs.Common.{map, flat_map, take, drop, true, false, cond, ◌==◌, arith, get_or, eq-eqb}
-use Rattle.std.specs.List.{AllZip, enumerate_from}
-use Rattle.std.proofs.Math.Seq.{drop-cons, take-suc}
-use Rattle.std.proofs.lemmas.Bool.{eqb-true, false_from_ne_true}
-use Rattle.std.proofs.lemmas.List.{length-drop, length-take-le, take_all}
-use Rattle.emit_image.specs.OfLink.{IsImageData}
-use Rattle.ldmodel.specs.Each.{Each}
-use Rattle.ldmodel.specs.Layout.{PlacedOutput}
+use Rattle.emit.proofs.Common.{AllZip, AreDataFrom, AreDataOf, Each, IsImageData, List, NumberedData, PlacedOutput, []}
+use Rattle.emit.proofs.Common.{ap, arith, cond, data_of, drop, drop-cons, enumerate_from, eq-eqb, eqb-true, false}
+use Rattle.emit.proofs.Common.{false_from_ne_true, flat_map, get_or, length, length-drop, length-take-le, map, numbered}
+use Rattle.emit.proofs.Common.{refl, run_length, subst, suc, sym, take, take-suc, take_all, true, zero, zip_more, ℕ}
+use Rattle.emit.proofs.Common.{◌++◌, ◌+◌, ◌-◌, ◌<◌, ◌==◌, ◌∙◌, ◌∷◌, ◌≡◌, ◌≤◌}
 use Rattle.ldmodel.specs.Layout as layout
-use Rattle.ldmodel.specs.PlacementView.{NumberedData, data_of, numbered}
 use Rattle.ldmodel.specs.declared.placed.PlacedData.{PlacedData}
-use Rattle.ldmodel_laws.proofs.EachOf.{zip_more}
-use Rattle.emit.specs.DataRuns.{AreDataFrom, AreDataOf, run_length}
 
 -- the output sections before a number have their data commands, and the others are those of what is left
 pub record Runs (commands : List PlacedData) (count section at : ℕ) (runs : List (List PlacedData)) : Type 0 where

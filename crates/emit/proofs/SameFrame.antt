@@ -1,35 +1,24 @@
 -- The map, the headers, the tail and the assertions turn on the layout, on what names stand for, and on their values.
-use Rattle.std.proofs.Common.{◌≡◌, ◌++◌, ℕ, not, [], ◌∷◌, length, map, filter, flat_map}
-use Rattle.std.proofs.Common.{replicate, refl}
-use Rattle.std.specs.Prelude.{codes}
-use Rattle.std.specs.List.{enumerate_from, filter_map}
-use Rattle.std.specs.Option.{option_map_or}
+use Rattle.emit.proofs.Common.{AssertionAt, AssertionFailed, DiffersInContents, HasSameFrame, InCommon, Layout, Project}
+use Rattle.emit.proofs.Common.{Symbol, [], asserts, codes, enumerate_from, file_headers, filter, filter_map, flat_map}
+use Rattle.emit.proofs.Common.{header_name_table, header_part, image_length, length, loaded_end, map, not, number_or_0}
+use Rattle.emit.proofs.Common.{option_map_or, refl, replicate, segments, symbol_index, tail, ℕ, ◌++◌, ◌∷◌, ◌≡◌}
 use Rattle.std.specs.Int.{next_multiple_of}
-use Rattle.elfobj.specs.declared.symbol.Symbol.{Symbol}
 use Rattle.elfobj.specs.file.declared.constants.TheConstants.{SHN_ABS, STT_NOTYPE}
-use Rattle.ldscript.specs.statements.Numbering.{AssertionAt, asserts}
 use Rattle.ldmodel.specs.Assertions.{assertion_faults, final_scope, is_true_value, number_if_any}
-use Rattle.ldmodel.specs.Fault.{AssertionFailed}
 use Rattle.ldmodel.specs.Headers.{elf_header, program_headers}
-use Rattle.ldmodel.specs.Image.{file_headers}
-use Rattle.ldmodel.specs.Layout.{Layout, region_numbers, section_numbers}
+use Rattle.ldmodel.specs.Layout.{region_numbers, section_numbers}
 use Rattle.ldmodel.specs.Lines.{hex, line_of}
 use Rattle.ldmodel.specs.MapText.{map_text, section_lines, symbol_line, value_word}
 use Rattle.ldmodel.specs.Names.{Common, Decision, Duplicate, Provided, Script, Strong, Undefined, Weak}
 use Rattle.ldmodel.specs.OutputSymbols.{OutputSymbol, in_byte_order, is_defined, output_symbol, output_symbols, owner}
-use Rattle.ldmodel.specs.Project.{Project}
-use Rattle.ldmodel.specs.SectionHeaders.{end_of_part, header_bytes, header_count, header_name_table, header_names}
-use Rattle.ldmodel.specs.SectionHeaders.{header_names_number, header_part, image_length, output_header, part_at}
-use Rattle.ldmodel.specs.SectionHeaders.{section_headers, table_headers, tables, tail}
-use Rattle.ldmodel.specs.Segments.{loaded_end, segments}
-use Rattle.ldmodel.specs.SymbolValues.{number_or_0, symbol_index}
+use Rattle.ldmodel.specs.SectionHeaders.{end_of_part, header_bytes, header_count, header_names, header_names_number}
+use Rattle.ldmodel.specs.SectionHeaders.{output_header, part_at, section_headers, table_headers, tables}
 use Rattle.ldmodel.specs.Tail.{ValuedSymbol, entry_header, entry_size, entry_type, header_of_part, header_of_place}
-use Rattle.ldmodel.specs.Tail.{kind_number, name_offset, output_symbol_table, st_binding, st_shndx, st_size}
-use Rattle.ldmodel.specs.Tail.{st_type_of, string_table, symbol_bytes, symbol_entry, symbol_name_table, symbol_names}
-use Rattle.ldmodel.specs.Tail.{table_symbols, with_value}
+use Rattle.ldmodel.specs.Tail.{kind_number, name_offset, output_symbol_table, st_binding, st_shndx, st_size, st_type_of}
+use Rattle.ldmodel.specs.Tail.{string_table, symbol_bytes, symbol_entry, symbol_name_table, symbol_names, table_symbols}
+use Rattle.ldmodel.specs.Tail.{with_value}
 use Rattle.ldmodel.specs.Value.{value}
-use Rattle.ldmodel.specs.declared.sections.Part.TheVariants.{InCommon}
-use Rattle.ldmodel_laws.specs.Outline.{HasSameFrame, DiffersInContents}
 use Rattle.emit.proofs.Objects.{same_object_name}
 use Rattle.emit.proofs.SameNames.{same_decision, same_declared_names}
 use Rattle.emit.proofs.SameValues.{same_entry_point, same_name_value, same_referenced, same_symbol_of_entry}

@@ -1,23 +1,14 @@
 -- The input sections of a project without their relocations; where sections are dropped that nothing refers to, each
 -- with the symbols that its relocations name. Both projects have the same.
-use Rattle.std.proofs.Common.{◌≡◌, ◌∙◌, ℕ, ◌+◌, Bool, true, false, cond, List, [], ◌∷◌, ◌++◌, Option, Some, None}
-use Rattle.std.proofs.Common.{map, flat_map, ap, refl, sym, pos}
-use Rattle.std.specs.List.{cons_option, enumerate_from, filter_map, zip}
-use Rattle.std.proofs.lemmas.List.{map-append}
-use Rattle.std.proofs.lemmas.Simd.{map-map}
-use Rattle.elfobj.specs.Sections.{LinkedSection}
-use Rattle.elfobj.specs.Symbols.{NamedSymbol}
-use Rattle.elfobj.specs.declared.relocation.Relocation.{Relocation}
+use Rattle.emit.proofs.Common.{Bool, DiffersInContents, InTable, InputSection, LinkedSection, List, NamedObject}
+use Rattle.emit.proofs.Common.{NamedSymbol, None, ObjectOutline, Option, Project, Relocation, Some, SymbolIndex, [], ap}
+use Rattle.emit.proofs.Common.{cond, cons_option, enumerate_from, false, filter_map, flat_map, map, map-append, map-map}
+use Rattle.emit.proofs.Common.{object_outline, pos, refl, sym, true, zip, ℕ, ◌++◌, ◌+◌, ◌∙◌, ◌∷◌, ◌≡◌}
 use Rattle.elfobj.specs.declared.relocation.RelocationKind.TheVariants as kind
-use Rattle.elfobj.specs.declared.relocation.SymbolIndex.{SymbolIndex}
 use Rattle.ldmodel.specs.InputSections.{block_at, block_of, common_block, common_blocks, input_sections, is_same_entry}
 use Rattle.ldmodel.specs.InputSections.{linked_input, object_inputs}
 use Rattle.ldmodel.specs.Names.{Common, Decision, Duplicate, Entry, Provided, Script, Strong, Undefined, Weak, decision}
-use Rattle.ldmodel.specs.Project.{NamedObject, Project}
-use Rattle.ldmodel.specs.Sections.{InputSection}
-use Rattle.ldmodel.specs.declared.sections.Part.TheVariants.{InTable}
-use Rattle.ldmodel_laws.specs.Outline.{DiffersInContents, ObjectOutline, SectionOutline, object_outline}
-use Rattle.ldmodel_laws.specs.Outline.{section_outline}
+use Rattle.ldmodel_laws.specs.Outline.{SectionOutline, section_outline}
 use Rattle.emit.proofs.SameNames.{same_decision}
 
 -- the symbols that relocations name, where sections are dropped that nothing refers to

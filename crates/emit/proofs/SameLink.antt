@@ -1,15 +1,10 @@
 -- The layout is the same, and a good link stays good where no relocation of the second project is a fault.
-use Rattle.std.proofs.Common.{◌≡◌, ◌∙◌, ℕ, List, [], ◌∷◌, Result, Ok, Err, ap, refl, sym}
+use Rattle.emit.proofs.Common.{DiffersInContents, Err, Layout, Link, List, Ok, Project, Result, [], ap}
+use Rattle.emit.proofs.Common.{gathering_faults, good, laid_out, layout, link, name_faults, of_length, placed}
+use Rattle.emit.proofs.Common.{placement, refl, relocation_faults, sym, unless, without_overlaps, ℕ, ◌∙◌, ◌∷◌, ◌≡◌}
 use Rattle.ldmodel.specs.Assertions.{assertion_faults}
 use Rattle.ldmodel.specs.Fault.{Fault}
-use Rattle.ldmodel.specs.Layout.{Layout}
-use Rattle.ldmodel.specs.Link.{Link, gathering_faults, good, laid_out, layout, link, name_faults, of_length, placed}
-use Rattle.ldmodel.specs.Link.{unless, without_overlaps}
 use Rattle.ldmodel.specs.Overlaps.{overlaps}
-use Rattle.ldmodel.specs.Placement.{placement}
-use Rattle.ldmodel.specs.Project.{Project}
-use Rattle.ldmodel.specs.Relocations.{relocation_faults}
-use Rattle.ldmodel_laws.specs.Outline.{DiffersInContents}
 use Rattle.emit.proofs.SameFrame.{same_assertion_faults, same_length}
 use Rattle.emit.proofs.SameNames.{same_name_faults, same_provided}
 use Rattle.emit.proofs.SameRows.{same_gathering_faults, same_rows}

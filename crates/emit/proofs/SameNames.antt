@@ -1,20 +1,13 @@
 -- What names stand for, and their faults, turn on the names and the symbols of objects and on the script alone.
-use Rattle.std.proofs.Common.{◌≡◌, ◌++◌, ℕ, not, ◌&&◌, ◌||◌, List, [], ◌∷◌, Option, Some, None, map, filter}
-use Rattle.std.proofs.Common.{refl}
-use Rattle.std.specs.Prelude.{if◌then◌else◌, option_to_list}
-use Rattle.std.specs.List.{enumerate_from}
-use Rattle.std.specs.Option.{option_or}
-use Rattle.ldmodel.specs.Fault.{UndefinedEntry}
-use Rattle.ldmodel.specs.Link.{duplicate_fault, name_faults}
+use Rattle.emit.proofs.Common.{DiffersInContents, List, None, Option, Project, Some, UndefinedEntry, []}
+use Rattle.emit.proofs.Common.{duplicate_fault, entry_of, enumerate_from, filter, if◌then◌else◌, map, name_faults, not}
+use Rattle.emit.proofs.Common.{option_or, option_to_list, provided, refl, ℕ, ◌&&◌, ◌++◌, ◌||◌, ◌∷◌, ◌≡◌}
 use Rattle.ldmodel.specs.NameFaults.{ByObject, ByScript, duplicate, duplicates, first_among, first_definer}
 use Rattle.ldmodel.specs.NameFaults.{if_undefined, is_duplicate, is_first_of, strong_definitions, undefined_among}
 use Rattle.ldmodel.specs.NameFaults.{undefined_entry}
 use Rattle.ldmodel.specs.Names.{Declaration, decided, decision, declarations, declarations_of, declared_names, distinct}
-use Rattle.ldmodel.specs.Names.{entry_symbol, is_of_name, is_provided_case, is_strong, provided}
-use Rattle.ldmodel.specs.Project.{Project}
+use Rattle.ldmodel.specs.Names.{entry_symbol, is_of_name, is_provided_case, is_strong}
 use Rattle.ldmodel.specs.ScriptNames.{assigned_names, is_assigned, is_provided, provided_names}
-use Rattle.ldscript.specs.statements.Numbering.{entry_of}
-use Rattle.ldmodel_laws.specs.Outline.{DiffersInContents}
 use Rattle.emit.proofs.Objects.{same_object_name, same_tables}
 
 module _ {p q : Project} {place : ℕ} (h : DiffersInContents p q place) where

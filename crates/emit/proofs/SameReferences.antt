@@ -1,13 +1,9 @@
 -- What symbols and the entry symbol refer to turns on what names stand for and on the symbols of objects.
-use Rattle.std.proofs.Common.{◌≡◌, ℕ, refl}
-use Rattle.std.specs.Prelude.{if◌then◌else◌, option_and_then}
-use Rattle.std.specs.List.{list_any}
-use Rattle.elfobj.specs.Symbols.{NamedSymbol}
+use Rattle.emit.proofs.Common.{DiffersInContents, NamedSymbol, Project, if◌then◌else◌, list_any, option_and_then, refl}
+use Rattle.emit.proofs.Common.{ℕ, ◌≡◌}
 use Rattle.ldmodel.specs.Live.{entry_section, is_section, refers_to, section_of_decision, section_of_entry}
 use Rattle.ldmodel.specs.Live.{section_of_place, section_of_symbol, target_section}
 use Rattle.ldmodel.specs.Names.{Common, Decision, Duplicate, Provided, Script, Strong, Undefined, Weak, is_local}
-use Rattle.ldmodel.specs.Project.{Project}
-use Rattle.ldmodel_laws.specs.Outline.{DiffersInContents}
 use Rattle.emit.proofs.Objects.{same_symbol_at}
 use Rattle.emit.proofs.SameNames.{same_decision, same_entry_symbol}
 

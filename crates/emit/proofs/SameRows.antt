@@ -1,25 +1,17 @@
 -- Rows and the faults of gathering turn on input sections without their relocations; where sections are dropped that
 -- nothing refers to, also on the symbols that relocations name.
-use Rattle.std.proofs.Common.{◌≡◌, ◌∙◌, ℕ, Bool, true, false, cond, not, ◌||◌, List, [], Option, Some, None, length}
-use Rattle.std.proofs.Common.{map, filter, flat_map, ap, refl, sym}
-use Rattle.std.specs.Prelude.{◌==◌, if◌then◌else◌, is_none, option_and_then, slice_get}
-use Rattle.std.specs.List.{enumerate_from, list_any, range_with_len}
-use Rattle.std.specs.Option.{option_map_or}
-use Rattle.std.proofs.lemmas.Simd.{map-map}
-use Rattle.elfobj.specs.declared.relocation.Relocation.{Relocation}
-use Rattle.ldscript.specs.statements.Numbering.{InputStatementAt, input_statements, output_sections}
-use Rattle.ldmodel.specs.Fault.{Fault, Orphan}
+use Rattle.emit.proofs.Common.{Bool, DiffersInContents, InputSection, InputStatementAt, List, None, Option, Orphan}
+use Rattle.emit.proofs.Common.{Piece, Project, Relocation, Some, [], ap, cond, enumerate_from, false, filter, flat_map}
+use Rattle.emit.proofs.Common.{gathering_faults, if◌then◌else◌, input_statements, is_none, length, list_any, live, map}
+use Rattle.emit.proofs.Common.{map-map, not, option_and_then, option_map_or, output_sections, range_with_len, refl}
+use Rattle.emit.proofs.Common.{rows, slice_get, sort_by, sym, true, ℕ, ◌==◌, ◌||◌, ◌∙◌, ◌≡◌}
+use Rattle.ldmodel.specs.Fault.{Fault}
 use Rattle.ldmodel.specs.FirstMatch.{first_match}
 use Rattle.ldmodel.specs.Gathering.{are_discarded, candidates, is_discarded, is_out_under, taken_by}
 use Rattle.ldmodel.specs.InputSections.{input_sections}
-use Rattle.ldmodel.specs.Link.{gathering_faults}
-use Rattle.ldmodel.specs.Live.{is_kept, is_root, is_section, live, orphans, refers_to, target_section}
-use Rattle.ldmodel.specs.Project.{Project}
+use Rattle.ldmodel.specs.Live.{is_kept, is_root, is_section, orphans, refers_to, target_section}
 use Rattle.ldmodel.specs.Reach.{reached}
-use Rattle.ldmodel.specs.Rows.{Piece, below, is_in_section, is_taken_by, piece_of, rows, taken}
-use Rattle.ldmodel.specs.Sections.{InputSection}
-use Rattle.ldmodel.specs.Sorting.{sort_by}
-use Rattle.ldmodel_laws.specs.Outline.{DiffersInContents}
+use Rattle.ldmodel.specs.Rows.{below, is_in_section, is_taken_by, piece_of, taken}
 use Rattle.emit.proofs.MappedGraph.{list_any-mapped, map-filter, map-reached}
 use Rattle.emit.proofs.SameInputs.{bare, naming, same_inputs}
 use Rattle.emit.proofs.SameReferences.{same_entry_section, same_refers_to}

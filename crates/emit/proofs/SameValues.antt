@@ -1,18 +1,12 @@
 -- The values of symbols turn on what names stand for, on the names and the symbols of objects and on the layout.
-use Rattle.std.proofs.Common.{◌≡◌, ℕ, List, Option, Some, None, refl}
-use Rattle.std.specs.Prelude.{if◌then◌else◌, slice_get}
-use Rattle.std.specs.Option.{option_map, option_map_or}
-use Rattle.elfobj.specs.Symbols.{NamedSymbol}
-use Rattle.elfobj.specs.declared.symbol.Symbol.{Symbol}
-use Rattle.ldmodel.specs.Layout.{Layout}
-use Rattle.ldmodel.specs.Names.{Common, Decision, Duplicate, Provided, Script, Strong, Undefined, Weak}
-use Rattle.ldmodel.specs.Names.{is_local, is_weak_binding}
-use Rattle.ldmodel.specs.Project.{NamedObject, Project}
-use Rattle.ldmodel.specs.SymbolValues.{NotDefined, address_in, decided_value, entry_point, entry_value, name_value}
-use Rattle.ldmodel.specs.SymbolValues.{own_value, placed_part, symbol_index, symbol_of_entry, value_if_named}
+use Rattle.emit.proofs.Common.{DiffersInContents, InCommon, Layout, List, NamedObject, NamedSymbol, None, NotDefined}
+use Rattle.emit.proofs.Common.{Option, Project, Some, Symbol, entry_point, if◌then◌else◌, option_map, option_map_or}
+use Rattle.emit.proofs.Common.{placed_part, refl, slice_get, symbol_index, ℕ, ◌≡◌}
+use Rattle.ldmodel.specs.Names.{Common, Decision, Duplicate, Provided, Script, Strong, Undefined, Weak, is_local}
+use Rattle.ldmodel.specs.Names.{is_weak_binding}
+use Rattle.ldmodel.specs.SymbolValues.{address_in, decided_value, entry_value, name_value, own_value, symbol_of_entry}
+use Rattle.ldmodel.specs.SymbolValues.{value_if_named}
 use Rattle.ldmodel.specs.Targets.{or_weak, referenced_value}
-use Rattle.ldmodel.specs.declared.sections.Part.TheVariants.{InCommon}
-use Rattle.ldmodel_laws.specs.Outline.{DiffersInContents}
 use Rattle.emit.proofs.Objects.{same_names_at, same_object_name, same_symbol_at}
 use Rattle.emit.proofs.SameNames.{same_decision, same_entry_symbol}
 

@@ -1,32 +1,15 @@
 -- The sites of the sections of an object where they stand are all sites of the object.
-use Rattle.std.proofs.Common.{◌≡◌, ◌+◌, ◌<◌, ◌≤◌, ◌==◌, ⊎_elim, ℕ, zero, suc, Bool, true, false}
-use Rattle.std.proofs.Common.{List, [], ◌∷◌, ◌++◌, flat_map, Option, Some, None, refl, sym, ap}
-use Rattle.std.proofs.Common.{◌∙◌, subst, arith, bytes_eq}
-use Rattle.std.specs.Prelude.{slice_get}
-use Rattle.std.specs.List.{AllPairs, Contains}
-use Rattle.std.specs.Option.{option_map_or}
-use Rattle.std.proofs.lemmas.Bool.{eq-eqb, eqb-true, false≢true, and_parts}
-use Rattle.std.proofs.lemmas.Option.{same_Some}
-use Rattle.std.proofs.lemmas.Slice.Eq.{bytes_eq-Decides}
-use Rattle.elfobj.specs.Sections.{LinkedSection}
-use Rattle.ldmodel.specs.Layout.{Layout, PlacedPiece, PlacedOutput}
-use Rattle.ldmodel.specs.Project.{NamedObject, Project}
-use Rattle.ldmodel.specs.Relocations.{sites_at, sites_of_section}
-use Rattle.ldmodel.specs.Sections.{is_same_part}
-use Rattle.ldmodel.specs.Segments.{segments}
+use Rattle.emit.proofs.Common.{All-contains, AllPairs, Bool, Contains, HasLocatedSections, InTable, IsLocatedSection}
+use Rattle.emit.proofs.Common.{Layout, LinkedSection, List, LocatedSection, NamedObject, None, Option, PlacedOutput}
+use Rattle.emit.proofs.Common.{PlacedPiece, Project, Some, [], and_parts, ap, arith, bytes_eq, bytes_eq-Decides, eq-eqb}
+use Rattle.emit.proofs.Common.{eqb-true, false, false≢true, first_or_later, flat_map, here, in_flat_map, is_part}
+use Rattle.emit.proofs.Common.{is_same_part, later, linked, none_in_nil, option_map_or, placed_part, placed_pieces}
+use Rattle.emit.proofs.Common.{range_of, refl, same_Some, segments, sites_at, sites_in_all, sites_of, sites_of_section}
+use Rattle.emit.proofs.Common.{sites_there, slice_get, subst, suc, sym, true, zero, ℕ, ⊎_elim, ◌++◌, ◌+◌, ◌<◌, ◌==◌}
+use Rattle.emit.proofs.Common.{◌∙◌, ◌∷◌, ◌≡◌, ◌≤◌}
 use Rattle.ldmodel.specs.Stayed.{GoodLink, linked_piece, range_in}
-use Rattle.ldmodel.specs.SymbolValues.{is_part, placed_part, placed_pieces}
-use Rattle.ldmodel.specs.declared.sections.Part.TheVariants.{InTable}
-use Rattle.ldmodel_laws.proofs.Finding.{in_flat_map}
-use Rattle.ldmodel_laws.proofs.InImage.{linked}
-use Rattle.ldmodel_laws.proofs.Members.{first_or_later, here, later, none_in_nil}
 use Rattle.ldmodel_laws.proofs.SameParts.{same_part}
-use Rattle.emit_relocate.specs.PreviousLinkInfo.{range_of}
-use Rattle.emit.specs.Plan.{sites_in_all, sites_there}
-use Rattle.emit.specs.LocatedSections.{HasLocatedSections, IsLocatedSection, sites_of}
-use Rattle.emit.specs.declared.located_section.LocatedSection.{LocatedSection}
 use Rattle.emit.proofs.Places.{Found, found}
-use Rattle.std.proofs.lemmas.List.Elements.{All-contains}
 
 -- ---- the input section of a spot
 

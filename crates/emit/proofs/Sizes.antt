@@ -1,52 +1,23 @@
 -- An input section in the output has the size that it has in its object, and its bytes in the file.
-use Rattle.std.proofs.Common.{◌≡◌, ◌<◌, ◌≤◌, ℕ, Bool, true, false, cond, not, ◌&&◌, List, [], length, map}
-use Rattle.std.proofs.Common.{filter, Option, Some, None, get_or, refl, sym, ap, ◌∙◌, arith, IfSome}
-use Rattle.std.proofs.Common.{inl, inr, ◌⊎◌, bytes_eq, subst, ◌==◌}
-use Rattle.std.specs.List.{All, Contains, enumerate_from, range_with_len}
-use Rattle.std.specs.Option.{option_map_or}
-use Rattle.std.specs.Prelude.{slice_get}
-use Rattle.std.proofs.lemmas.Bool.{cases_lt, eq-eqb, eqb-true, false≢true}
-use Rattle.std.proofs.lemmas.List.{get_or-map, get_or_default, length-map}
-use Rattle.std.proofs.lemmas.List.Elements.{All-append, All-contains_itself, All-filter, All-map, All-same, All-weaker}
-use Rattle.std.proofs.lemmas.List.Elements.{All-contains, All-nil}
-use Rattle.std.proofs.lemmas.Option.{get_or_from_slice_get, slice_get_within}
-use Rattle.std.proofs.lemmas.Slice.Eq.{bytes_eq-Decides}
-use Rattle.elfobj.specs.Profile.{IsRelocationOfProfile}
-use Rattle.elfobj.specs.RelocationKinds.{width}
-use Rattle.elfobj.specs.Sections.{LinkedSection, section_of}
-use Rattle.elfobj.specs.declared.relocation.Relocation.{Relocation}
-use Rattle.elfobj.specs.declared.section.Section.{Section}
-use Rattle.elfobj.specs.declared.section.SectionIndex.{SectionIndex}
-use Rattle.elfobj.specs.declared.section.SectionKind.{SectionKind}
-use Rattle.ldscript.specs.statements.Numbering.{InputStatementAt, input_statements, output_sections}
-use Rattle.ldmodel.specs.Each.{Each}
-use Rattle.ldmodel.specs.Edits.{AreNamesDistinct, has_name}
+use Rattle.emit.proofs.Common.{All, All-append, All-contains, All-contains_itself, All-filter, All-map, All-nil}
+use Rattle.emit.proofs.Common.{All-same, All-weaker, AreAscending, AreInFile, AreNamesDistinct, AreOfProfile, AreSized}
+use Rattle.emit.proofs.Common.{Bool, Contains, Each, EndBelow, IfSome, InCommon, InTable, InputSection}
+use Rattle.emit.proofs.Common.{InputStatementAt, IsRelocationOfProfile, IsSpread, Layout, LinkedSection, List}
+use Rattle.emit.proofs.Common.{NamedObject, None, Option, Part, Piece, PlacedOutput, PlacedPiece, Project, Relocation}
+use Rattle.emit.proofs.Common.{Section, SectionIndex, SectionKind, Site, Some, SymbolTableState, [], ap, arith}
+use Rattle.emit.proofs.Common.{bytes_eq, bytes_eq-Decides, cases_lt, cond, entries_in, enumerate_from, eq-eqb, eqb-true}
+use Rattle.emit.proofs.Common.{false, false≢true, filter, get_or, get_or-map, get_or_default, get_or_from_slice_get}
+use Rattle.emit.proofs.Common.{has_name, inl, input_statements, inr, is_evaluated, is_part, is_same_part, known_link}
+use Rattle.emit.proofs.Common.{length, length-map, live, map, member_of, none_in_nil, not, object_named, option_map_or}
+use Rattle.emit.proofs.Common.{output_sections, placed_pieces, range_with_len, refl, rows, section_numbered, section_of}
+use Rattle.emit.proofs.Common.{segments, slice_get, slice_get_within, subst, sym, true, width, ℕ, ◌&&◌, ◌<◌, ◌==◌, ◌∙◌}
+use Rattle.emit.proofs.Common.{◌≡◌, ◌≤◌, ◌⊎◌}
 use Rattle.ldmodel.specs.Gathering.{candidates, is_discarded}
-use Rattle.ldmodel.specs.Image.{object_named, section_numbered}
 use Rattle.ldmodel.specs.InputSections.{block_at, block_of, common_block, common_blocks, input_sections, is_same_entry}
 use Rattle.ldmodel.specs.InputSections.{linked_input, object_inputs}
-use Rattle.ldmodel.specs.Layout.{Layout, PlacedPiece, PlacedOutput}
-use Rattle.ldmodel.specs.Live.{live}
 use Rattle.ldmodel.specs.Names.{Entry, Decision, Strong, Script, Common, Weak, Provided, Undefined, Duplicate, decision}
-use Rattle.ldmodel.specs.Project.{NamedObject, Project}
-use Rattle.ldmodel.specs.Relocations.{Site, is_evaluated}
-use Rattle.ldmodel.specs.Rows.{Piece, below, is_in_section, is_taken_by, piece_of, pieces_in, row, rows, sorted_pieces}
-use Rattle.ldmodel.specs.Rows.{taken}
-use Rattle.ldmodel.specs.Sections.{InputSection, is_same_part}
-use Rattle.ldmodel.specs.Segments.{segments}
-use Rattle.ldmodel.specs.Stayed.{LinkedPiece, linked_piece, linked_pieces, sites_in, sites_in_part}
-use Rattle.ldmodel.specs.Stayed.{sites_in_section}
-use Rattle.ldmodel.specs.SymbolValues.{is_part, placed_pieces}
-use Rattle.ldmodel.specs.declared.sections.Part.{Part}
-use Rattle.ldmodel.specs.declared.sections.Part.TheVariants.{InTable, InCommon}
-use Rattle.ldmodel_laws.proofs.Finding.{member_of}
-use Rattle.ldmodel_laws.proofs.Members.{none_in_nil}
-use Rattle.ldmodel_laws.specs.Spread.{IsSpread, entries_in}
-use Rattle.symres.specs.SymbolTable.{SymbolTableState}
-use Rattle.emit_relocate.specs.Filled.{EndBelow}
-use Rattle.emit_relocate.specs.Patched.{AreInFile, AreOfProfile, AreSized}
-use Rattle.emit_relocate.specs.LinkView.{known_link}
-use Rattle.emit.specs.Numbered.{AreAscending}
+use Rattle.ldmodel.specs.Rows.{below, is_in_section, is_taken_by, piece_of, pieces_in, row, sorted_pieces, taken}
+use Rattle.ldmodel.specs.Stayed.{LinkedPiece, linked_piece, linked_pieces, sites_in, sites_in_part, sites_in_section}
 use Rattle.emit.proofs.Ending.{AreBelow, EndsBelow}
 use Rattle.emit.proofs.InFile.{IsByContents, whole_range}
 use Rattle.emit.proofs.RelocatedLists.{all_filter_map, all_flat_map, all_of_map, all_second, all_sorted, found}

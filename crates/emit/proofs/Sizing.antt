@@ -1,32 +1,20 @@
 -- The sizes of the tail of a link.
-use Rattle.std.proofs.Common.{◌≡◌, ◌∙◌, sym, refl, ap, ℕ, ◌+◌, List, [], ◌∷◌, ◌++◌, length, map, flat_map, arith, suc}
-use Rattle.std.specs.Prelude.{filter_map, codes}
-use Rattle.std.specs.List.{cons_option}
-use Rattle.std.proofs.lemmas.List.{length-append, length-map}
-use Rattle.std.proofs.lemmas.List.Sums.{sum_by-append, sum_by-cons}
-use Rattle.ldmodel.specs.Layout.{Layout, PlacedOutput}
+use Rattle.emit.proofs.Common.{AreValues, Layout, List, NotDefined, OutputSectionAt, PlacedOutput, Project}
+use Rattle.emit.proofs.Common.{SymbolTableState, TailSizes, Values, [], ap, arith, codes, cons_option, filter_map}
+use Rattle.emit.proofs.Common.{flat_map, header_name_table, length, length-append, length-map, map, names_size}
+use Rattle.emit.proofs.Common.{output_sections, refl, shown_sections, shown_symbol, suc, sum_by-append, sum_by-cons}
+use Rattle.emit.proofs.Common.{sym, value_in, value_of, valued, valued_in, ℕ, ◌++◌, ◌+◌, ◌∙◌, ◌∷◌, ◌≡◌}
 use Rattle.ldmodel.specs.OutputSymbols as model
-use Rattle.ldmodel.specs.Project.{Project}
-use Rattle.ldmodel.specs.SectionHeaders.{header_name_table}
 use Rattle.ldmodel.specs.SectionHeaders as headings
-use Rattle.ldmodel.specs.SymbolValues.{SymbolValue, Number, NotDefined, NotInOutput}
+use Rattle.ldmodel.specs.SymbolValues.{SymbolValue, Number, NotInOutput}
 use Rattle.ldmodel.specs.Tail.{ValuedSymbol, string_table, symbol_name_table, table_symbols, with_value}
 use Rattle.ldmodel.specs.Tail as tail
-use Rattle.symres.specs.SymbolTable.{SymbolTableState}
-use Rattle.place.specs.sections.Meetings.{AreOutputs}
+use Rattle.place.specs.sections.OverlapFaults.{AreOutputs}
 use Rattle.place.specs.Length.{AreTailSizes}
-use Rattle.place.specs.declared.length.TailSizes.{TailSizes}
-use Rattle.emit_relocate.specs.Values.{value_of}
-use Rattle.ldscript.specs.statements.Numbered.{shown_sections}
-use Rattle.ldscript.specs.statements.Numbering.{OutputSectionAt, output_sections}
 use Rattle.ldscript.specs.statements.declared.numbering.OutputSectionAt as code_section
 use Rattle.emit_relocate.specs.Sizes.{plus_symbol, plus_symbols, plus_value}
-use Rattle.emit_relocate.specs.SymbolRows.{value_in}
-use Rattle.emit_relocate.specs.LinkValues.{AreValues, shown_symbol}
 use Rattle.emit_relocate.specs.declared.sizes.SymbolSizes.{SymbolSizes}
 use Rattle.emit_relocate.specs.declared.values.OutputSymbol.{OutputSymbol}
-use Rattle.emit_relocate.specs.declared.values.Values.{Values}
-use Rattle.emit.specs.Sizes.{names_size, valued, valued_in}
 
 abbrev pub tree_names : List code_section.OutputSectionAt → List (List ℕ)
 tree_names xs = map (λ (o : OutputSectionAt). o.section.name) (shown_sections xs)

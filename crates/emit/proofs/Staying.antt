@@ -1,26 +1,15 @@
 -- What stays of a drawing, by what is said of keys.
-use Rattle.std.proofs.Common.{◌≡◌, ◌∙◌, sym, ap, subst, refl, zero, suc, ℕ, ◌<◌, List, [], ◌∷◌, length, map, filter}
-use Rattle.std.proofs.Common.{Bool, true, false, cond, not, ◌==◌, arith, get_or, Option, Some, None}
-use Rattle.std.specs.Prelude.{IfSome, is_some}
-use Rattle.std.proofs.lemmas.Bool.{true≢false}
-use Rattle.std.specs.List.{All, AllZip, Contains}
+use Rattle.emit.proofs.Common.{All, AllZip, AreStayedByKey, Bool, Contains, IfSome, ImagePiece, ImageSection, KnownLink}
+use Rattle.emit.proofs.Common.{Layout, List, None, Option, PlacedOutput, PlacedPiece, Project, SectionInFile}
+use Rattle.emit.proofs.Common.{SectionRef, Some, SymbolTableState, [], ap, arith, cond, false, filter, get_or, in_file}
+use Rattle.emit.proofs.Common.{is_some, known_link, length, loaded, map, nonempty, not, refl, segments, subst, suc, sym}
+use Rattle.emit.proofs.Common.{true, true≢false, zero, ℕ, ◌<◌, ◌==◌, ◌∙◌, ◌∷◌, ◌≡◌}
 use Rattle.emit_image.specs.Redrawings.{HasStayed, IsMarkedIfStayed, linked_in}
-use Rattle.emit_image.specs.OfLink.{loaded}
-use Rattle.emit_image.specs.declared.section.ImagePiece.{ImagePiece}
-use Rattle.emit_image.specs.declared.section.ImageSection.{ImageSection}
-use Rattle.ldmodel.specs.Layout.{Layout, PlacedPiece, PlacedOutput}
-use Rattle.ldmodel.specs.Project.{Project}
-use Rattle.ldmodel.specs.Segments.{SectionInFile, in_file, nonempty, segments}
 use Rattle.ldmodel.specs.Stayed.{GoodLink, LinkedPiece, has_stayed, linked_piece, link_pieces}
-use Rattle.ldmodel.specs.declared.sections.SectionKey.{SectionKey}
-use Rattle.symres.specs.SymbolTable.{SymbolTableState}
 use Rattle.emit_relocate.specs.PreviousLinkInfo.{HasStayedAt, IsComplete, IsPieceOf}
-use Rattle.emit_relocate.specs.KnownLink.{KnownLink}
 use Rattle.emit_relocate.specs.declared.previous_link_info.FileRange.{FileRange}
-use Rattle.emit_relocate.specs.LinkView.{known_link}
 use Rattle.emit.proofs.Lists.{zip_each, zip_right}
 use Rattle.emit.specs.StayedPieces.{AreAllThatStayed, HaveStayed, IsStayedByKey, IsKeyed, IsSound}
-use Rattle.emit.specs.Output.{AreStayedByKey}
 
 -- what a filter keeps was in the list
 filtered : {X : Type 0} (p : X → Bool) (xs : List X) (x : X) → Contains (filter p xs) x → Contains xs x
@@ -65,8 +54,8 @@ in_layout laws s x c =
     (filtered (λ (y : SectionInFile). y.section.has_file_bytes) (in_file (segments s.sections)) x c)))
 
 -- nothing stays where no key does
-pub none_stays : (p : Project) (s : Layout) (stays : SectionKey → Bool) (ys : List ImageSection)
-    → ((k : SectionKey) → stays k ≡ false) → AllZip (AreStayedByKey p stays) (loaded s) ys
+pub none_stays : (p : Project) (s : Layout) (stays : SectionRef → Bool) (ys : List ImageSection)
+    → ((k : SectionRef) → stays k ≡ false) → AllZip (AreStayedByKey p stays) (loaded s) ys
     → All (λ (x : ImageSection). All (λ (y : ImagePiece). y.stays ≡ false) x.pieces.now) ys
 none_stays p s stays ys none z =
     zip_right (AreStayedByKey p stays)
@@ -79,7 +68,7 @@ abbrev EachDrawn : (PlacedOutput → PlacedPiece → ImagePiece → Type 0) → 
 EachDrawn R s ys =
     AllZip (λ (x : SectionInFile) (y : ImageSection). AllZip (R x.section) x.section.pieces y.pieces.now) (loaded s) ys
 
-module _ (laws : Laws) (old new : GoodLink) (stays : SectionKey → Bool) (ys : List ImageSection)
+module _ (laws : Laws) (old new : GoodLink) (stays : SectionRef → Bool) (ys : List ImageSection)
     (kept : AllZip (AreStayedByKey new.project stays) (loaded new.layout) ys) where
   by_piece : (R : PlacedOutput → PlacedPiece → ImagePiece → Type 0)
       → ((x : SectionInFile) (w : PlacedPiece) (y : ImagePiece) (k : IsStayedByKey new.project stays w y)
@@ -109,12 +98,12 @@ module _ (laws : Laws) (old new : GoodLink) (stays : SectionKey → Bool) (ys : 
 abbrev link_at : GoodLink → SymbolTableState → KnownLink
 link_at new a = known_link new.project new.layout a
 
-piece_of : (new : GoodLink) (a : SymbolTableState) (k : SectionKey) (x : LinkedPiece) → IsKeyed new k x
+piece_of : (new : GoodLink) (a : SymbolTableState) (k : SectionRef) (x : LinkedPiece) → IsKeyed new k x
     → IsPieceOf (link_at new a) k x
 piece_of new a k x h = record { among = h.among; object_is = sym h.object; part_is = sym h.part }
 
 -- what is known to have stayed has
-pub only_said : (old new : GoodLink) (a : SymbolTableState) (range : SectionKey → Option FileRange)
+pub only_said : (old new : GoodLink) (a : SymbolTableState) (range : SectionRef → Option FileRange)
     → IsSound range old (link_at new a) → HaveStayed old new (λ k. is_some (range k))
 only_said old new a range sound k x said is = go (range k) said (sound k)
   where
@@ -124,7 +113,7 @@ only_said old new a range sound k x said is = go (range k) said (sound k)
     go (Some r) e h = (h x (piece_of new a k x is)).0
 
 -- what has stayed is known to have
-pub all_said : (old new : GoodLink) (a : SymbolTableState) (range : SectionKey → Option FileRange)
+pub all_said : (old new : GoodLink) (a : SymbolTableState) (range : SectionRef → Option FileRange)
     → IsComplete range old (link_at new a) → AreAllThatStayed old new (λ k. is_some (range k))
 all_said old new a range complete k x is stayed = go (range k) refl
   where

@@ -1,23 +1,12 @@
 -- The drawing of a link.
-use Rattle.std.proofs.Common.{◌≡◌, ◌∙◌, refl, subst, sym, Bool, ℕ, ◌<◌, ◌≤◌, ◌^◌, List, [], ◌∷◌, arith}
-use Rattle.std.proofs.Common.{length}
-use Rattle.std.specs.Borrow.{Bor}
-use Rattle.std.specs.List.{All, AllZip}
-use Rattle.emit_fields.specs.declared.patch.Patch.{Patch}
+use Rattle.emit.proofs.Common.{All, AllZip, AreAlike, ArePartsOf, Bool, Bor, EndsBy, FilePart, ImageSection}
+use Rattle.emit.proofs.Common.{IsDrawingOf, IsImagePart, IsJoined, IsJoinedSection, Layout, List, Patch, Project}
+use Rattle.emit.proofs.Common.{SectionRef, [], arith, header_part, image_length, length, nonempty, refl, subst, sym}
+use Rattle.emit.proofs.Common.{tail, ℕ, ◌<◌, ◌^◌, ◌∙◌, ◌∷◌, ◌≡◌, ◌≤◌}
 use Rattle.emit_image.specs.Drawing.{IsDrawing, drawing_end, end_of_parts, end_of_sections}
 use Rattle.emit_image.specs.InMemory.{AreFilled, IsInMemory}
-use Rattle.emit_image.specs.Joined.{AreAlike, IsJoined, IsJoinedSection}
-use Rattle.emit_image.specs.OfLink.{IsDrawingOf, IsImagePart}
-use Rattle.emit_image.specs.Stretches.{EndsBy}
 use Rattle.emit_image.specs.declared.section.Drawing.{Drawing}
 use Rattle.emit_image.specs.declared.section.ImagePart.{ImagePart}
-use Rattle.emit_image.specs.declared.section.ImageSection.{ImageSection}
-use Rattle.ldmodel.specs.Layout.{Layout}
-use Rattle.ldmodel.specs.Project.{Project}
-use Rattle.ldmodel.specs.SectionHeaders.{FilePart, header_part, image_length, tail}
-use Rattle.ldmodel.specs.Segments.{nonempty}
-use Rattle.ldmodel.specs.declared.sections.SectionKey.{SectionKey}
-use Rattle.emit.specs.Parts.{ArePartsOf}
 use Rattle.emit.specs.declared.parts.ImageParts.{ImageParts}
 
 -- the last part of the tail are the section headers
@@ -34,7 +23,7 @@ pub record IsMade (x : ImageParts) (d : Drawing) : Type 0 where
 below_64 : (n : ℕ) → n ≤ 2 ^ 28 → n < 2 ^ 64
 below_64 n h = omega (arith, h)
 
-module _ (p : Project) (s : Layout) (stays : SectionKey → Bool) (x : ImageParts) (d : Drawing) (made : IsMade x d)
+module _ (p : Project) (s : Layout) (stays : SectionRef → Bool) (x : ImageParts) (d : Drawing) (made : IsMade x d)
     (are : ArePartsOf p s stays x) where
   -- the drawing that has each input section
   abbrev pub whole : Drawing
@@ -61,7 +50,7 @@ module _ (p : Project) (s : Layout) (stays : SectionKey → Bool) (x : ImagePart
       law whole drawing_of memory are.drawn.filled (below_64 (image_length p s) short)
 
 -- what ends by the image ends by the drawing of these parts
-pub ends_in : (p : Project) (s : Layout) (stays : SectionKey → Bool) (x : ImageParts) (headers : Bor (List ℕ))
+pub ends_in : (p : Project) (s : Layout) (stays : SectionRef → Bool) (x : ImageParts) (headers : Bor (List ℕ))
     (sections : Bor (List ImageSection)) (parts : List ImagePart) (patches : List Patch)
     → ((d : Drawing) → IsDrawingOf p s d → drawing_end d ≡ image_length p s)
     → ((w d : Drawing) → IsJoined w d → AreAlike w d) → headers.now ≡ x.headers.items

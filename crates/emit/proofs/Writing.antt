@@ -1,19 +1,10 @@
 -- Bytes written over the bytes of a file, one list after another.
-use Rattle.std.proofs.Common.{◌≡◌, ◌+◌, ◌-◌, ◌<◌, ◌≤◌, ◌^◌, ◌⊎◌, inl, inr, ⊎_elim, ℕ, List, [], ◌∷◌, ◌++◌, length, take}
-use Rattle.std.proofs.Common.{get_or, slice_index, sym, ap, ◌∙◌, subst, arith, add-one, take-suc}
-use Rattle.std.specs.Prelude.{sum_by}
-use Rattle.std.specs.List.{All}
-use Rattle.std.proofs.lemmas.Bool.{cases_lt}
-use Rattle.std.proofs.lemmas.List.{get_or-map, length-map, map-append}
-use Rattle.std.proofs.lemmas.List.Elements.{Contains-append_cases, Contains-append_left, Contains-append_right}
-use Rattle.std.proofs.lemmas.List.Sums.{sum_by-append, sum_by-cons}
-use Rattle.emit_fields.specs.Patches.{patched_byte}
-use Rattle.ldmodel.specs.Counts.{Counts, capped}
-use Rattle.ldmodel.specs.Raised.{raised}
-use Rattle.elfobj.specs.declared.meter.Count.TheVariants.{Bytes}
-use Rattle.ldmodel_laws.proofs.Members.{first_or_later, here, none_in_nil}
-use Rattle.emit.specs.Plan.{AreWritten, ComesOf, IsAsBefore, IsWithin, Written, count_of, written, written_all}
-use Rattle.emit.specs.declared.plan.PlannedSection.{PlannedSection}
+use Rattle.emit.proofs.Common.{All, AreWritten, Bytes, ComesOf, Contains-append_cases, Contains-append_left}
+use Rattle.emit.proofs.Common.{Contains-append_right, Counts, IsAsBefore, IsWithin, List, PlannedSection, Written, []}
+use Rattle.emit.proofs.Common.{add-one, ap, arith, capped, cases_lt, count_of, first_or_later, get_or, get_or-map, here}
+use Rattle.emit.proofs.Common.{inl, inr, length, length-map, map-append, none_in_nil, patched_byte, raised, slice_index}
+use Rattle.emit.proofs.Common.{subst, sum_by, sum_by-append, sum_by-cons, sym, take, take-suc, written, written_all, ℕ}
+use Rattle.emit.proofs.Common.{⊎_elim, ◌++◌, ◌+◌, ◌-◌, ◌<◌, ◌^◌, ◌∙◌, ◌∷◌, ◌≡◌, ◌≤◌, ◌⊎◌}
 
 -- what a write changes
 pub record IsStep (w : Written) (old new : List ℕ) : Type 0 where

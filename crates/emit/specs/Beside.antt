@@ -13,7 +13,7 @@ use Rattle.ldmodel.specs.Relocations.{relocation_faults, sites}
 use Rattle.ldmodel.specs.SectionHeaders.{image_length}
 use Rattle.ldmodel.specs.Stayed.{GoodLink, retargeted}
 use Rattle.ldmodel.specs.WorkBound.{retargeted_bytes, sites_outside}
-use Rattle.ldmodel.specs.declared.sections.SectionKey.{SectionKey}
+use Rattle.ldmodel.specs.declared.sections.SectionRef.{SectionRef}
 use Rattle.symres.specs.SymbolTable.{SymbolTableState}
 use Rattle.ldmodel_project.specs.ByPlace.{faults_in}
 use Rattle.emit_relocate.specs.PreviousLinkInfo.{IsComplete}
@@ -32,7 +32,7 @@ new_link project layout = record { project = project; layout = layout }
 -- fields of its sites whose symbol has another value, between good links with as many bytes as all of them, and what
 -- is counted are these sites and those outside of what stayed. Where nothing is known to have stayed, all is evaluated,
 -- and each site counted whose symbol has a value. Nothing else is counted in any case
-pub record IsRelocatedBeside (old : GoodLink) (range : SectionKey → Option FileRange) (project : Project)
+pub record IsRelocatedBeside (old : GoodLink) (range : SectionRef → Option FileRange) (project : Project)
     (layout : Layout)
     (table : SymbolTableState) (r : Relocated) (before after : Counts) : Type 0 where
   pub fields : AreRunsUnless (known_link project layout table) (λ k. is_some (range k)) r.patches.items r.ends.items
@@ -50,7 +50,7 @@ pub record IsRelocatedBeside (old : GoodLink) (range : SectionKey → Option Fil
       → after
       ≡ raised before Fields (length (sites_outside old (new_link project layout)) + length
       (retargeted old (new_link project layout)))
-  pub anew : ((key : SectionKey) → range key ≡ None) → IsRelocated project layout table r
+  pub anew : ((key : SectionRef) → range key ≡ None) → IsRelocated project layout table r
   pub all_counted :
-      ((key : SectionKey) → range key ≡ None)
+      ((key : SectionRef) → range key ≡ None)
       → after ≡ raised before Fields (evaluations (known_link project layout table) (sites project layout))

@@ -5,7 +5,7 @@ use Rattle.ldmodel.specs.Layout.{Layout}
 use Rattle.ldmodel.specs.Link.{max_image_length}
 use Rattle.ldmodel.specs.Project.{Project}
 use Rattle.ldmodel.specs.SectionHeaders.{image_length}
-use Rattle.ldmodel.specs.declared.sections.SectionKey.{SectionKey}
+use Rattle.ldmodel.specs.declared.sections.SectionRef.{SectionRef}
 use Rattle.symres.specs.SymbolTable.{SymbolTableState}
 use Rattle.emit.specs.declared.relocated.Relocated.{Relocated}
 use Rattle.place.specs.IndexedLayout.{IsIndexedLayout}
@@ -21,7 +21,7 @@ use Rattle.emit.specs.declared.output.OutputDrawing.{OutputDrawing}
 pub record IsDrawableAt (project : Project) (layout : Layout) (table : SymbolTableState) (x : IndexedLayout)
     (v : Values)
     (r : Relocated)
-    (stays : SectionKey → Bool) : Type 0 where
+    (stays : SectionRef → Bool) : Type 0 where
   pub indexed_layout : IsIndexedLayout project layout x
   pub values : AreValues project layout table v
   pub fields : AreRunsUnless (known_link project layout table) stays r.patches.items r.ends.items
@@ -29,13 +29,13 @@ pub record IsDrawableAt (project : Project) (layout : Layout) (table : SymbolTab
 
 -- the project has such a layout
 pub record IsDrawable (project : Project) (x : IndexedLayout) (v : Values) (r : Relocated)
-    (stays : SectionKey → Bool) : Type 0 where
+    (stays : SectionRef → Bool) : Type 0 where
   pub layout : Layout
   pub names : SymbolTableState
   pub is : IsDrawableAt project layout names x v r stays
 
 -- the same, and these are its output sections, of which these input sections stay
-pub record AreOutputs (project : Project) (x : IndexedLayout) (v : Values) (layout : Layout) (stays : SectionKey → Bool)
+pub record AreOutputs (project : Project) (x : IndexedLayout) (v : Values) (layout : Layout) (stays : SectionRef → Bool)
     (xs : List OutputDrawing) : Type 0 where
   pub names : SymbolTableState
   pub indexed_layout : IsIndexedLayout project layout x
@@ -46,5 +46,5 @@ pub record AreOutputs (project : Project) (x : IndexedLayout) (v : Values) (layo
 -- it has a layout with these output sections
 pub record HasOutputs (project : Project) (x : IndexedLayout) (v : Values) (xs : List OutputDrawing) : Type 0 where
   pub layout : Layout
-  pub stays : SectionKey → Bool
+  pub stays : SectionRef → Bool
   pub are : AreOutputs project x v layout stays xs

@@ -8,13 +8,13 @@ use Rattle.ldmodel.specs.PlacementView.{placed_of}
 use Rattle.ldmodel.specs.Project.{Project}
 use Rattle.ldmodel.specs.declared.placed.Placed.{Placed}
 use Rattle.ldmodel.specs.declared.placed.PlacedData.{PlacedData}
-use Rattle.ldmodel.specs.declared.sections.SectionKey.{SectionKey}
+use Rattle.ldmodel.specs.declared.sections.SectionRef.{SectionRef}
 use Rattle.ldscript.specs.statements.Numbering.{OutputSectionAt}
 use Rattle.emit.specs.DataRuns.{AreDataOf}
 use Rattle.emit.specs.Output.{IsJoinedRow}
 
 -- those of a number are of an output section
-pub record IsAt (project : Project) (layout : Layout) (stays : SectionKey → Bool) (output : PlacedOutput) (k : ℕ)
+pub record IsAt (project : Project) (layout : Layout) (stays : SectionRef → Bool) (output : PlacedOutput) (k : ℕ)
     (place : Placed)
     (os : List OutputSectionAt) (offsets : List ℕ) (rows : List (List ImagePiece)) (runs : List (List PlacedData))
     : Type 0 where
@@ -26,7 +26,7 @@ pub record IsAt (project : Project) (layout : Layout) (stays : SectionKey → Bo
   pub data_commands : (ds : List PlacedData) → slice_get runs k ≡ Some ds → AreDataOf output ds
 
 -- all are those of a layout
-pub record AreJoined (project : Project) (layout : Layout) (stays : SectionKey → Bool) (places : List Placed)
+pub record AreJoined (project : Project) (layout : Layout) (stays : SectionRef → Bool) (places : List Placed)
     (os : List OutputSectionAt) (offsets : List ℕ) (rows : List (List ImagePiece)) (runs : List (List PlacedData))
     : Type 0 where
   pub placed : map placed_of layout.sections ≡ places

@@ -1,4 +1,4 @@
--- Objects under their keys, and what was found of them as they were read.
+-- What was found of objects as they were read.
 use Rattle.std.specs.Prelude.{◌≡◌, ◌<◌, List, length, map, Some, slice_get}
 use Rattle.std.specs.List.{All, AllPairs}
 use Rattle.elfobj.specs.Object.{ObjectData, object_of}
@@ -17,7 +17,3 @@ pub record IsRead (o : ObjectData) : Type 0 where
   pub spelt : o ≡ object_of o.text
   pub ascending : AreAscending o.sections
   pub relocations : All (HasRelocationsOfProfile (length o.symbols)) o.sections
-
--- the keys are those of some of all members, in their order; a key is a place
-abbrev pub AreKeysOf : {X : Type 0} → (some all : List X) → List ObjectPlace → Type 0
-AreKeysOf some all ks = map (λ (k : ObjectPlace). slice_get all k.0) ks ≡ map Some some

@@ -6,7 +6,7 @@ use Rattle.ldmodel.specs.Layout.{Layout, PlacedOutput}
 use Rattle.ldmodel.specs.PlacementView.{placed_of}
 use Rattle.ldmodel.specs.Project.{Project}
 use Rattle.ldmodel.specs.Segments.{SectionInFile, file_offset, nonempty, segments}
-use Rattle.ldmodel.specs.declared.sections.SectionKey.{SectionKey}
+use Rattle.ldmodel.specs.declared.sections.SectionRef.{SectionRef}
 use Rattle.emit_image.specs.Drawing.{IsFilled}
 use Rattle.emit_image.specs.InMemory.{IsSectionFilled}
 use Rattle.emit_image.specs.Joined.{IsJoinedSection, StandFor}
@@ -18,7 +18,7 @@ use Rattle.emit.specs.StayedPieces.{IsStayedByKey}
 use Rattle.emit.specs.declared.output.OutputDrawing.{OutputDrawing}
 
 -- the input sections of an output section, each of which stays if its key does; bytes and fields fill each
-pub record IsRow (project : Project) (layout : Layout) (stays : SectionKey → Bool) (output : PlacedOutput)
+pub record IsRow (project : Project) (layout : Layout) (stays : SectionRef → Bool) (output : PlacedOutput)
     (ys : List ImagePiece)
     : Type 0 where
   pub pieces : AllZip (IsImagePiece project layout) output.pieces ys
@@ -26,14 +26,14 @@ pub record IsRow (project : Project) (layout : Layout) (stays : SectionKey → B
   pub kept : AllZip (IsStayedByKey project stays) output.pieces ys
 
 -- the same, where those that stay may be joined
-pub record IsJoinedRow (project : Project) (layout : Layout) (stays : SectionKey → Bool) (output : PlacedOutput)
+pub record IsJoinedRow (project : Project) (layout : Layout) (stays : SectionRef → Bool) (output : PlacedOutput)
     (ys : List ImagePiece) : Type 0 where
   pub whole : List ImagePiece
   pub row : IsRow project layout stays output whole
   pub joined : StandFor whole ys
 
 -- all that is drawn of an output section
-pub record IsOutput (project : Project) (layout : Layout) (stays : SectionKey → Bool) (output : PlacedOutput)
+pub record IsOutput (project : Project) (layout : Layout) (stays : SectionRef → Bool) (output : PlacedOutput)
     (x : OutputDrawing)
     : Type 0 where
   pub name : x.name.now ≡ output.name
@@ -46,7 +46,7 @@ pub record IsOutput (project : Project) (layout : Layout) (stays : SectionKey �
   pub data_commands : AllZip IsImageData output.data_commands x.data_commands.now
 
 -- each input section of an output section stays if its key does
-abbrev pub AreStayedByKey : Project → (SectionKey → Bool) → SectionInFile → ImageSection → Type 0
+abbrev pub AreStayedByKey : Project → (SectionRef → Bool) → SectionInFile → ImageSection → Type 0
 AreStayedByKey project stays x y = AllZip (IsStayedByKey project stays) x.section.pieces y.pieces.now
 
 -- an output section, and where it begins in the file
@@ -54,7 +54,7 @@ abbrev pub in_file_at : Layout → PlacedOutput → SectionInFile
 in_file_at layout output = record { offset = file_offset (segments layout.sections) output; section = output }
 
 -- an output section as it is drawn, of whose input sections those that stay may be joined
-pub record IsDrawn (project : Project) (layout : Layout) (stays : SectionKey → Bool) (output : PlacedOutput)
+pub record IsDrawn (project : Project) (layout : Layout) (stays : SectionRef → Bool) (output : PlacedOutput)
     (y : ImageSection)
     : Type 0 where
   pub whole : ImageSection
@@ -67,7 +67,7 @@ pub record IsDrawn (project : Project) (layout : Layout) (stays : SectionKey →
 abbrev pub with_bytes : Layout → List PlacedOutput → List SectionInFile
 with_bytes layout qs = filter (λ (x : SectionInFile). x.section.has_file_bytes) (map (in_file_at layout) (nonempty qs))
 
-pub record AreDrawnOf (project : Project) (layout : Layout) (stays : SectionKey → Bool) (qs : List PlacedOutput)
+pub record AreDrawnOf (project : Project) (layout : Layout) (stays : SectionRef → Bool) (qs : List PlacedOutput)
     (ys : List ImageSection) : Type 0 where
   pub wholes : List ImageSection
   pub sections : AllZip (IsImageSection project layout) (with_bytes layout qs) wholes
@@ -76,7 +76,7 @@ pub record AreDrawnOf (project : Project) (layout : Layout) (stays : SectionKey 
   pub joined : AllZip IsJoinedSection wholes ys
 
 -- the output sections with bytes in the file, as they are drawn
-pub record AreDrawn (project : Project) (layout : Layout) (stays : SectionKey → Bool)
+pub record AreDrawn (project : Project) (layout : Layout) (stays : SectionRef → Bool)
     (ys : List ImageSection) : Type 0 where
   pub wholes : List ImageSection
   pub sections : AllZip (IsImageSection project layout) (loaded layout) wholes

@@ -16,7 +16,7 @@ use Rattle.ldmodel.specs.Project.{NamedObject, Project}
 use Rattle.ldmodel.specs.Rows.{Piece}
 use Rattle.ldmodel.specs.SymbolValues.{placed_part}
 use Rattle.ldmodel.specs.declared.sections.Part.TheVariants.{InTable}
-use Rattle.ldmodel.specs.declared.sections.SectionKey.{SectionKey}
+use Rattle.ldmodel.specs.declared.sections.SectionRef.{SectionRef}
 use Rattle.emit.specs.declared.relocated.Relocated.{Relocated}
 use Rattle.emit_relocate.specs.KnownLink.{KnownLink}
 use Rattle.emit.specs.StayedPieces.{IsStayedByKey}
@@ -25,7 +25,7 @@ use Rattle.place.specs.declared.indexed_layout.IndexedLayout.{IndexedLayout}
 use Rattle.emit.specs.Runs.{AreRunsUnless}
 
 -- where everything stands, and the fields of the sections that do not stay, are those of a link
-pub record AreSources (link : KnownLink) (stays : SectionKey → Bool) (a : IndexedLayout) (r : Relocated) : Type 0 where
+pub record AreSources (link : KnownLink) (stays : SectionRef → Bool) (a : IndexedLayout) (r : Relocated) : Type 0 where
   pub indexed_layout : IsIndexedLayout link.project link.layout a
   pub runs : AreRunsUnless link stays r.patches.items r.ends.items
 
@@ -47,7 +47,7 @@ pub record IsDrawnPiece (project : Project) (layout : Layout) (w : PlacedPiece) 
   pub unstayed : y.stays ≡ false
 
 -- an input section in its place, which stays if its key does
-pub record IsRowPiece (project : Project) (layout : Layout) (stays : SectionKey → Bool) (w : PlacedPiece)
+pub record IsRowPiece (project : Project) (layout : Layout) (stays : SectionRef → Bool) (w : PlacedPiece)
     (y : ImagePiece)
     : Type 0 where
   pub piece : IsImagePiece project layout w y

@@ -5,7 +5,7 @@ ghost use Rattle.std.specs.List.{AllZip};
 ghost use Rattle.ldmodel.specs.Layout.{PlacedOutput};
 ghost use Rattle.emit.specs.DataRuns.{AreDataFrom, AreDataOf, run_length};
 
-use ldmodel::memory::NoMemory;
+use growth::{NoMemory, vec};
 use ldmodel::placed::PlacedData;
 use std::alloc::Global;
 
@@ -36,12 +36,12 @@ pub(crate) fn data_runs<'a>(
     ensures { IfOk result (λ v. (qs : List PlacedOutput) → AreDataFrom 0 qs commands.now → sections ≡ length qs
         → AllZip AreDataOf qs (map (λ run. run.now) v.items)) }
 {
-    let mut runs = Vec::with_capacity(alloc, sections)?;
+    let mut runs = vec::with_capacity(alloc, sections)?;
     let mut at = 0;
     for section in 0..sections {
         let rest = &commands[at..];
         let run = &rest[..run_length(rest, section)];
-        runs.push(run)?;
+        vec::push(&mut runs, run)?;
         at += run.len();
     }
     Ok(runs)

@@ -1,4 +1,4 @@
-//! The fault lines of a link.
+//! The fault lines of a link, with the names of its script; `emit_text::faults` writes them.
 
 ghost use Rattle.std.specs.Prelude.{◌≡◌, IfOk};
 ghost use Rattle.ldmodel.specs.FaultText as definition;
@@ -7,8 +7,8 @@ ghost use Rattle.ldmodel_project.specs.ByPlace.{faults_in};
 use emit_text::assertion::assertions;
 use emit_text::faults;
 use emit_text::script_names::ScriptNames;
+use growth::NoMemory;
 use ldmodel::fault::Fault;
-use ldmodel::memory::NoMemory;
 use ldmodel_project::view::ProjectView;
 use place::terms::mentioned::mentioned_names;
 use std::alloc::Global;

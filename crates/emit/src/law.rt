@@ -14,7 +14,7 @@ ghost use Rattle.emit_relocate.specs.Patched.{AreInFile, AreOfProfile, AreSized}
 ghost use Rattle.emit_relocate.specs.LinkView.{known_link};
 
 use ldmodel_laws::gathering::live_by_path;
-use ldmodel_laws::layout::{layout_by_effects, nothing_meets, placed_are_rows};
+use ldmodel_laws::layout::{layout_by_effects, nothing_overlaps, placed_are_rows};
 use ldmodel_laws::stayed::fields_in_image;
 
 /// Each section of an object that stands in a layout ends below 2^64, by its own size.
@@ -49,7 +49,7 @@ pub(crate) fn pieces_in_file()
         → AreInFile (record { project = project; layout = layout }) }
 {
     layout_by_effects();
-    nothing_meets();
+    nothing_overlaps();
     placed_are_rows();
     live_by_path();
     fields_in_image();

@@ -13,7 +13,7 @@ ghost use Rattle.emit.specs.Sizes.{names_size};
 
 use emit_relocate::sizes::plus;
 use emit_relocate::values::Values;
-use ldmodel::memory::NoMemory;
+use growth::NoMemory;
 use ldmodel_project::view::ProjectView;
 use ldscript::tree::OutputSectionAt;
 use place::LinkLayout;

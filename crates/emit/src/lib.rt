@@ -1,8 +1,9 @@
 //! The output of a link: the fields of its relocations, its image, and its texts. Takes the layout and values of a
 //! project, and perhaps a previous link; gives fields or their faults, the bytes drawn, the map and the fault lines.
 //!
-//! - `relocated` over `keys`: the fields of all relocations, or their faults; `law`;
-//! - `drawing` over `output`, `parts`, `pieces`, `data_runs`, `section_fields`, `symbols`: the image; `length`;
+//! - `relocated` over `objects_read`: the fields of all relocations, or their faults; `law`;
+//! - `drawing` over `image_sources`, `output`, `parts`, `pieces`, `data_runs`, `section_fields`, `symbols`: the image;
+//!   `length`;
 //! - `good`: a link without faults is one that the laws on two links speak of;
 //! - `rewrite` over `plan` and `located_section`: the sections of one object over those in the previous image, if
 //!   nothing else of the link has changed; `rewritten`: what is then the same;
@@ -14,11 +15,12 @@ mod data_runs;
 pub mod drawing;
 pub mod fault_lines;
 pub mod good;
-mod keys;
+pub mod image_sources;
 mod law;
 pub mod length;
 pub mod located_section;
 pub mod map;
+mod objects_read;
 mod output;
 mod parts;
 mod pieces;

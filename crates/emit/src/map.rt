@@ -13,7 +13,7 @@ use emit_relocate::values::{OutputSymbol, Values};
 use emit_text::maps;
 use emit_text::maps::MapParts;
 use emit_text::symbols::{MapSymbol, MapSymbols};
-use ldmodel::memory::NoMemory;
+use growth::NoMemory;
 use ldmodel::rows::Piece;
 use ldmodel_laws::layout::placed_are_rows;
 use ldmodel_project::view::ProjectView;

@@ -8,14 +8,14 @@ ghost use Rattle.place.specs.LinkLayout.{IsLinkLayout};
 ghost use Rattle.ldmodel.specs.Image.{fill_byte};
 ghost use Rattle.ldmodel.specs.Layout.{Layout, PlacedOutput};
 ghost use Rattle.ldmodel.specs.Project.{Project};
-ghost use Rattle.ldmodel.specs.declared.sections.SectionKey.{SectionKey};
+ghost use Rattle.ldmodel.specs.declared.sections.SectionRef.{SectionRef};
 ghost use Rattle.ldscript.specs.statements.Numbered.{shown_sections};
 ghost use Rattle.emit.specs.Joined.{AreJoined, IsAt};
 ghost use Rattle.emit.specs.Output.{IsJoinedRow, IsOutput};
 
 use crate::data_runs::data_runs;
 use emit_image::section::ImagePiece;
-use ldmodel::memory::NoMemory;
+use growth::{NoMemory, vec};
 use ldmodel::placed::{Placed, PlacedData};
 use ldmodel_laws::layout::layout_by_effects;
 use ldmodel_project::view::ProjectView;
@@ -65,7 +65,7 @@ fn output_at<'a>(
     pieces: &'a [Vec<ImagePiece<'a>>],
     runs: &[&'a [PlacedData]],
 ) -> Option<OutputDrawing<'a>>
-    ensures some { IfSome result (λ x. (project : Project) (layout : Layout) (stays : SectionKey → Bool)
+    ensures some { IfSome result (λ x. (project : Project) (layout : Layout) (stays : SectionRef → Bool)
         (output : PlacedOutput)
         → IsAt project layout stays output number placed.now (shown_sections sections.now) offsets.now
         (map vec_items pieces.now)
@@ -97,14 +97,14 @@ fn join<'a>(
     pieces: &'a [Vec<ImagePiece<'a>>],
     runs: &[&'a [PlacedData]],
 ) -> Result<Vec<OutputDrawing<'a>>, NoMemory>
-    ensures { IfOk result (λ v. (project : Project) (layout : Layout) (stays : SectionKey → Bool)
+    ensures { IfOk result (λ v. (project : Project) (layout : Layout) (stays : SectionRef → Bool)
         → AreJoined project layout stays placed.now (shown_sections sections.now) offsets.now (map vec_items pieces.now)
         (map (λ run. run.now) runs.now) → AllZip (IsOutput project layout stays) layout.sections v.items) }
 {
-    let mut outputs = Vec::with_capacity(alloc, placed.len())?;
+    let mut outputs = vec::with_capacity(alloc, placed.len())?;
     for (number, place) in placed.iter().enumerate() {
         match output_at(number, place, sections, offsets, pieces, runs) {
-            Some(output) => outputs.push(output)?,
+            Some(output) => vec::push(&mut outputs, output)?,
             None => {}
         }
     }
@@ -122,7 +122,7 @@ pub(crate) fn outputs<'a>(
     link_layout: &'a LinkLayout,
     pieces: &'a [Vec<ImagePiece<'a>>],
 ) -> Result<Vec<OutputDrawing<'a>>, NoMemory>
-    ensures { IfOk result (λ v. (layout : Layout) (stays : SectionKey → Bool)
+    ensures { IfOk result (λ v. (layout : Layout) (stays : SectionRef → Bool)
         → IsLinkLayout project.now layout link_layout.now
         → AllZip (IsJoinedRow project.now layout stays) layout.sections (map vec_items pieces.now)
         → AllZip (IsOutput project.now layout stays) layout.sections v.items) }

@@ -5,7 +5,7 @@ ghost use Rattle.std.specs.List.{AllZip};
 ghost use Rattle.ldmodel_laws.specs.ImageBytes.{AreNamed};
 ghost use Rattle.ldmodel.specs.Layout.{Layout, PlacedOutput};
 ghost use Rattle.ldmodel.specs.Project.{Project};
-ghost use Rattle.ldmodel.specs.declared.sections.SectionKey.{SectionKey};
+ghost use Rattle.ldmodel.specs.declared.sections.SectionRef.{SectionRef};
 ghost use Rattle.emit_image.specs.Tables.{IsTableSection};
 ghost use Rattle.emit.specs.Drawable.{AreOutputs};
 ghost use Rattle.emit.specs.Output.{AreDrawn, AreDrawnOf, IsDrawn, IsOutput};
@@ -18,8 +18,7 @@ use emit_image::section::ImageSection;
 use emit_image::sections::TableSection;
 use emit_image::tail::{TailParts, tail};
 use emit_relocate::values::Values;
-use ldmodel::impossible::impossible;
-use ldmodel::memory::NoMemory;
+use growth::{NoMemory, impossible, vec};
 use ldmodel_laws::segments::segments_by_neighbours;
 use ldmodel_project::view::ProjectView;
 use place::indexed_layout::IndexedLayout;
@@ -30,7 +29,7 @@ const PAST_OFFSETS: u128 = 1 << 64;
 
 /// An output section, with what its header is made of.
 fn table_section<'a>(output: &OutputDrawing<'a>) -> TableSection<'a>
-    ensures { (project : Project) (layout : Layout) (stays : SectionKey → Bool) (q : PlacedOutput)
+    ensures { (project : Project) (layout : Layout) (stays : SectionRef → Bool) (q : PlacedOutput)
         → IsOutput project layout stays q output.now → IsTableSection layout q result }
 {
     TableSection {
@@ -45,20 +44,20 @@ fn table_sections<'a>(
     alloc: Global,
     outputs: &[OutputDrawing<'a>],
 ) -> Result<Vec<TableSection<'a>>, NoMemory>
-    ensures { IfOk result (λ v. (project : Project) (layout : Layout) (stays : SectionKey → Bool)
+    ensures { IfOk result (λ v. (project : Project) (layout : Layout) (stays : SectionRef → Bool)
         → AllZip (IsOutput project layout stays) layout.sections outputs.now
         → AllZip (IsTableSection layout) layout.sections v.items) }
 {
-    let mut sections = Vec::with_capacity(alloc, outputs.len())?;
+    let mut sections = vec::with_capacity(alloc, outputs.len())?;
     for output in outputs {
-        sections.push(table_section(output))?;
+        vec::push(&mut sections, table_section(output))?;
     }
     Ok(sections)
 }
 
 /// An output section as it is drawn. Fails where it begins past any file.
 fn lend_section<'a>(output: &OutputDrawing<'a>) -> Result<ImageSection<'a>, NoMemory>
-    ensures { IfOk result (λ y. (project : Project) (layout : Layout) (stays : SectionKey → Bool) (q : PlacedOutput)
+    ensures { IfOk result (λ y. (project : Project) (layout : Layout) (stays : SectionRef → Bool) (q : PlacedOutput)
         → IsOutput project layout stays q output.now → IsDrawn project layout stays q y) }
 {
     match u64::try_from(output.offset) {
@@ -80,7 +79,7 @@ fn add_section<'a>(
     sections: &mut Vec<ImageSection<'a>>,
     output: &OutputDrawing<'a>,
 ) -> Result<(), NoMemory>
-    ensures { OnOk result ((project : Project) (layout : Layout) (stays : SectionKey → Bool) (q : PlacedOutput)
+    ensures { OnOk result ((project : Project) (layout : Layout) (stays : SectionRef → Bool) (q : PlacedOutput)
         (qs : List PlacedOutput) → IsOutput project layout stays q output.now
         → AreDrawnOf project layout stays qs sections.old.items
         → AreDrawnOf project layout stays (qs ++ q ∷ []) sections.new.items) }
@@ -89,7 +88,7 @@ fn add_section<'a>(
         return Ok(());
     }
     let section = lend_section(output)?;
-    sections.push(section)?;
+    vec::push(sections, section)?;
     Ok(())
 }
 
@@ -98,7 +97,7 @@ fn lend_sections<'a>(
     alloc: Global,
     outputs: &[OutputDrawing<'a>],
 ) -> Result<Vec<ImageSection<'a>>, NoMemory>
-    ensures { IfOk result (λ v. (project : Project) (layout : Layout) (stays : SectionKey → Bool)
+    ensures { IfOk result (λ v. (project : Project) (layout : Layout) (stays : SectionRef → Bool)
         → AreNamed layout.sections
         → AllZip (IsOutput project layout stays) layout.sections outputs.now → AreDrawn project layout stays v.items) }
 {
@@ -134,7 +133,7 @@ pub(crate) fn drawing_parts<'a>(
     values: &Values<'_>,
     outputs: &[OutputDrawing<'a>],
 ) -> Result<ImageParts<'a>, NoMemory>
-    ensures { IfOk result (λ x. (layout : Layout) (stays : SectionKey → Bool)
+    ensures { IfOk result (λ x. (layout : Layout) (stays : SectionRef → Bool)
         → AreOutputs project.now indexed_layout.now values.now layout stays outputs.now
         → ArePartsOf project.now layout stays x) }
 {

@@ -14,7 +14,7 @@ ghost use Rattle.ldmodel.specs.Layout.{Layout, PlacedPiece, PlacedOutput};
 ghost use Rattle.ldmodel.specs.Project.{NamedObject};
 ghost use Rattle.ldmodel.specs.SymbolValues.{placed_part};
 ghost use Rattle.ldmodel.specs.declared.sections.Part.TheVariants as part;
-ghost use Rattle.ldmodel.specs.declared.sections.SectionKey.{SectionKey as KeyOf};
+ghost use Rattle.ldmodel.specs.declared.sections.SectionRef.{SectionRef as KeyOf};
 ghost use Rattle.symres.specs.SymbolTable.{SymbolTableState};
 ghost use Rattle.ldmodel_project.specs.ByPlace.{piece_in, rows_in};
 ghost use Rattle.emit_relocate.specs.KnownLink.{KnownLink};
@@ -24,6 +24,7 @@ ghost use Rattle.emit.specs.Pieces.{AreRowsAt, AreSources, IsDrawnPiece, IsPlace
 ghost use Rattle.emit.specs.Pieces.{IsSectionPiece};
 ghost use Rattle.emit.specs.Runs.{AreRunsUnless};
 
+use crate::image_sources::ImageSources;
 use crate::relocated::Relocated;
 use crate::section_fields::fields_of;
 use elfobj::Object;
@@ -31,23 +32,16 @@ use elfobj::section::{LinkedIndex, Section, SectionIndex, SectionKind};
 use emit_image::row::{add_drawn, add_stayed};
 use emit_image::section::ImagePiece;
 use emit_relocate::previous_link_info::PreviousLinkInfo;
-use ldmodel::memory::NoMemory;
+use growth::{NoMemory, vec};
 use ldmodel::names::ObjectPlace;
 use ldmodel::rows::Piece;
-use ldmodel::sections::{Part, SectionKey};
+use ldmodel::sections::{Part, SectionRef};
 use ldmodel_laws::gathering::{live_by_path, once_in_rows};
 use ldmodel_laws::layout::placed_are_rows;
 use ldmodel_project::view::ProjectView;
 use place::indexed_layout::IndexedLayout;
 use place::numbered::are_numbered;
 use std::alloc::Global;
-
-/// An entry of a row at its address.
-#[derive(Clone, Copy)]
-struct PieceAt<'a> {
-    piece: &'a Piece,
-    start: u64,
-}
 
 /// An input section of `size` zeros at an address.
 fn zeros<'a>(size: u64, start: u64) -> ImagePiece<'a>
@@ -92,7 +86,7 @@ fn section_near(object: &Object, number: SectionIndex, hint: usize) -> Option<Li
 fn section_piece<'a>(
     relocated: &'a Relocated,
     indexed_layout: &IndexedLayout,
-    key: ObjectPlace,
+    place: ObjectPlace,
     object: &'a Object,
     index: LinkedIndex,
     size: u64,
@@ -101,10 +95,10 @@ fn section_piece<'a>(
     requires { index.0 < length object.now.sections }
     ensures { (link : KnownLink) (stays : KeyOf → Bool) (o : NamedObject) (section : LinkedSection)
         (w : PlacedPiece)
-        → AreSources link stays indexed_layout.now relocated.now → slice_get link.project.objects key.0 ≡ Some o
+        → AreSources link stays indexed_layout.now relocated.now → slice_get link.project.objects place.0 ≡ Some o
         → o.object ≡ object.now
         → slice_get o.object.sections index.0 ≡ Some section
-        → stays (record { object = key; part = part.InTable section.number }) ≡ false
+        → stays (record { object = place; part = part.InTable section.number }) ≡ false
         → placed_part link.layout o.name (part.InTable section.number) ≡ Some w → w.start ≡ start → section.size ≡ size
         → IsSectionPiece link o section size start result }
 {
@@ -115,7 +109,7 @@ fn section_piece<'a>(
     let bytes = object.section_bytes(index);
     match section.kind {
         SectionKind::Nobits => zeros(size, start),
-        _ => match fields_of(relocated, indexed_layout, key, index) {
+        _ => match fields_of(relocated, indexed_layout, place, index) {
             None => zeros(size, start),
             Some(fields) => ImagePiece {
                 start,
@@ -128,26 +122,26 @@ fn section_piece<'a>(
     }
 }
 
-/// What is drawn of an entry: the bytes of its section, or zeros if it belongs to no object. `hint` is where its section
-/// is looked for first, and is updated for the next entry: the sections of an object mostly stand in a row one after
-/// the other, as in the object.
+/// What is drawn of an entry at an address: the bytes of its section, or zeros if it belongs to no object. `hint` is
+/// where its section is looked for first, and is updated for the next entry: the sections of an object mostly stand in
+/// a row one after the other, as in the object.
 fn drawn_piece<'a>(
     project: &'a ProjectView<'_>,
     relocated: &'a Relocated,
     indexed_layout: &IndexedLayout,
-    at: PieceAt<'_>,
+    piece: &Piece,
+    start: u64,
     hint: &mut usize,
 ) -> ImagePiece<'a>
     ensures { (link : KnownLink) (stays : KeyOf → Bool) (w : PlacedPiece)
         → link.project ≡ project.now → AreSources link stays indexed_layout.now relocated.now
-        → stays at.entry.piece.now.section ≡ false
-        → IsPlacedAt project.now link.layout (piece_in project.now at.entry.piece.now) at.entry.start w
+        → stays piece.now.section ≡ false
+        → IsPlacedAt project.now link.layout (piece_in project.now piece.now) start w
         → IsDrawnPiece link.project link.layout w result }
 {
     // for the prover: brings in the invariant of `project`
     let _inputs = project.inputs();
     project.objects_are_named();
-    let PieceAt { piece, start } = at;
     let key = piece.section.object;
     match piece.section.part {
         Part::InCommon(_) => zeros(piece.size, start),
@@ -176,7 +170,7 @@ fn drawn_piece<'a>(
 
 /// Whether a common block stayed. It is looked up by its key, which a call is lent.
 #[inline(never)]
-fn common_has_stayed<E: PreviousLinkInfo>(previous: &E, section: SectionKey) -> bool
+fn common_has_stayed<E: PreviousLinkInfo>(previous: &E, section: SectionRef) -> bool
     ensures { result ≡ is_some (E.range previous.now section) }
 {
     previous.has_stayed(section)
@@ -197,59 +191,57 @@ fn has_stayed<E: PreviousLinkInfo>(previous: &E, piece: &Piece) -> bool
 /// Adds an entry of a row at an address: one that stays is joined to the one before it, where that stays too and no gap
 /// lies between. `hint` is as in `drawn_piece`. Fails if memory runs out.
 fn add_entry<'a, E: PreviousLinkInfo>(
+    sources: &ImageSources<'a, '_, E>,
+    piece: &Piece,
+    start: u64,
     pieces: &mut Vec<ImagePiece<'a>>,
-    project: &'a ProjectView<'_>,
-    relocated: &'a Relocated,
-    indexed_layout: &IndexedLayout,
-    previous: &E,
-    at: PieceAt<'_>,
     hint: &mut usize,
 ) -> Result<(), NoMemory>
-    ensures { OnOk result ((link : KnownLink) (w : PlacedPiece) (whole : List Drawn) → link.project ≡ project.now
-        → AreSources link (λ k. is_some (E.range previous.now k)) indexed_layout.now relocated.now
-        → IsPlacedAt project.now link.layout (piece_in project.now at.entry.piece.now) at.entry.start w
+    ensures { OnOk result ((link : KnownLink) (w : PlacedPiece) (whole : List Drawn)
+        → link.project ≡ sources.now.project.now
+        → AreSources link (λ k. is_some (E.range sources.now.previous.now k)) sources.now.indexed_layout.now
+        sources.now.relocated.now
+        → IsPlacedAt sources.now.project.now link.layout (piece_in sources.now.project.now piece.now) start w
         → StandFor whole pieces.old.items
-        → (y : Drawn) × IsRowPiece link.project link.layout (λ k. is_some (E.range previous.now k)) w y
+        → (y : Drawn) × IsRowPiece link.project link.layout (λ k. is_some (E.range sources.now.previous.now k)) w y
         × StandFor (whole ++ y ∷ []) pieces.new.items) }
 {
-    if has_stayed(previous, at.piece) {
-        return add_stayed(pieces, at.piece.size, at.start);
+    if has_stayed(sources.previous, piece) {
+        return add_stayed(pieces, piece.size, start);
     }
-    let drawn = drawn_piece(project, relocated, indexed_layout, at, hint);
+    let drawn = drawn_piece(
+        sources.project,
+        sources.relocated,
+        sources.indexed_layout,
+        piece,
+        start,
+        hint,
+    );
     add_drawn(pieces, drawn)
 }
 
 /// Adds an entry of a row at an address, as `add_entry` does, unless it is empty: nothing of it lies in the image.
 /// Objects have many empty sections, as `.text` beside one section for each function.
 fn add_unless_empty<'a, E: PreviousLinkInfo>(
+    sources: &ImageSources<'a, '_, E>,
+    piece: &Piece,
+    start: u64,
     pieces: &mut Vec<ImagePiece<'a>>,
-    project: &'a ProjectView<'_>,
-    relocated: &'a Relocated,
-    indexed_layout: &IndexedLayout,
-    previous: &E,
-    at: PieceAt<'_>,
     hint: &mut usize,
 ) -> Result<(), NoMemory>
-    ensures { OnOk result ((link : KnownLink) (w : PlacedPiece) (whole : List Drawn) → link.project ≡ project.now
-        → AreSources link (λ k. is_some (E.range previous.now k)) indexed_layout.now relocated.now
-        → IsPlacedAt project.now link.layout (piece_in project.now at.entry.piece.now) at.entry.start w
+    ensures { OnOk result ((link : KnownLink) (w : PlacedPiece) (whole : List Drawn)
+        → link.project ≡ sources.now.project.now
+        → AreSources link (λ k. is_some (E.range sources.now.previous.now k)) sources.now.indexed_layout.now
+        sources.now.relocated.now
+        → IsPlacedAt sources.now.project.now link.layout (piece_in sources.now.project.now piece.now) start w
         → StandFor whole pieces.old.items
-        → (y : Drawn) × IsRowPiece link.project link.layout (λ k. is_some (E.range previous.now k)) w y
+        → (y : Drawn) × IsRowPiece link.project link.layout (λ k. is_some (E.range sources.now.previous.now k)) w y
         × StandFor (whole ++ y ∷ []) pieces.new.items) }
 {
-    let piece = at.piece;
     if piece.size == 0 {
         return Ok(());
     }
-    add_entry(
-        pieces,
-        project,
-        relocated,
-        indexed_layout,
-        previous,
-        at,
-        hint,
-    )
+    add_entry(sources, piece, start, pieces, hint)
 }
 
 /// The address of this number among some; 0 if there are fewer.
@@ -266,31 +258,21 @@ fn start_at(starts: &[u64], number: usize) -> u64
 /// between. Fails if memory runs out.
 fn image_row<'a, E: PreviousLinkInfo>(
     alloc: Global,
-    project: &'a ProjectView<'_>,
-    relocated: &'a Relocated,
-    indexed_layout: &IndexedLayout,
-    previous: &E,
+    sources: &ImageSources<'a, '_, E>,
     row: &[Piece],
     starts: &[u64],
 ) -> Result<Vec<ImagePiece<'a>>, NoMemory>
-    ensures { IfOk result (λ v. (link : KnownLink) (output : PlacedOutput) → link.project ≡ project.now
-        → AreSources link (λ k. is_some (E.range previous.now k)) indexed_layout.now relocated.now
-        → IsRowAt project.now link.layout (map (piece_in project.now) row.now) starts.now output
-        → IsJoinedRow link.project link.layout (λ k. is_some (E.range previous.now k)) output v.items) }
+    ensures { IfOk result (λ v. (link : KnownLink) (output : PlacedOutput) → link.project ≡ sources.now.project.now
+        → AreSources link (λ k. is_some (E.range sources.now.previous.now k)) sources.now.indexed_layout.now
+        sources.now.relocated.now
+        → IsRowAt sources.now.project.now link.layout (map (piece_in sources.now.project.now) row.now) starts.now output
+        → IsJoinedRow link.project link.layout (λ k. is_some (E.range sources.now.previous.now k)) output v.items) }
 {
-    let mut pieces = Vec::with_capacity(alloc, row.len())?;
+    let mut pieces = vec::with_capacity(alloc, row.len())?;
     let mut hint: usize = 0;
     for (k, piece) in row.iter().enumerate() {
         let start = start_at(starts, k);
-        add_unless_empty(
-            &mut pieces,
-            project,
-            relocated,
-            indexed_layout,
-            previous,
-            PieceAt { piece, start },
-            &mut hint,
-        )?;
+        add_unless_empty(sources, piece, start, &mut pieces, &mut hint)?;
     }
     Ok(pieces)
 }
@@ -306,32 +288,23 @@ fn taken(count: usize, left: usize) -> usize
 /// The entries of all rows, row by row. Fails if memory runs out.
 fn image_rows<'a, E: PreviousLinkInfo>(
     alloc: Global,
-    project: &'a ProjectView<'_>,
-    relocated: &'a Relocated,
-    indexed_layout: &IndexedLayout,
-    previous: &E,
+    sources: &ImageSources<'a, '_, E>,
     starts: &[u64],
 ) -> Result<Vec<Vec<ImagePiece<'a>>>, NoMemory>
-    ensures { IfOk result (λ v. (link : KnownLink) → link.project ≡ project.now
-        → AreSources link (λ k. is_some (E.range previous.now k)) indexed_layout.now relocated.now
-        → AreRowsAt project.now link.layout (rows_in project.now indexed_layout.now.rows.items) starts.now
-        → AllZip (IsJoinedRow link.project link.layout (λ k. is_some (E.range previous.now k))) link.layout.sections
-        (map vec_items v.items)) }
+    ensures { IfOk result (λ v. (link : KnownLink) → link.project ≡ sources.now.project.now
+        → AreSources link (λ k. is_some (E.range sources.now.previous.now k)) sources.now.indexed_layout.now
+        sources.now.relocated.now
+        → AreRowsAt sources.now.project.now link.layout
+        (rows_in sources.now.project.now sources.now.indexed_layout.now.rows.items) starts.now
+        → AllZip (IsJoinedRow link.project link.layout (λ k. is_some (E.range sources.now.previous.now k)))
+        link.layout.sections (map vec_items v.items)) }
 {
-    let mut pieces = Vec::with_capacity(alloc, indexed_layout.rows.len())?;
+    let mut pieces = vec::with_capacity(alloc, sources.indexed_layout.rows.len())?;
     let mut at: usize = 0;
-    for row in &indexed_layout.rows {
+    for row in &sources.indexed_layout.rows {
         let row = row.as_slice();
-        let drawn = image_row(
-            alloc,
-            project,
-            relocated,
-            indexed_layout,
-            previous,
-            row,
-            &starts[at..],
-        )?;
-        pieces.push(drawn)?;
+        let drawn = image_row(alloc, sources, row, &starts[at..])?;
+        vec::push(&mut pieces, drawn)?;
         at += taken(row.len(), starts.len() - at);
     }
     Ok(pieces)
@@ -345,24 +318,22 @@ fn image_rows<'a, E: PreviousLinkInfo>(
 /// If memory runs out.
 pub(crate) fn image_pieces<'a, E: PreviousLinkInfo>(
     alloc: Global,
-    project: &'a ProjectView<'_>,
-    indexed_layout: &IndexedLayout,
-    relocated: &'a Relocated,
-    previous: &E,
+    sources: &ImageSources<'a, '_, E>,
 ) -> Result<Vec<Vec<ImagePiece<'a>>>, NoMemory>
     ensures { IfOk result (λ v. (layout : Layout) (table : SymbolTableState)
-        → IsIndexedLayout project.now layout indexed_layout.now
-        → AreRunsUnless (known_link project.now layout table) (λ k. is_some (E.range previous.now k))
-        relocated.now.patches.items relocated.now.ends.items
-        → AllZip (IsJoinedRow project.now layout (λ k. is_some (E.range previous.now k))) layout.sections
-        (map vec_items v.items)) }
+        → IsIndexedLayout sources.now.project.now layout sources.now.indexed_layout.now
+        → AreRunsUnless (known_link sources.now.project.now layout table)
+        (λ k. is_some (E.range sources.now.previous.now k)) sources.now.relocated.now.patches.items
+        sources.now.relocated.now.ends.items
+        → AllZip (IsJoinedRow sources.now.project.now layout (λ k. is_some (E.range sources.now.previous.now k)))
+        layout.sections (map vec_items v.items)) }
 {
     // for the prover: bring in these laws
     live_by_path();
     once_in_rows();
     placed_are_rows();
-    are_numbered(project);
-    let _inputs = project.inputs();
-    let starts = indexed_layout.link_layout.placement.pieces();
-    image_rows(alloc, project, relocated, indexed_layout, previous, starts)
+    are_numbered(sources.project);
+    let _inputs = sources.project.inputs();
+    let starts = sources.indexed_layout.link_layout.placement.pieces();
+    image_rows(alloc, sources, starts)
 }

@@ -25,8 +25,7 @@ use emit_relocate::fields::add_fields;
 use emit_relocate::previous_link_info::FileRange;
 use emit_relocate::site::PlacedInput;
 use emit_relocate::value::SymbolValue;
-use ldmodel::impossible::impossible;
-use ldmodel::memory::NoMemory;
+use growth::{NoMemory, impossible, vec};
 use ldmodel::meter::Meter;
 use ldmodel::names::ObjectPlace;
 use std::alloc::Global;
@@ -96,7 +95,7 @@ fn are_in_order(fields: &[Patch], limit: usize) -> bool
 }
 
 /// The fields of a section of an object that starts at an address; `None` exactly if a relocation has a fault.
-fn fields_of(
+fn evaluate_fields(
     alloc: Global,
     place: ObjectPlace,
     object: &Object,
@@ -194,7 +193,7 @@ fn plan_section<'a>(
     let bytes = object.section_bytes(spot.index);
     // for the prover: brings in the invariant of `object`, of its relocations
     let _relocations = object.relocations(spot.index);
-    match fields_of(alloc, place, object, values, spot.index, spot.start, meter)? {
+    match evaluate_fields(alloc, place, object, values, spot.index, spot.start, meter)? {
         None => Ok(None),
         Some(fields) => {
             let planned = planned_section(alloc, kind, bytes, fields, spot.range, limit);
@@ -203,8 +202,8 @@ fn plan_section<'a>(
     }
 }
 
-/// Plans the writes of an object's sections onto a canvas of length `limit`; `None` exactly if a relocation has a fault.
-/// Each relocation whose symbol has a value counts as one.
+/// Plans the writes of an object's sections onto a canvas of length `limit`; `None` exactly if a relocation has a
+/// fault. Each relocation whose symbol has a value counts as one.
 ///
 /// # Errors
 ///
@@ -228,18 +227,18 @@ pub(crate) fn plan<'a>(
 {
     // for the prover: brings in that the count of fields fits a u64
     let _fields = meter.fields();
-    let mut sections = Vec::with_capacity(alloc, located.len())?;
+    let mut sections = vec::with_capacity(alloc, located.len())?;
     for spot in located {
         match plan_section(alloc, limit, place, object, values, *spot, meter)? {
             None => return Ok(None),
-            Some(section) => sections.push(section)?,
+            Some(section) => vec::push(&mut sections, section)?,
         }
     }
     Ok(Some(sections))
 }
 
 /// Writes what was planned, each byte once. It takes no memory.
-pub(crate) fn commit(canvas: &mut Canvas, sections: &[PlannedSection<'_>], meter: &mut Meter)
+pub(crate) fn write_plan(canvas: &mut Canvas, sections: &[PlannedSection<'_>], meter: &mut Meter)
     requires { All (IsWithin (length canvas.old.bytes)) (written_all sections.now) }
     ensures written { AreWritten (written_all sections.now) canvas.old.bytes canvas.new.bytes }
     ensures room { canvas.new.room ≡ canvas.old.room }

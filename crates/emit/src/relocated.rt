@@ -1,6 +1,8 @@
 //! The fields of a link that change, and the faults of its relocations.
 
-ghost use Rattle.std.specs.Prelude.{◌≡◌, ◌++◌, IfOk, Ok};
+ghost use Rattle.std.specs.Prelude.{◌≡◌, ◌++◌, IfOk, Ok, option_to_list};
+ghost use Rattle.std.specs.Option.{option_map};
+ghost use Rattle.ldmodel.specs.FaultCode.{fault_of};
 ghost use Rattle.ldmodel.specs.Layout.{Layout};
 ghost use Rattle.ldmodel.specs.Names.{provided};
 ghost use Rattle.ldmodel.specs.Placement.{placement};
@@ -13,11 +15,12 @@ ghost use Rattle.ldmodel_project.specs.ByPlace.{faults_in};
 ghost use Rattle.emit.specs.Beside.{IsRelocatedBeside};
 ghost use Rattle.emit_relocate.specs.SymbolValues.{AreSymbolValues};
 ghost use Rattle.emit_relocate.specs.Values.{value_of};
+ghost use Rattle.emit_relocate.specs.KnownLink.{KnownLink};
 ghost use Rattle.emit_relocate.specs.LinkView.{IsLinkView, known_link};
 ghost use Rattle.emit_relocate.specs.LinkValues.{AreValues};
 
-use crate::keys::keys_of;
 use crate::law::{pieces_are_sized, pieces_in_file, sections_end_below};
+use crate::objects_read::objects_are_read;
 use elfobj::Meter;
 use emit_fields::patch::Patch;
 use emit_image::law::patches_are_all;
@@ -28,12 +31,11 @@ use emit_relocate::law::{
 };
 use emit_relocate::link_view::LinkView;
 use emit_relocate::previous_link_info::PreviousLinkInfo;
-use emit_relocate::symbol::entry_fault;
 use emit_relocate::symbol_values::SymbolValues;
 use emit_relocate::value::SymbolValue;
 use emit_relocate::values::Values;
+use growth::{NoMemory, vec};
 use ldmodel::fault::Fault;
-use ldmodel::memory::NoMemory;
 use ldmodel_laws::stayed::{fields_in_image, pieces_in_image, stayed_in_both};
 use ldmodel_project::view::ProjectView;
 use std::alloc::Global;
@@ -52,6 +54,18 @@ pub struct Relocated {
     pub faults: Vec<Fault>,
 }
 
+/// The fault of an entry symbol of a value: its section is not in the output.
+#[tactic(auto, unfolding(ldmodel::specs::FaultCode::fault_of))]
+fn entry_fault(value: SymbolValue) -> Option<Fault>
+    ensures { (link : KnownLink) → option_to_list (option_map (fault_of link.project link.number) result)
+        ≡ entry_fault (value_of value) }
+{
+    match value {
+        SymbolValue::NotInOutput => Some(Fault::EntryNotInOutput),
+        SymbolValue::Number(_) | SymbolValue::NotDefined => None,
+    }
+}
+
 /// The fault of an entry symbol of this value, if it has one, and then these faults.
 fn with_entry_fault(value: SymbolValue, mut faults: Vec<Fault>) -> Result<Vec<Fault>, NoMemory>
     ensures { IfOk result (λ all. (project : Project) → faults_in project all.items
@@ -60,7 +74,7 @@ fn with_entry_fault(value: SymbolValue, mut faults: Vec<Fault>) -> Result<Vec<Fa
     match entry_fault(value) {
         None => Ok(faults),
         Some(fault) => {
-            faults.insert(0, fault)?;
+            vec::insert(&mut faults, 0, fault)?;
             Ok(faults)
         }
     }
@@ -102,8 +116,8 @@ impl Relocated {
         pieces_in_image();
         fields_in_image();
         stayed_in_both();
-        let keys = keys_of(alloc, project)?;
-        let fields = changed_fields(alloc, link, previous, symbols, &keys, meter)?;
+        objects_are_read(project);
+        let fields = changed_fields(alloc, link, previous, symbols, meter)?;
         let ChangedFields {
             patches,
             ends,

@@ -14,11 +14,11 @@ ghost use Rattle.emit.specs.LocatedSections.{HasLocatedSections, bytes_of, sites
 ghost use Rattle.emit.specs.declared.rewrite.Rewrite.TheVariants.{Done, Faulty};
 
 use crate::located_section::{LocatedSection, nobits_are_bare, numbers_differ};
-use crate::plan::{commit, plan};
+use crate::plan::{plan, write_plan};
 use elfobj::Object;
 use emit_fields::canvas::Canvas;
 use emit_relocate::value::SymbolValue;
-use ldmodel::memory::NoMemory;
+use growth::NoMemory;
 use ldmodel::meter::Meter;
 use ldmodel::names::ObjectPlace;
 use std::alloc::Global;
@@ -84,7 +84,7 @@ pub fn rewrite_in_place(
     match plan(alloc, canvas.len(), place, object, values, located, meter)? {
         None => Ok(Rewrite::Faulty),
         Some(plan) => {
-            commit(canvas, &plan, meter);
+            write_plan(canvas, &plan, meter);
             Ok(Rewrite::Done)
         }
     }

@@ -1,5 +1,5 @@
-//! Laws of two links that differ only in the bytes and relocations of one object's sections: names, rows, layout, values
-//! of symbols, headers, tail and map are the same, and so are all other bytes and faults.
+//! Laws of two links that differ only in the bytes and relocations of one object's sections: names, rows, layout,
+//! values of symbols, headers, tail and map are the same, and so are all other bytes and faults.
 
 ghost use Rattle.std.specs.Prelude.{◌≡◌, ℕ, Contains, None, Some, [], slice_get, List, Ok};
 ghost use Rattle.std.specs.Result.{result_err};

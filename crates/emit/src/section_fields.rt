@@ -3,7 +3,7 @@
 ghost use Rattle.std.specs.Prelude.{◌≡◌, ◌∷◌, Bool, IfNone, IfSome, Some, slice_get};
 ghost use Rattle.elfobj.specs.Sections.{LinkedSection};
 ghost use Rattle.ldmodel.specs.Project.{NamedObject};
-ghost use Rattle.ldmodel.specs.declared.sections.SectionKey.{SectionKey};
+ghost use Rattle.ldmodel.specs.declared.sections.SectionRef.{SectionRef};
 ghost use Rattle.place.specs.IndexedLayout.{IsIndexedLayout};
 ghost use Rattle.emit_relocate.specs.KnownLink.{KnownLink};
 ghost use Rattle.emit.specs.Runs.{AreRunsUnless, IsRunUnless};
@@ -34,13 +34,13 @@ pub(crate) fn fields_of<'a>(
     place: ObjectPlace,
     section: LinkedIndex,
 ) -> Option<&'a [Patch]>
-    ensures some { IfSome result (λ run. (link : KnownLink) (stays : SectionKey → Bool) (object : NamedObject)
+    ensures some { IfSome result (λ run. (link : KnownLink) (stays : SectionRef → Bool) (object : NamedObject)
         (x : LinkedSection)
         → IsIndexedLayout link.project link.layout indexed_layout.now
         → AreRunsUnless link stays relocated.now.patches.items relocated.now.ends.items
         → slice_get link.project.objects place.0 ≡ Some object → slice_get object.object.sections section.0 ≡ Some x
         → IsRunUnless link stays (record { object = object; section = x }) run.now) }
-    ensures none { IfNone result ((link : KnownLink) (stays : SectionKey → Bool) (object : NamedObject)
+    ensures none { IfNone result ((link : KnownLink) (stays : SectionRef → Bool) (object : NamedObject)
         (x : LinkedSection)
         → IsIndexedLayout link.project link.layout indexed_layout.now
         → AreRunsUnless link stays relocated.now.patches.items relocated.now.ends.items

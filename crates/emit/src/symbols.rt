@@ -13,7 +13,7 @@ ghost use Rattle.emit.specs.Tables.{AreTablesFor};
 use emit_image::symbols::{SymbolTables, TableSymbol};
 use emit_relocate::value::SymbolValue;
 use emit_relocate::values::{OutputSymbol, Values};
-use ldmodel::memory::NoMemory;
+use growth::NoMemory;
 use std::alloc::Global;
 
 /// Adds a symbol of the output to the tables, if it has a value.

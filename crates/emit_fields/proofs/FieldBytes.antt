@@ -1,12 +1,11 @@
 -- The bytes of a field among the eight bytes of its value.
-use Rattle.std.proofs.Common.{◌≡◌, ◌≤◌, ℕ, arith, List, Bool, true, false, Ok, Err, take, refl, sym, ap, ◌∙◌}
-use Rattle.std.proofs.Common.{if◌then◌else◌}
+use Rattle.emit_fields.proofs.Common.{Bool, Err, List, Ok, Overflow, ap, arith, false, if◌then◌else◌, refl, sym, take}
+use Rattle.emit_fields.proofs.Common.{true, ℕ, ◌∙◌, ◌≡◌, ◌≤◌}
 use Rattle.byteorder.specs.Endian.{little_bytes}
 use Rattle.elfobj.specs.declared.relocation.Relocation.{Relocation}
 use Rattle.elfobj.specs.declared.relocation.RelocationKind.{RelocationKind}
 use Rattle.elfobj.specs.declared.relocation.RelocationKind.TheVariants.{None, Abs64, Pc32, Plt32, Abs32, Abs32Signed}
 use Rattle.elfobj.specs.declared.relocation.RelocationKind.TheVariants.{Abs16, Pc16, Abs8, Pc8, Pc64}
-use Rattle.emit_fields.specs.declared.field.Overflow.{Overflow}
 use Rattle.elfobj.specs.RelocationKinds.{width}
 use Rattle.emit_fields.specs.Fields.{relocation_value, fits, field_with, field_of}
 

@@ -1,3 +1,4 @@
+pub mod Common
 pub mod FieldBytes
 pub mod Order
 pub mod Patches

@@ -1,16 +1,13 @@
 -- Fields of which no two share a byte, put into the order of their offsets.
-use Rattle.std.proofs.Common.{◌≡◌, ◌-◌, ◌<◌, ◌≤◌, ℕ, zero, suc, List, [], ◌∷◌, length, get_or, Bool, true, false}
-use Rattle.std.proofs.Common.{if◌then◌else◌, All, ◌⊎◌, inl, inr, refl, sym, ap, ◌∙◌, max, min, nat_lt, arith}
-use Rattle.std.proofs.Math.Nat.{max_comm, min_comm}
+use Rattle.emit_fields.proofs.Common.{All, AreInOrder, Bool, List, Patch, [], ap, arith, false, get_or, if◌then◌else◌}
+use Rattle.emit_fields.proofs.Common.{inl, inr, length, max, max_comm, min, min_comm, nat_lt, nat_tests, patch_end}
+use Rattle.emit_fields.proofs.Common.{patched_byte, refl, suc, sym, true, zero, ℕ, ◌-◌, ◌<◌, ◌∙◌, ◌∷◌, ◌≡◌, ◌≤◌, ◌⊎◌}
 use Rattle.std.specs.List.{Contains, IsDistinct}
 use Rattle.std.specs.List.Sorted.{IsNonDecreasingBy, IsPermutation}
-use Rattle.std.proofs.lemmas.Bool.Decides.{nat_tests}
 use Rattle.std.proofs.lemmas.List.Elements.{recursion_from_All}
 use Rattle.std.proofs.lemmas.List.Sorted.{All-permutation, Contains-permutation, IsPermutation-sym}
 use Rattle.std.proofs.lemmas.Map.Keys.{IsDistinct-IsPermutation, apart_from_distinct}
-use Rattle.emit_fields.specs.Patches.{AreApart, AreInOrder, IsWithin, patch_covers, patches_meet, patch_end}
-use Rattle.emit_fields.specs.Patches.{patched_byte}
-use Rattle.emit_fields.specs.declared.patch.Patch.{Patch}
+use Rattle.emit_fields.specs.Patches.{AreApart, IsWithin, patch_covers, patches_meet}
 
 meets_flips : (p q : Patch) → patches_meet p q ≡ patches_meet q p
 meets_flips p q =

@@ -1,9 +1,7 @@
 -- Fields in their order.
-use Rattle.std.proofs.Common.{◌≡◌, ◌+◌, ◌-◌, ◌<◌, ◌≤◌, ℕ, List, [], ◌∷◌, length, get_or, drop, refl, sym, subst, arith}
-use Rattle.std.proofs.lemmas.Bool.Decides.{nat_tests}
+use Rattle.emit_fields.proofs.Common.{AreInOrder, List, Patch, [], arith, drop, get_or, length, nat_tests, patch_end}
+use Rattle.emit_fields.proofs.Common.{patched_byte, refl, subst, sym, ℕ, ◌+◌, ◌-◌, ◌<◌, ◌∷◌, ◌≡◌, ◌≤◌}
 use Rattle.std.proofs.lemmas.List.{drop_more, at_drop_all}
-use Rattle.emit_fields.specs.Patches.{AreInOrder, patch_end, patched_byte}
-use Rattle.emit_fields.specs.declared.patch.Patch.{Patch}
 
 -- before the first field a piece has its own bytes
 patched_byte-before : (bytes : List ℕ) (ps : List Patch) (from limit i : ℕ) → AreInOrder from limit ps → i < from

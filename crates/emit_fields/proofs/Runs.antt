@@ -1,12 +1,9 @@
 -- Runs of bytes on the canvas, and how they count.
-use Rattle.std.proofs.Common.{◌≡◌, ◌+◌, ◌-◌, ◌*◌, ◌%◌, ◌<◌, ◌≤◌, ℕ, zero, suc, List, length, get_or, drop, take, sym}
-use Rattle.std.proofs.Common.{ap, ◌∙◌, arith}
-use Rattle.std.proofs.Math.Nat.{mul-add-mod_self_right}
+use Rattle.emit_fields.proofs.Common.{Bytes, Counts, List, ap, arith, drop, get_or, length, mul-add-mod_self_right}
+use Rattle.emit_fields.proofs.Common.{raised, suc, sym, take, zero, ℕ, ◌%◌, ◌*◌, ◌+◌, ◌-◌, ◌<◌, ◌∙◌, ◌≡◌, ◌≤◌}
 use Rattle.std.proofs.lemmas.Grind.{common_steps}
 use Rattle.std.proofs.lemmas.List.{length-take, length-drop}
-use Rattle.elfobj.specs.Counts.{Counts, capped}
-use Rattle.elfobj.specs.Raised.{raised}
-use Rattle.elfobj.specs.declared.meter.Count.TheVariants.{Bytes}
+use Rattle.elfobj.specs.Counts.{capped}
 
 -- a run of the bytes, read where it was written
 pub run_reads : (canvas bytes : List ℕ) (from done stop i : ℕ)

@@ -1,6 +1,5 @@
 -- A list of one number, many times.
-use Rattle.std.proofs.Common.{◌≡◌, ◌<◌, ◌≤◌, ℕ, ◌⊎◌, inl, inr, replicate, slice_index_or, arith}
-use Rattle.std.proofs.lemmas.Bool.{cases_lt}
+use Rattle.emit_fields.proofs.Common.{arith, cases_lt, inl, inr, replicate, slice_index_or, ℕ, ◌<◌, ◌≡◌, ◌≤◌, ◌⊎◌}
 use Rattle.std.proofs.lemmas.List.{get_or-replicate, get_or_past, length-replicate}
 
 -- Each element of a list of one number is that number, and so is what is read past its end.

@@ -1,3 +1,3 @@
-pub mod Sheet
+pub mod Canvas
 pub mod Fields
 pub mod Patches

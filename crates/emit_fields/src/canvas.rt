@@ -5,11 +5,9 @@ ghost use Rattle.std.specs.Prelude.{slice_index_or, vec_capacity, vec_len};
 ghost use Rattle.elfobj.specs.Raised.{raised};
 
 use elfobj::{Count, Meter};
-use std::alloc::{AllocError, Global};
+use growth::{NoMemory, vec};
+use std::alloc::Global;
 use std::marker::Model;
-
-/// The error of a canvas that cannot get more room: there is no memory.
-pub type NoMemory = AllocError;
 
 /// Copies bytes over others of the same length. Four bytes, the size of most fields, are copied as one word.
 #[inline(always)]
@@ -52,7 +50,7 @@ pub struct Canvas {
 
 impl Model for Canvas {
     ghost use Rattle.std.specs.Prelude.{vec_capacity};
-    ghost use Rattle.emit_fields.specs.Sheet.{CanvasState};
+    ghost use Rattle.emit_fields.specs.Canvas.{CanvasState};
 
     ghost Value = { CanvasState };
 
@@ -104,7 +102,7 @@ impl Canvas {
         if n <= len {
             return Ok(());
         }
-        self.bytes.reserve_exact(n - len)
+        vec::reserve_exact(&mut self.bytes, n - len)
     }
 
     /// Sets the length to `n`, for which room must be reserved: keeps the bytes below it and adds zeros. It takes no

@@ -1,4 +1,4 @@
-//! Pieces (input sections) with their fields.
+//! Fields at their offsets, and the bytes of an input section with its fields over them.
 
 ghost use Rattle.std.specs.Prelude.{◌≡◌, ◌≤◌, ◌<◌, ◌+◌, ◌-◌, ℕ, All, IfOk, List, length, slice_index, true};
 ghost use Rattle.std.specs.List.Sorted.{IsNonDecreasingBy};
@@ -8,12 +8,13 @@ ghost use Rattle.emit_fields.specs.Patches.{AreApart, AreInOrder, IsWithin, patc
 use crate::canvas::Canvas;
 use crate::field::Field;
 use elfobj::{Count, Meter};
-use std::alloc::AllocError;
+use growth::{NoMemory, vec};
 
 /// A field and its offset.
 #[derive(Debug, Drop)]
 pub struct Patch {
-    /// The offset of its first byte in its piece.
+    /// The offset of its first byte: in its input section, or in the file where patches of an image are meant
+    /// (`Relocated::retargeted` of `emit`, and what `emit_image` calls patches).
     pub offset: usize,
     /// Its bytes.
     pub field: Field,
@@ -37,14 +38,14 @@ fn is_ascending(patches: &[Patch]) -> bool
 /// # Errors
 ///
 /// If there is no memory for the sort.
-pub fn in_order(mut patches: Vec<Patch>) -> Result<Vec<Patch>, AllocError>
+pub fn in_order(mut patches: Vec<Patch>) -> Result<Vec<Patch>, NoMemory>
     requires { AreApart patches.items }
     ensures order { IfOk result (λ ordered. (n : ℕ) → All (IsWithin n) patches.items → AreInOrder 0 n ordered.items) }
     ensures same { IfOk result (λ ordered. (bytes : List ℕ) (i : ℕ)
         → patched_byte bytes ordered.items i ≡ patched_byte bytes patches.items i) }
 {
     if !is_ascending(&patches) {
-        patches.sort_by_key(|p| p.offset)?;
+        vec::sort_by_key(&mut patches, |p| p.offset)?;
     }
     Ok(patches)
 }

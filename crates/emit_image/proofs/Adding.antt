@@ -1,12 +1,7 @@
 -- Gaps, input sections and data commands that are written are those of their output section.
-use Rattle.std.proofs.Common.{◌≡◌, ◌+◌, ◌-◌, ◌%◌, ◌<◌, ◌≤◌, ℕ, List, length, false, sym, ap, ◌∙◌, subst, arith}
-use Rattle.std.specs.Prelude.{slice_index}
-use Rattle.elfobj.specs.Counts.{Counts}
-use Rattle.emit_image.specs.Drawing.{section_spot}
-use Rattle.emit_image.specs.Painted.{IsPainted}
-use Rattle.emit_image.specs.Reached.{DataFrom, IsReached, PiecesFrom, file_offset_of, section_image}
-use Rattle.emit_image.specs.Stretches.{Spot}
-use Rattle.emit_image.specs.declared.section.ImageSection.{ImageSection}
+use Rattle.emit_image.proofs.Common.{Counts, DataFrom, ImageSection, IsPainted, IsReached, List, PiecesFrom, Spot, ap}
+use Rattle.emit_image.proofs.Common.{arith, false, file_offset_of, length, section_image, section_spot, slice_index}
+use Rattle.emit_image.proofs.Common.{subst, sym, ℕ, ◌%◌, ◌+◌, ◌-◌, ◌<◌, ◌∙◌, ◌≡◌, ◌≤◌}
 use Rattle.emit_image.proofs.InSection.{gap_spot}
 use Rattle.emit_image.proofs.Painting.{painted_as, painted_then}
 

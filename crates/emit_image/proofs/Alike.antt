@@ -1,27 +1,15 @@
 -- Drawings of which one has input sections joined have the same bytes, of which the same stay.
-use Rattle.std.proofs.Common.{◌≡◌, ◌∙◌, ◌+◌, ◌-◌, ◌%◌, ◌<◌, ◌≤◌, ℕ, zero, suc, List, [], ◌∷◌, length, map, find, Option}
-use Rattle.std.proofs.Common.{Some, None, false, cond, ap, sym, refl, subst, arith}
-use Rattle.std.specs.Prelude.{max, nat_le, nat_lt, slice_index}
-use Rattle.std.specs.List.{AllZip}
-use Rattle.std.specs.Option.{option_map}
-use Rattle.std.proofs.lemmas.List.Sums.{fold-append}
+use Rattle.emit_image.proofs.Common.{AllZip, AreParts, ArePieces, AreSections, Drawing, ImagePart, ImagePiece}
+use Rattle.emit_image.proofs.Common.{ImageSection, IsDrawing, IsDrawnFor, IsOrderly, List, None, Option, Patch, Some}
+use Rattle.emit_image.proofs.Common.{Spot, [], ap, arith, cond, count_unstayed, covers, covers_data, covers_part}
+use Rattle.emit_image.proofs.Common.{covers_piece, covers_section, drawing_end, drawing_spot, end_of_parts}
+use Rattle.emit_image.proofs.Common.{end_of_sections, false, find, fold-append, last_end, length, map, max, nat_le}
+use Rattle.emit_image.proofs.Common.{nat_lt, option_map, refl, section_spot, slice_index, spot_among, spot_past_headers}
+use Rattle.emit_image.proofs.Common.{subst, suc, sym, zero, ℕ, ◌%◌, ◌+◌, ◌-◌, ◌<◌, ◌∙◌, ◌∷◌, ◌≡◌, ◌≤◌}
 use Rattle.std.proofs.lemmas.Option.{same_Some}
-use Rattle.emit_fields.specs.declared.patch.Patch.{Patch}
-use Rattle.ldmodel.specs.Image.{covers}
 use Rattle.ldmodel.specs.declared.placed.PlacedData.{PlacedData}
-use Rattle.emit_image.specs.Drawing.{AreApart, AreData, AreParts, ArePieces, AreSections, IsDrawing, IsOrderly}
-use Rattle.emit_image.specs.Drawing.{covers_data}
-use Rattle.emit_image.specs.Drawing.{covers_part, covers_piece, covers_section, data_end, drawing_end, drawing_spot}
-use Rattle.emit_image.specs.Drawing.{end_of_parts, end_of_sections, ends_in, gap_byte, last_end, section_spot}
-use Rattle.emit_image.specs.Drawing.{spot_among}
-use Rattle.emit_image.specs.Drawing.{spot_past_headers}
+use Rattle.emit_image.specs.Drawing.{AreApart, AreData, data_end, ends_in, gap_byte}
 use Rattle.emit_image.specs.Joined.{AreAlike, IsJoined, IsJoinedSection, piece_ends, piece_spot, spot_in}
-use Rattle.emit_image.specs.Drawn.{IsDrawnFor, count_unstayed}
-use Rattle.emit_image.specs.Stretches.{Spot}
-use Rattle.emit_image.specs.declared.section.Drawing.{Drawing}
-use Rattle.emit_image.specs.declared.section.ImagePart.{ImagePart}
-use Rattle.emit_image.specs.declared.section.ImagePiece.{ImagePiece}
-use Rattle.emit_image.specs.declared.section.ImageSection.{ImageSection}
 use Rattle.emit_image.proofs.OfLink.{Both, both, find-zip, neither}
 
 -- ---- an output section

@@ -1,8 +1,5 @@
 -- Counts of bytes.
-use Rattle.std.proofs.Common.{◌≡◌, ◌+◌, ℕ, ap, arith}
-use Rattle.elfobj.specs.Counts.{Counts, capped}
-use Rattle.elfobj.specs.Raised.{raised}
-use Rattle.elfobj.specs.declared.meter.Count.TheVariants.{Bytes}
+use Rattle.emit_image.proofs.Common.{Bytes, Counts, ap, arith, capped, raised, ℕ, ◌+◌, ◌≡◌}
 
 capped_more : (n a b c : ℕ) → a + b ≡ c → capped (capped n a) b ≡ capped n c
 capped_more n a b c e = omega arith

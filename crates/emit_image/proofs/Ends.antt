@@ -1,7 +1,7 @@
 -- A part put by its first and its last bytes.
-use Rattle.std.proofs.Common.{◌≡◌, ◌∙◌, ◌≤◌, ◌-◌, ◌+◌, ◌++◌, ◌∷◌, [], ℕ, List, ap, arith, append_assoc, drop, suc}
-use Rattle.std.proofs.Common.{length, sym, take}
-use Rattle.std.proofs.lemmas.List.{length-append, length-drop, length-take-le, take-append-drop, take-take}
+use Rattle.emit_image.proofs.Common.{List, [], ap, append_assoc, arith, drop, length, length-append, length-take-le}
+use Rattle.emit_image.proofs.Common.{suc, sym, take, ℕ, ◌++◌, ◌+◌, ◌-◌, ◌∙◌, ◌∷◌, ◌≡◌, ◌≤◌}
+use Rattle.std.proofs.lemmas.List.{length-drop, take-append-drop, take-take}
 use Rattle.std.proofs.lemmas.Slice.{take-put_mid}
 use borrow.Rule.Slice.PartMut.{put_mid, post_of}
 

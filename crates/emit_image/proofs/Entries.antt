@@ -1,17 +1,14 @@
 -- String tables and tables of records, entry by entry.
-use Rattle.std.proofs.Common.{◌≡◌, ◌+◌, ◌<◌, ◌≤◌, ℕ, List, [], ◌∷◌, ◌++◌, length, map, take, get_or, flat_map}
-use Rattle.std.proofs.Common.{append_assoc, append-nil, length-append, refl, sym, ap, ◌∙◌, arith}
-use Rattle.std.proofs.Math.Nat.{zero-add}
-use Rattle.std.specs.List.{enumerate_from, sum_by}
+use Rattle.emit_image.proofs.Common.{List, SymbolEntry, TableSymbol, [], ap, append-nil, append_assoc, arith, entry_of}
+use Rattle.emit_image.proofs.Common.{enumerate_from, flat_map, flat_map-cons, get_or, get_or-map, length, length-append}
+use Rattle.emit_image.proofs.Common.{length-flat_map, length-map, map, map-append, name_offset, names_of, refl}
+use Rattle.emit_image.proofs.Common.{replicate, string_table, sum_by, sum_by-cons, sym, symbol_bytes, symbol_table_of}
+use Rattle.emit_image.proofs.Common.{take, take_all, zero-add, ℕ, ◌++◌, ◌+◌, ◌<◌, ◌∙◌, ◌∷◌, ◌≡◌, ◌≤◌}
 use Rattle.std.proofs.lemmas.Grind.{flat_map-append}
-use Rattle.std.proofs.lemmas.List.{take_more, get_or-map, length-map, map-append, take_all, take-append-le}
-use Rattle.std.proofs.lemmas.List.Sums.{sum_by-cons}
-use Rattle.std.proofs.lemmas.List.Concat.{flat_map-cons, length-flat_map}
+use Rattle.std.proofs.lemmas.List.{take_more, take-append-le}
 use Rattle.std.proofs.lemmas.List.FromFn.{length-enumerate_from, get_or-enumerate_from}
-use Rattle.std.specs.Prelude.{replicate}
-use Rattle.ldmodel.specs.Tail.{SymbolEntry, string_table, name_offset, symbol_bytes, kind_number}
-use Rattle.emit_image.specs.Tables.{entry_of, names_of, binding_number, symbol_table_of}
-use Rattle.emit_image.specs.declared.symbols.TableSymbol.{TableSymbol}
+use Rattle.ldmodel.specs.Tail.{kind_number}
+use Rattle.emit_image.specs.Tables.{binding_number}
 
 with_zero : (name : List ℕ) → length (name ++ 0 ∷ []) ≡ length name + 1
 with_zero name = length-append name (0 ∷ [])

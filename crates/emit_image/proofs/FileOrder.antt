@@ -1,17 +1,10 @@
 -- The output sections of a layout stand in order in the file.
-use Rattle.std.proofs.Common.{◌≡◌, ◌+◌, ◌-◌, ◌<◌, ◌≤◌, ℕ, suc, List, [], ◌∷◌, ◌++◌, length, map, filter, flat_map, Bool}
-use Rattle.std.proofs.Common.{true, false, cond, refl, sym, ap, ◌∙◌, subst, arith}
-use Rattle.std.specs.Prelude.{◌==◌}
-use Rattle.std.specs.List.{All, fold}
-use Rattle.std.proofs.lemmas.List.Elements.{filter-append}
-use Rattle.std.proofs.lemmas.List.{get_or_append_left, get_or-append-add, length-append}
-use Rattle.std.proofs.lemmas.List.Concat.{flat_map-cons}
-use Rattle.std.proofs.lemmas.Bool.Decides.{nat_tests}
-use Rattle.ldmodel_laws.specs.FileLayout.{BeginFrom, IsTogether, Neighbours, Shares}
-use Rattle.ldmodel.specs.Each.{Each}
-use Rattle.ldmodel.specs.Layout.{PlacedOutput}
-use Rattle.ldmodel.specs.Segments.{SectionInFile, Segment, end_of, file_end, in_file, in_segment}
-use Rattle.ldmodel.specs.Segments.{group_sections, shares_segment, segment_start}
+use Rattle.emit_image.proofs.Common.{All, BeginFrom, Bool, Each, IsTogether, List, Neighbours, PlacedOutput}
+use Rattle.emit_image.proofs.Common.{SectionInFile, Shares, [], ap, arith, cond, end_of, false, filter, filter-append}
+use Rattle.emit_image.proofs.Common.{flat_map, flat_map-cons, fold, get_or-append-add, get_or_append_left, in_file}
+use Rattle.emit_image.proofs.Common.{length, length-append, map, nat_tests, refl, segment_start, subst, suc, sym, true}
+use Rattle.emit_image.proofs.Common.{ℕ, ◌++◌, ◌+◌, ◌-◌, ◌<◌, ◌==◌, ◌∙◌, ◌∷◌, ◌≡◌, ◌≤◌}
+use Rattle.ldmodel.specs.Segments.{Segment, file_end, in_segment, group_sections, shares_segment}
 
 abbrev is_loaded : SectionInFile → Bool
 is_loaded x = x.section.has_file_bytes

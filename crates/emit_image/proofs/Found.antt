@@ -1,10 +1,7 @@
 -- What a search through a list finds, and the last end before an address.
-use Rattle.std.proofs.Common.{◌≡◌, ◌+◌, ◌<◌, ◌≤◌, ℕ, zero, suc, List, [], ◌∷◌, length, map, filter, get_or, Bool, true}
-use Rattle.std.proofs.Common.{false, cond, Some, None, max, refl, ap, ◌∙◌, inl, inr, ◌⊎◌, arith}
-use Rattle.std.specs.List.{All, Contains, find}
-use Rattle.std.proofs.lemmas.Bool.Decides.{nat_tests, leb_tells}
-use Rattle.ldmodel.specs.Image.{covers}
-use Rattle.emit_image.specs.Drawing.{last_end}
+use Rattle.emit_image.proofs.Common.{All, Bool, Contains, List, None, Some, [], ap, arith, cond, covers, false, filter}
+use Rattle.emit_image.proofs.Common.{find, get_or, inl, inr, last_end, leb_tells, length, map, max, nat_tests, refl}
+use Rattle.emit_image.proofs.Common.{suc, true, zero, ℕ, ◌+◌, ◌<◌, ◌∙◌, ◌∷◌, ◌≡◌, ◌≤◌, ◌⊎◌}
 
 pub find-none : {X : Type 0} (test : X → Bool) (xs : List X)
     → ((i : ℕ) (d : X) → i < length xs → test (get_or xs i d) ≡ false) → find test xs ≡ None

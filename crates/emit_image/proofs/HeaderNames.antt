@@ -1,16 +1,10 @@
 -- The names of the section headers, and the headers, one after the other.
-use Rattle.std.proofs.Common.{◌≡◌, ◌+◌, ◌<◌, ◌≤◌, ℕ, List, [], ◌∷◌, ◌++◌, length, map, take, get_or, flat_map}
-use Rattle.std.proofs.Common.{append_assoc, length-append, sym, ap, ◌∙◌, subst}
-use Rattle.std.specs.Prelude.{codes}
-use Rattle.std.specs.List.{enumerate_from}
-use Rattle.std.proofs.lemmas.List.{get_or-append-add, get_or_append_left, get_or-map, length-map, take_all}
+use Rattle.emit_image.proofs.Common.{Header, List, SectionHeader, TableSection, [], ap, append_assoc, codes}
+use Rattle.emit_image.proofs.Common.{enumerate_from, flat_map, get_or, get_or-append-add, get_or-map}
+use Rattle.emit_image.proofs.Common.{get_or_append_left, header_bytes, header_names_of, header_of, length}
+use Rattle.emit_image.proofs.Common.{length-append, length-map, map, name_offset, section_header_of, string_table}
+use Rattle.emit_image.proofs.Common.{subst, sym, take, take_all, ℕ, ◌++◌, ◌+◌, ◌<◌, ◌∙◌, ◌∷◌, ◌≡◌, ◌≤◌}
 use Rattle.std.proofs.lemmas.List.FromFn.{length-enumerate_from}
-use Rattle.ldmodel.specs.SectionHeaders.{SectionHeader, header_bytes}
-use Rattle.ldmodel.specs.Tail.{string_table, name_offset}
-use Rattle.emit_image.specs.HeaderRecord.{header_of}
-use Rattle.emit_image.specs.Tables.{header_names_of, section_header_of}
-use Rattle.emit_image.specs.declared.sections.Header.{Header}
-use Rattle.emit_image.specs.declared.sections.TableSection.{TableSection}
 use Rattle.emit_image.proofs.Entries.{string_more, name_at, table_more}
 
 abbrev table_names : List (List ℕ)

@@ -1,19 +1,11 @@
 -- What lies at the offsets of an image.
-use Rattle.std.proofs.Common.{◌≡◌, ◌+◌, ◌<◌, ◌≤◌, ℕ, zero, suc, ◌^◌, List, [], ◌∷◌, length, get_or, drop, true, false}
-use Rattle.std.proofs.Common.{Some, None, refl, sym, ap, ◌∙◌, subst, inl, inr, arith}
-use Rattle.std.specs.Prelude.{nat_lt, slice_index}
-use Rattle.std.specs.List.{find}
-use Rattle.std.proofs.lemmas.Bool.{cases_lt}
-use Rattle.std.proofs.lemmas.Bool.Decides.{nat_tests, leb_tells}
+use Rattle.emit_image.proofs.Common.{AreParts, ArePartsReached, AreSections, AreSectionsReached, Drawing, ImagePart}
+use Rattle.emit_image.proofs.Common.{ImageSection, IsDrawing, IsOrderly, List, None, Some, Spot, [], after_zeros, ap}
+use Rattle.emit_image.proofs.Common.{arith, cases_lt, covers_part, covers_section, drawing_end, drawing_spot, drop}
+use Rattle.emit_image.proofs.Common.{end_of_parts, end_of_sections, false, find, get_or, inl, inr, leb_tells, length}
+use Rattle.emit_image.proofs.Common.{nat_lt, nat_tests, part_end, part_image, refl, section_image, slice_index, subst}
+use Rattle.emit_image.proofs.Common.{suc, sym, true, zero, ℕ, ◌+◌, ◌<◌, ◌^◌, ◌∙◌, ◌∷◌, ◌≡◌, ◌≤◌}
 use Rattle.std.proofs.lemmas.List.{drop_more, drop_all}
-use Rattle.emit_image.specs.Drawing.{AreParts, AreSections, IsDrawing, IsOrderly, covers_part, covers_section}
-use Rattle.emit_image.specs.Drawing.{drawing_end}
-use Rattle.emit_image.specs.Drawing.{drawing_spot, end_of_parts, end_of_sections, part_end}
-use Rattle.emit_image.specs.Reached.{ArePartsReached, AreSectionsReached, after_zeros, part_image, section_image}
-use Rattle.emit_image.specs.Stretches.{Spot}
-use Rattle.emit_image.specs.declared.section.Drawing.{Drawing}
-use Rattle.emit_image.specs.declared.section.ImagePart.{ImagePart}
-use Rattle.emit_image.specs.declared.section.ImageSection.{ImageSection}
 use Rattle.emit_image.proofs.Found.{covered, find-at, find-none, not_covered, same-at}
 
 abbrev file_end : ImageSection → ℕ

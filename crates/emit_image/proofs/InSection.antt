@@ -1,19 +1,12 @@
 -- What lies at the addresses of an output section.
-use Rattle.std.proofs.Common.{◌≡◌, ◌+◌, ◌-◌, ◌%◌, ◌<◌, ◌≤◌, ℕ, zero, suc, List, [], ◌∷◌, length, map, filter, get_or}
-use Rattle.std.proofs.Common.{true, false, not, refl, sym, ap, inl, inr, ◌⊎◌, arith}
-use Rattle.std.specs.Prelude.{slice_index, ◌==◌}
-use Rattle.std.specs.List.{All}
-use Rattle.std.proofs.lemmas.Bool.Decides.{nat_tests, leb_tells}
+use Rattle.emit_image.proofs.Common.{All, ArePieces, Byte, DataFrom, ImagePiece, ImageSection, IsOrderly, IsReached}
+use Rattle.emit_image.proofs.Common.{List, Long, PiecesFrom, Quad, Short, Width, [], ap, arith, byte_count, covers_data}
+use Rattle.emit_image.proofs.Common.{covers_piece, false, filter, get_or, inl, inr, last_end, leb_tells, length, map}
+use Rattle.emit_image.proofs.Common.{nat_tests, not, piece_byte, refl, section_spot, slice_index, suc, sym, true, zero}
+use Rattle.emit_image.proofs.Common.{ℕ, ◌%◌, ◌+◌, ◌-◌, ◌<◌, ◌==◌, ◌∷◌, ◌≡◌, ◌≤◌, ◌⊎◌}
 use Rattle.std.proofs.lemmas.List.Elements.{All-append, All-map, Contains-append_left, Contains-append_right}
 use Rattle.ldmodel.specs.declared.placed.PlacedData.{PlacedData}
-use Rattle.ldscript.specs.statements.Widths.{byte_count}
-use Rattle.ldscript.specs.statements.declared.section.Width.{Width}
-use Rattle.ldscript.specs.statements.declared.section.Width.TheVariants.{Byte, Short, Long, Quad}
-use Rattle.emit_image.specs.Drawing.{AreData, ArePieces, IsOrderly, covers_data, covers_piece, data_byte, data_end}
-use Rattle.emit_image.specs.Drawing.{ends_in, is_full, last_end, piece_byte, piece_end, section_spot}
-use Rattle.emit_image.specs.Reached.{DataFrom, IsReached, PiecesFrom}
-use Rattle.emit_image.specs.declared.section.ImagePiece.{ImagePiece}
-use Rattle.emit_image.specs.declared.section.ImageSection.{ImageSection}
+use Rattle.emit_image.specs.Drawing.{AreData, data_byte, data_end, ends_in, is_full, piece_end}
 use Rattle.emit_image.proofs.Found.{all-full, contains-at, contains-full, covered, find-at, find-none, last-end}
 use Rattle.emit_image.proofs.Found.{not_covered, same-at}
 

@@ -1,26 +1,14 @@
 -- Input sections that stay, joined to those before them.
-use Rattle.std.proofs.Common.{◌≡◌, ◌∙◌, ◌+◌, ◌-◌, ◌<◌, ◌≤◌, ◌⊎◌, inl, inr, ℕ, zero, suc, List, [], ◌∷◌, ◌++◌, length}
-use Rattle.std.proofs.Common.{map, filter, find, get_or, max, Option, Some, None, Bool, true, false, cond, not, ap, sym}
-use Rattle.std.proofs.Common.{refl, subst, take, arith}
-use Rattle.std.specs.Prelude.{nat_le, slice_set, ◌==◌, ◌||◌}
-use Rattle.std.specs.List.{All}
-use Rattle.std.specs.Option.{option_map, option_or}
-use Rattle.std.proofs.lemmas.Bool.{cases_lt, true≢false}
-use Rattle.std.proofs.lemmas.Bool.Decides.{nat_tests}
-use Rattle.std.proofs.lemmas.List.{map-append}
-use Rattle.std.proofs.lemmas.List.Elements.{filter-append}
+use Rattle.emit_image.proofs.Common.{All, AreInOrder, ArePieces, Bool, Each, ImagePiece, List, None, Option, Patch}
+use Rattle.emit_image.proofs.Common.{Some, Spot, [], ap, arith, cases_lt, cond, covers, covers_piece, false, filter}
+use Rattle.emit_image.proofs.Common.{filter-append, find, fold-append, get_or, inl, inr, last_end, length, map}
+use Rattle.emit_image.proofs.Common.{map-append, max, nat_le, nat_tests, not, option_map, option_or, patched_byte, refl}
+use Rattle.emit_image.proofs.Common.{slice_set, subst, suc, sym, take, true, true≢false, zero, ℕ, ◌++◌, ◌+◌, ◌-◌, ◌<◌}
+use Rattle.emit_image.proofs.Common.{◌==◌, ◌||◌, ◌∙◌, ◌∷◌, ◌≡◌, ◌≤◌, ◌⊎◌}
 use Rattle.std.proofs.lemmas.List.Folds.{find-append}
-use Rattle.std.proofs.lemmas.List.Sums.{fold-append}
-use Rattle.emit_fields.specs.Patches.{AreInOrder, patched_byte}
-use Rattle.emit_fields.specs.declared.patch.Patch.{Patch}
-use Rattle.ldmodel.specs.Each.{Each}
-use Rattle.ldmodel.specs.Image.{covers}
 use Rattle.ldmodel.specs.declared.placed.PlacedData.{PlacedData}
-use Rattle.emit_image.specs.Drawing.{AreApart, ArePieces, IsFilled, covers_piece, data_end, is_full, last_end}
-use Rattle.emit_image.specs.Drawing.{piece_end}
+use Rattle.emit_image.specs.Drawing.{AreApart, IsFilled, data_end, is_full, piece_end}
 use Rattle.emit_image.specs.Joined.{IsBare, IsStayedPieceAt, StandFor, piece_ends, piece_spot, spot_in}
-use Rattle.emit_image.specs.Stretches.{Spot}
-use Rattle.emit_image.specs.declared.section.ImagePiece.{ImagePiece}
 use Rattle.emit_image.proofs.Found.{covered, not_covered}
 use Rattle.emit_image.proofs.InSection.{some_bytes}
 
@@ -294,7 +282,8 @@ ends_joined at n s a b e = elim (uncovered (s + a) b at e) [
     highest some past = elim (cases_lt 0 a) [
       | inl full ↦
           (let own = end_of_some at n s a full (omega (arith, past)) in
-          ap (λ m. max m (s + a + b)) own ∙ (let t : max (max n (s + a)) (s + a + b) ≡ max n (s + (a + b)) = omega arith in
+          ap (λ m. max m (s + a + b)) own ∙
+          (let t : max (max n (s + a)) (s + a + b) ≡ max n (s + (a + b)) = omega arith in
           t))
       | inr empty ↦
           (let own = end_of_none at n s a (omega (arith, empty)) in

@@ -1,42 +1,25 @@
 -- What a drawing keeps of an old image is right for the new one.
-use Rattle.std.proofs.Common.{◌≡◌, ◌↔◌, ◌+◌, ◌-◌, ◌<◌, ◌≤◌, ℕ, List, length, map, get_or, Bool, true}
-use Rattle.std.proofs.Common.{false, cond, not, Option, Some, None, Ok, refl, sym, ap, ◌∙◌, subst, inl, inr, arith}
-use Rattle.std.specs.Prelude.{nat_lt, ◌&&◌, ◌==◌, slice_index}
-use Rattle.std.specs.List.{All, AllZip, Contains, find}
-use Rattle.std.proofs.lemmas.Bool.{true≢false, cases_lt}
-use Rattle.std.proofs.lemmas.Bool.Decides.{nat_tests}
+use Rattle.emit_image.proofs.Common.{All, AllZip, Bool, Contains, Drawing, EachPiece, EndsBy, FileRange, GoodLink}
+use Rattle.emit_image.proofs.Common.{HasField, HasStayed, ImagePart, ImagePiece, ImageSection, IsDrawingOf, IsDrawnFor}
+use Rattle.emit_image.proofs.Common.{IsGood, IsImagePiece, IsImageSection, IsOutside, IsPatchOf, IsSpread, Layout, List}
+use Rattle.emit_image.proofs.Common.{None, Ok, Option, Patch, PlacedOutput, PlacedPiece, Project, SectionInFile, Some}
+use Rattle.emit_image.proofs.Common.{any_in, ap, arith, byte_at, cases_lt, cond, covers_data, covers_part, covers_piece}
+use Rattle.emit_image.proofs.Common.{covers_section, drawing_end, drawing_spot, false, file_offset, find, get_or, image}
+use Rattle.emit_image.proofs.Common.{image_length, in_file, in_filter, inl, inr, is_patched, length, linked_in, loaded}
+use Rattle.emit_image.proofs.Common.{map, nat_lt, nat_tests, nonempty, not, patch_end, range_in, refl, section_spot}
+use Rattle.emit_image.proofs.Common.{segments, slice_index, spot_among, spot_past_headers, subst, sym, true, true≢false}
+use Rattle.emit_image.proofs.Common.{width, ℕ, ◌&&◌, ◌+◌, ◌-◌, ◌<◌, ◌==◌, ◌↔◌, ◌∙◌, ◌≡◌, ◌≤◌}
 use Rattle.std.proofs.lemmas.List.FromFn.{get_or-map-range_with_len, length-map-range_with_len}
 use Rattle.elfobj.specs.Profile.{AreApart}
-use Rattle.elfobj.specs.RelocationKinds.{width}
-use Rattle.emit_fields.specs.Patches.{patch_end}
 use Rattle.emit_fields.specs.Patches as patches
-use Rattle.emit_fields.specs.declared.patch.Patch.{Patch}
-use Rattle.ldmodel.specs.Image.{byte_at, image}
-use Rattle.ldmodel.specs.Layout.{Layout, PlacedPiece, PlacedOutput}
-use Rattle.ldmodel.specs.Project.{Project}
 use Rattle.ldmodel.specs.Relocations.{Site, site_field}
-use Rattle.ldmodel.specs.SectionHeaders.{image_length}
-use Rattle.ldmodel.specs.Segments.{SectionInFile, Segment, file_offset, in_file, nonempty, segments}
-use Rattle.ldmodel.specs.Stayed.{FileRange, GoodLink, LinkedPiece, has_stayed, linked_piece, link_pieces, range_in}
-use Rattle.ldmodel.specs.Stayed.{retargeted, sites_in, stayed}
+use Rattle.ldmodel.specs.Segments.{Segment}
+use Rattle.ldmodel.specs.Stayed.{LinkedPiece, has_stayed, linked_piece, link_pieces, retargeted, sites_in, stayed}
 use Rattle.ldmodel.specs.declared.placed.PlacedData.{PlacedData}
 use Rattle.ldmodel_laws.specs.ImageBytes.{AreNamed}
-use Rattle.ldmodel_laws.specs.Spread.{IsSpread}
 use Rattle.ldmodel_laws.specs.Spread as spread
-use Rattle.ldmodel_laws.specs.Untouched.{HasField, IsGood, IsOutside}
-use Rattle.emit_image.specs.Drawing.{covers_data, covers_part, covers_piece, covers_section, drawing_end, drawing_spot}
-use Rattle.emit_image.specs.Drawing.{section_spot, spot_among, spot_past_headers}
-use Rattle.emit_image.specs.Redrawings.{ArePatchesOf, EachPiece, HasStayed, IsRedrawing, IsSitePatch, file_patch}
-use Rattle.emit_image.specs.Redrawings.{linked_in}
-use Rattle.emit_image.specs.OfLink.{IsDrawingOf, IsImagePiece, IsImageSection, loaded}
-use Rattle.emit_image.specs.Drawn.{IsDrawnFor}
-use Rattle.emit_image.specs.Stretches.{EndsBy, IsPatchOf, is_patched}
-use Rattle.emit_image.specs.declared.section.Drawing.{Drawing}
-use Rattle.emit_image.specs.declared.section.ImagePart.{ImagePart}
-use Rattle.emit_image.specs.declared.section.ImagePiece.{ImagePiece}
-use Rattle.emit_image.specs.declared.section.ImageSection.{ImageSection}
+use Rattle.emit_image.specs.Redrawings.{ArePatchesOf, IsRedrawing, IsSitePatch, file_patch}
 use Rattle.ldmodel_laws.proofs.Finding.{map_in, member_of}
-use Rattle.ldmodel_laws.proofs.Members.{any_in, in_filter}
 use Rattle.emit_image.proofs.Members.{Beside, beside, zip_both}
 use Rattle.emit_image.proofs.OfLink.{covers-high, covers-low, drawing-same, end-same}
 

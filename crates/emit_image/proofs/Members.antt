@@ -1,8 +1,6 @@
 -- Members of two lists that go together.
-use Rattle.std.proofs.Common.{◌≡◌, Bool, true, false, cond, List, [], ◌∷◌}
-use Rattle.std.proofs.Common.{Some, refl, subst}
-use Rattle.std.specs.List.{AllZip, Contains, find}
-use Rattle.ldmodel_laws.proofs.Members.{here, later}
+use Rattle.emit_image.proofs.Common.{AllZip, Bool, Contains, List, Some, [], cond, false, find, here, later, refl}
+use Rattle.emit_image.proofs.Common.{subst, true, ◌∷◌, ◌≡◌}
 
 -- two relations between the members of two lists
 pub zip_both : {X Y : Type 0} (R S : X → Y → Type 0) (xs : List X) (ys : List Y) → AllZip R xs ys → AllZip S xs ys

@@ -1,37 +1,24 @@
 -- A drawing of a link's values is the link's image.
-use Rattle.std.proofs.Common.{◌≡◌, ◌+◌, ◌-◌, ◌<◌, ◌≤◌, ℕ, suc, List, [], ◌∷◌, ◌++◌, length, map, filter, Bool, true}
-use Rattle.std.proofs.Common.{false, cond, not, Option, Some, None, refl, sym, ap, ◌∙◌, subst, arith}
-use Rattle.std.specs.Prelude.{nat_lt, ◌&&◌, ◌==◌, slice_index}
-use Rattle.std.specs.List.{All, AllZip, find}
-use Rattle.std.proofs.lemmas.Bool.Decides.{nat_tests}
+use Rattle.emit_image.proofs.Common.{All, AllZip, Bool, Byte, Drawing, FilePart, ImagePart, ImagePiece, ImageSection}
+use Rattle.emit_image.proofs.Common.{IsDrawingOf, IsImageData, IsImagePart, IsImagePiece, IsImageSection, Layout, List}
+use Rattle.emit_image.proofs.Common.{Long, None, Option, PlacedOutput, PlacedPiece, Project, Quad, SectionInFile, Short}
+use Rattle.emit_image.proofs.Common.{Some, Spot, Width, [], ap, arith, byte_at, byte_count, cond, covering_data}
+use Rattle.emit_image.proofs.Common.{covering_piece, covers, covers_data, covers_part, covers_piece, covers_section}
+use Rattle.emit_image.proofs.Common.{drawing_end, drawing_spot, end_of_part, end_of_parts, end_of_sections, false}
+use Rattle.emit_image.proofs.Common.{file_headers, file_section_at, fill_byte, filter, find, image_length, in_file}
+use Rattle.emit_image.proofs.Common.{last_end, length, loaded, map, nat_lt, nat_tests, not, piece_byte, refl}
+use Rattle.emit_image.proofs.Common.{section_spot, segments, slice_index, spot_among, spot_past_headers, subst, suc}
+use Rattle.emit_image.proofs.Common.{sym, tail, tail_at, true, ℕ, ◌&&◌, ◌++◌, ◌+◌, ◌-◌, ◌<◌, ◌==◌, ◌∙◌, ◌∷◌, ◌≡◌, ◌≤◌}
 use Rattle.std.proofs.lemmas.List.FromFn.{fill_by_all}
 use Rattle.byteorder.specs.Endian.{little_bytes}
-use Rattle.ldmodel.specs.Image.{byte_at, covers, covering_data, covering_piece, file_headers, file_section_at}
-use Rattle.ldmodel.specs.Image.{fill_byte, tail_at}
 use Rattle.ldmodel.specs.Image as image
 use Rattle.ldmodel_laws.specs.ByteCases.{byte_past_headers, output_byte, part_byte}
 use Rattle.ldmodel_laws.specs.ByteCases as cases
 use Rattle.ldmodel_laws.proofs.ByteCases.{by_cases}
-use Rattle.ldmodel.specs.Layout.{Layout, PlacedPiece, PlacedOutput}
 use Rattle.ldmodel.specs.Layout as layout
-use Rattle.ldmodel.specs.Project.{Project}
-use Rattle.ldmodel.specs.SectionHeaders.{FilePart, end_of_part, image_length, tail}
-use Rattle.ldmodel.specs.Segments.{SectionInFile, segments, in_file}
 use Rattle.ldmodel.specs.declared.placed.PlacedData.{PlacedData}
-use Rattle.ldscript.specs.statements.Widths.{byte_count}
-use Rattle.ldscript.specs.statements.declared.section.Width.{Width}
-use Rattle.ldscript.specs.statements.declared.section.Width.TheVariants.{Byte, Short, Long, Quad}
-use Rattle.emit_image.specs.Drawing.{covers_data, covers_part, covers_piece, covers_section, data_byte, data_end}
-use Rattle.emit_image.specs.Drawing.{drawing_end, drawing_spot, end_of_parts, end_of_sections, ends_in, gap_byte}
-use Rattle.emit_image.specs.Drawing.{is_full}
-use Rattle.emit_image.specs.Drawing.{last_end, piece_byte, piece_end, section_spot, spot_among, spot_past_headers}
-use Rattle.emit_image.specs.OfLink.{AreUnstayed, IsDrawingOf, IsImageData, IsImagePart, IsImagePiece, IsImageSection}
-use Rattle.emit_image.specs.OfLink.{loaded}
-use Rattle.emit_image.specs.Stretches.{Spot}
-use Rattle.emit_image.specs.declared.section.Drawing.{Drawing}
-use Rattle.emit_image.specs.declared.section.ImagePart.{ImagePart}
-use Rattle.emit_image.specs.declared.section.ImagePiece.{ImagePiece}
-use Rattle.emit_image.specs.declared.section.ImageSection.{ImageSection}
+use Rattle.emit_image.specs.Drawing.{data_byte, data_end, ends_in, gap_byte, is_full, piece_end}
+use Rattle.emit_image.specs.OfLink.{AreUnstayed}
 
 -- what is found, if anything, has a property
 abbrev FoundAll : {X : Type 0} → (X → Type 0) → Option X → Type 0

@@ -1,15 +1,8 @@
 -- Spans that are written after others.
-use Rattle.std.proofs.Common.{◌≡◌, ◌+◌, ◌-◌, ◌<◌, ◌≤◌, ℕ, zero, suc, List, [], ◌∷◌, length, Bool, true, false, cond}
-use Rattle.std.proofs.Common.{get_or, refl, sym, ap, ◌∙◌, inl, inr, arith}
-use Rattle.std.proofs.lemmas.Bool.{cases_lt, true≢false}
-use Rattle.std.proofs.lemmas.Bool.Decides.{nat_tests}
-use Rattle.elfobj.specs.Counts.{Counts}
-use Rattle.elfobj.specs.Raised.{raised}
-use Rattle.elfobj.specs.declared.meter.Count.TheVariants.{Bytes}
-use Rattle.emit_image.specs.Drawn.{count_unstayed}
-use Rattle.emit_image.specs.Painted.{IsPainted, count_from}
-use Rattle.emit_image.specs.Reached.{after_zeros}
-use Rattle.emit_image.specs.Stretches.{Spot}
+use Rattle.emit_image.proofs.Common.{Bool, Bytes, Counts, IsPainted, List, Spot, [], after_zeros, ap, arith, cases_lt}
+use Rattle.emit_image.proofs.Common.{cond, count_from, count_unstayed, false, get_or, inl, inr, length, nat_tests}
+use Rattle.emit_image.proofs.Common.{raised, refl, suc, sym, true, true≢false, zero, ℕ, ◌+◌, ◌-◌, ◌<◌, ◌∙◌, ◌∷◌, ◌≡◌}
+use Rattle.emit_image.proofs.Common.{◌≤◌}
 use Rattle.emit_image.proofs.Counting.{raised_more}
 use Rattle.emit_image.proofs.Unstayed.{nothing, one_more, unless}
 

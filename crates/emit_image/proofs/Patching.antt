@@ -1,17 +1,9 @@
 -- Patches one after the other: a write of right bytes keeps right what was right.
-use Rattle.std.proofs.Common.{◌≡◌, ◌+◌, ◌-◌, ◌<◌, ◌≤◌, ℕ, List, length, get_or, take, Bool, true, false, ◌||◌, refl}
-use Rattle.std.proofs.Common.{sym, ap, ◌∙◌, subst, inl, inr, ◌⊎◌, arith}
-use Rattle.std.specs.List.{All}
-use Rattle.std.proofs.lemmas.Bool.{cases_lt}
-use Rattle.std.proofs.lemmas.Bool.Decides.{nat_tests}
+use Rattle.emit_image.proofs.Common.{All, Bool, Bytes, Counts, IsPatchOf, List, Patch, ap, arith, cases_lt, false}
+use Rattle.emit_image.proofs.Common.{get_or, inl, inr, is_patched, length, nat_tests, patch_bytes, raised, refl, subst}
+use Rattle.emit_image.proofs.Common.{sum_by_more, sym, take, true, ℕ, ◌+◌, ◌-◌, ◌<◌, ◌||◌, ◌∙◌, ◌≡◌, ◌≤◌, ◌⊎◌}
 use Rattle.std.proofs.lemmas.List.Folds.{list_any_more}
-use Rattle.std.proofs.lemmas.List.Sums.{sum_by_more}
-use Rattle.elfobj.specs.Counts.{Counts}
-use Rattle.elfobj.specs.Raised.{raised}
-use Rattle.elfobj.specs.declared.meter.Count.TheVariants.{Bytes}
 use Rattle.emit_fields.specs.Patches.{patch_covers}
-use Rattle.emit_fields.specs.declared.patch.Patch.{Patch}
-use Rattle.emit_image.specs.Stretches.{IsPatchOf, is_patched, patch_bytes}
 use Rattle.emit_image.proofs.Counting.{raised_more}
 
 -- what the writing of a patch leaves

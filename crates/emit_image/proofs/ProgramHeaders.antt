@@ -1,23 +1,15 @@
 -- The program headers of segments of the code are those of the segments that they stand for.
-use Rattle.std.proofs.Common.{Bool, List, [], ap, cond, false, flat_map, length, refl, take, true, ℕ, ◌*◌, ◌++◌, ◌+◌}
-use Rattle.std.proofs.Common.{◌∙◌, ◌∷◌, ◌≡◌, ◌≤◌}
-use Rattle.std.specs.Prelude.{nat_lt, ◌==◌}
-use Rattle.std.specs.List.{AllZip, fold}
-use Rattle.std.proofs.lemmas.List.{take_all}
+use Rattle.emit_image.proofs.Common.{AllZip, AllZip-long, Bool, Layout, List, PlacedOutput, Project, [], ap, cond}
+use Rattle.emit_image.proofs.Common.{false, file_end_of, file_headers, flat_map, fold, header_part, insert_by, length}
+use Rattle.emit_image.proofs.Common.{loaded_end, nat_lt, refl, segment_bytes, segment_start, segments, sort_by}
+use Rattle.emit_image.proofs.Common.{starts_before, take, take_all, true, ℕ, ◌*◌, ◌++◌, ◌+◌, ◌==◌, ◌∙◌, ◌∷◌, ◌≡◌, ◌≤◌}
 use Rattle.std.specs.Ordering.{is_lt, nat_cmp}
 use Rattle.std.specs.declared.cmp.Ordering.TheVariants.{Less, Equal, Greater}
-use Rattle.std.proofs.lemmas.Slice.Zip.{AllZip-long}
 use Rattle.ldmodel.specs.Headers.{elf_header, program_header, ascending}
-use Rattle.ldmodel.specs.Image.{file_headers}
-use Rattle.ldmodel.specs.Project.{Project}
-use Rattle.ldmodel.specs.SectionHeaders.{header_part}
 use Rattle.ldmodel.specs.SymbolValues.{entry_point, number_or_0}
-use Rattle.ldmodel.specs.Layout.{Layout, PlacedOutput}
 use Rattle.ldmodel.specs.PlacementView.{IsSegment, AreSegments}
-use Rattle.ldmodel.specs.Segments.{Segment, file_end, loaded_end, segments, segment_start}
-use Rattle.ldmodel.specs.Sorting.{insert_by, sort_by}
+use Rattle.ldmodel.specs.Segments.{Segment, file_end}
 use Rattle.ldmodel.specs.declared.segment.Segment as code
-use Rattle.emit_image.specs.SegmentBytes.{file_end_of, segment_bytes, starts_before}
 
 abbrev pub lower : Segment → Segment → Bool
 lower g h = nat_lt (segment_start g) (segment_start h)

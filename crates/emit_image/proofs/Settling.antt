@@ -1,23 +1,18 @@
 -- The parts of the output sections of a placement stand in order in memory.
-use Rattle.std.proofs.Common.{◌≡◌, ◌+◌, ◌-◌, ◌<◌, ◌≤◌, ◌^◌, ℕ, zero, suc, List, [], ◌∷◌, ◌++◌, length, get_or, Bool}
-use Rattle.std.proofs.Common.{true, false, cond, not, refl, sym, subst, inl, inr, ◌⊎◌, arith}
-use Rattle.std.specs.Prelude.{◌==◌}
-use Rattle.std.specs.List.{All}
-use Rattle.std.proofs.lemmas.Bool.Decides.{nat_tests}
+use Rattle.emit_image.proofs.Common.{All, Bool, Each, IsSpread, Layout, List, PlacedOutput, PlacedPiece, [], arith}
+use Rattle.emit_image.proofs.Common.{cond, end_of, false, get_or, inl, inr, length, nat_tests, nonempty, not, refl}
+use Rattle.emit_image.proofs.Common.{subst, suc, sym, true, zero, ℕ, ◌++◌, ◌+◌, ◌-◌, ◌<◌, ◌==◌, ◌^◌, ◌∷◌, ◌≡◌, ◌≤◌, ◌⊎◌}
 use Rattle.std.proofs.lemmas.List.Elements.{All-cons, All-nil}
 use Rattle.ldscript.specs.statements.Numbering.{OutputSectionAt, output_sections, regions}
 use Rattle.ldscript.specs.statements.declared.section.OutputSection.{OutputSection}
 use Rattle.ldscript.specs.statements.declared.statement.Region.{Region}
 use Rattle.ldscript.specs.statements.declared.statement.Statement.{Statement}
-use Rattle.ldmodel_laws.specs.Spread.{AreApart, EachLater, IsSpread, data_end, piece_end}
+use Rattle.ldmodel_laws.specs.Spread.{AreApart, EachLater, data_end, piece_end}
 use Rattle.ldmodel_laws.specs.Traces.{BodyEffect, dot_noted, inputs_counted, symbol_given, dot_moved, entry_placed}
 use Rattle.ldmodel_laws.specs.Traces.{data_added, BodyEffects, no_effect, effect_then, AddsSection, Trace, all_added}
 use Rattle.ldmodel_laws.specs.Traces.{nothing_added, region_added, section_added}
-use Rattle.ldmodel.specs.Placement.{Body}
-use Rattle.ldmodel.specs.Each.{Each}
-use Rattle.ldmodel.specs.Layout.{Layout, PlacedData, PlacedPiece, PlacedOutput, nothing_placed}
-use Rattle.ldmodel.specs.Placement.{opened, placed_section}
-use Rattle.ldmodel.specs.Segments.{end_of, nonempty}
+use Rattle.ldmodel.specs.Placement.{Body, opened, placed_section}
+use Rattle.ldmodel.specs.Layout.{PlacedData, nothing_placed}
 use Rattle.emit_image.specs.InMemory.{DataInOrder, IsInMemory, PiecesInOrder}
 
 -- lists by their members

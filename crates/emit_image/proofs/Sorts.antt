@@ -1,11 +1,9 @@
 -- What a sort by a closure says.
-use Rattle.std.proofs.Common.{Bool, List, Result, Ok, Err, Bor, OnOk}
+use Rattle.emit_image.proofs.Common.{Bool, Bor, Err, IsOrdered, IsStrictWeakOrder, List, Ok, OnOk, Result}
 use Rattle.std.specs.List.Sorted.{IsSortedByClosure, IsStableByClosure}
-use Rattle.std.specs.Cmp.{IsStrictWeakOrder}
 use Rattle.std.specs.Fn.{ComparesAs}
 use Rattle.std.specs.declared.cmp.Ordering.{Ordering}
 use denote.Param.Members.{Mut}
-use Rattle.ldmodel.specs.Sorting.{IsOrdered}
 
 -- a list that was sorted, where the closure compares by lt
 pub ordered_by : {F X : Type 0} {g : Mut F (Bor X × (Bor X × Unit {0})) Ordering} {f : F} {T E : Type 0}

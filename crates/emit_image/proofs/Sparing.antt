@@ -1,42 +1,25 @@
 -- How many bytes a drawing that keeps what stayed leaves unwritten.
-use Rattle.std.proofs.Common.{◌≡◌, ◌+◌, ◌-◌, ◌<◌, ◌≤◌, ℕ, zero, suc, List, [], ◌∷◌, length, map, filter, flat_map}
-use Rattle.std.proofs.Common.{get_or, Bool, true, false, cond, not, Some, refl, sym, ap, ◌∙◌, subst, inl, arith}
-use Rattle.std.specs.Prelude.{◌==◌, ◌&&◌, sum_by}
-use Rattle.std.specs.List.{AllZip, Contains, find}
-use Rattle.std.proofs.lemmas.Bool.Decides.{nat_tests}
-use Rattle.std.proofs.lemmas.List.Concat.{flat_map-cons}
+use Rattle.emit_image.proofs.Common.{AllZip, AreParts, ArePieces, AreSections, Bool, Contains, Drawing, Each, EachPiece}
+use Rattle.emit_image.proofs.Common.{FileRange, GoodLink, ImagePart, ImagePiece, ImageSection, IsDrawing, IsDrawingOf}
+use Rattle.emit_image.proofs.Common.{IsGood, IsImagePiece, IsImageSection, IsMarkedIfStayed, IsOrderly, IsSpread}
+use Rattle.emit_image.proofs.Common.{Layout, List, Patch, PlacedOutput, PlacedPiece, SectionInFile, Some, Spot, [], ap}
+use Rattle.emit_image.proofs.Common.{arith, bytes_stayed, cond, count_unstayed, covers_data, covers_piece}
+use Rattle.emit_image.proofs.Common.{covers_section, drawing_end, drawing_spot, end_of_parts, end_of_sections, false}
+use Rattle.emit_image.proofs.Common.{file_offset, filter, find, flat_map, flat_map-cons, get_or, here, image_length}
+use Rattle.emit_image.proofs.Common.{in_file, inl, later, length, linked_in, loaded, map, nat_tests, nonempty, not}
+use Rattle.emit_image.proofs.Common.{part_end, patch_bytes, range_in, refl, retargeted_bytes, section_image}
+use Rattle.emit_image.proofs.Common.{section_spot, segments, spot_among, subst, suc, sum_by, sum_by-append, sum_by-cons}
+use Rattle.emit_image.proofs.Common.{sym, true, width, zero, ℕ, ◌&&◌, ◌+◌, ◌-◌, ◌<◌, ◌==◌, ◌∙◌, ◌∷◌, ◌≡◌, ◌≤◌}
 use Rattle.std.proofs.lemmas.List.Sorted.{sum_by-IsPermutation}
-use Rattle.std.proofs.lemmas.List.Sums.{sum_by-append, sum_by-cons}
 use Rattle.std.specs.List.Sorted.{IsPermutation}
-use Rattle.elfobj.specs.RelocationKinds.{width}
-use Rattle.emit_fields.specs.declared.patch.Patch.{Patch}
-use Rattle.ldmodel.specs.Each.{Each}
-use Rattle.ldmodel.specs.Layout.{Layout, PlacedPiece, PlacedOutput}
-use Rattle.ldmodel.specs.SectionHeaders.{image_length}
-use Rattle.ldmodel.specs.Segments.{SectionInFile, Segment, file_offset, in_file, nonempty, segments}
-use Rattle.ldmodel.specs.Stayed.{FileRange, GoodLink, LinkedPiece, has_stayed, linked_piece, linked_pieces}
-use Rattle.ldmodel.specs.Stayed.{range_in, retargeted, stayed}
-use Rattle.ldmodel.specs.WorkBound.{bytes_stayed, retargeted_bytes}
+use Rattle.ldmodel.specs.Segments.{Segment}
+use Rattle.ldmodel.specs.Stayed.{LinkedPiece, has_stayed, linked_piece, linked_pieces, retargeted, stayed}
 use Rattle.ldmodel.specs.Relocations.{Site}
-use Rattle.ldmodel_laws.specs.Spread.{IsSpread}
 use Rattle.ldmodel_laws.specs.Spread as spread
-use Rattle.ldmodel_laws.specs.Untouched.{IsGood}
-use Rattle.emit_image.specs.Drawing.{AreParts, ArePieces, AreSections, IsDrawing, IsOrderly, covers_data, covers_piece}
-use Rattle.emit_image.specs.Drawing.{covers_section, drawing_end, drawing_spot, end_of_parts, end_of_sections, part_end}
-use Rattle.emit_image.specs.Drawing.{piece_end, section_spot, spot_among}
-use Rattle.emit_image.specs.Redrawings.{EachPiece, IsMarkedIfStayed, linked_in}
-use Rattle.emit_image.specs.OfLink.{IsDrawingOf, IsImagePiece, IsImageSection, loaded}
-use Rattle.emit_image.specs.Drawn.{count_unstayed}
-use Rattle.emit_image.specs.Reached.{section_image}
-use Rattle.emit_image.specs.Stretches.{Spot, patch_bytes}
-use Rattle.emit_image.specs.declared.section.Drawing.{Drawing}
-use Rattle.emit_image.specs.declared.section.ImagePart.{ImagePart}
-use Rattle.emit_image.specs.declared.section.ImagePiece.{ImagePiece}
-use Rattle.emit_image.specs.declared.section.ImageSection.{ImageSection}
+use Rattle.emit_image.specs.Drawing.{piece_end}
 use Rattle.emit_image.proofs.Found.{covered, find-at, not_covered}
 use Rattle.emit_image.proofs.InDrawing.{in_section, sections-order}
 use Rattle.emit_image.proofs.InSection.{pieces-end, pieces-order}
-use Rattle.ldmodel_laws.proofs.Members.{here, later}
 use Rattle.emit_image.proofs.Members.{zip_both}
 use Rattle.emit_image.proofs.OfLink.{end-same}
 use Rattle.emit_image.proofs.Unstayed.{run, unless}

@@ -1,28 +1,13 @@
 -- How many bytes a drawing writes that keeps nothing but what stayed: all that the image has besides.
-use Rattle.std.proofs.Common.{◌≡◌, ◌∙◌, ◌+◌, ◌-◌, ◌<◌, ◌≤◌, ℕ, zero, suc, Bool, true, false, cond, not, ap, sym, refl}
-use Rattle.std.proofs.Common.{List, [], ◌∷◌, filter, length, min, Option, Some, None, arith}
-use Rattle.std.specs.Prelude.{◌==◌, ◌&&◌, nat_lt, slice_index, sum_by}
-use Rattle.std.specs.List.{AllZip, find}
-use Rattle.std.proofs.lemmas.Bool.Decides.{nat_tests}
-use Rattle.std.proofs.lemmas.List.Sums.{sum_by-cons}
-use Rattle.ldmodel_laws.specs.Untouched.{IsGood}
-use Rattle.ldmodel.specs.Image.{covers}
-use Rattle.ldmodel.specs.Layout.{PlacedPiece, PlacedOutput}
-use Rattle.ldmodel.specs.SectionHeaders.{image_length}
-use Rattle.ldmodel.specs.Segments.{SectionInFile, file_offset, in_file, nonempty, segments}
-use Rattle.ldmodel.specs.Stayed.{FileRange, GoodLink, range_in}
-use Rattle.ldmodel.specs.WorkBound.{bytes_stayed}
-use Rattle.std.specs.Prelude.{map}
-use Rattle.emit_image.specs.Drawing.{IsDrawing, covers_data, covers_part, covers_piece, covers_section, drawing_end}
-use Rattle.emit_image.specs.Drawing.{drawing_spot, section_spot, spot_among, spot_past_headers}
-use Rattle.emit_image.specs.Redrawings.{EachPiece, HasStayed, IsMarkedIfStayed, linked_in}
-use Rattle.emit_image.specs.OfLink.{IsDrawingOf, IsImagePiece, IsImageSection, loaded}
-use Rattle.emit_image.specs.Drawn.{count_unstayed}
-use Rattle.emit_image.specs.Stretches.{Spot}
-use Rattle.emit_image.specs.declared.section.Drawing.{Drawing}
-use Rattle.emit_image.specs.declared.section.ImagePart.{ImagePart}
-use Rattle.emit_image.specs.declared.section.ImagePiece.{ImagePiece}
-use Rattle.emit_image.specs.declared.section.ImageSection.{ImageSection}
+use Rattle.emit_image.proofs.Common.{AllZip, Bool, Drawing, EachPiece, FileRange, GoodLink, HasStayed, ImagePart}
+use Rattle.emit_image.proofs.Common.{ImagePiece, ImageSection, IsDrawing, IsDrawingOf, IsGood, IsImagePiece}
+use Rattle.emit_image.proofs.Common.{IsImageSection, IsMarkedIfStayed, List, None, Option, PlacedOutput, PlacedPiece}
+use Rattle.emit_image.proofs.Common.{SectionInFile, Some, Spot, [], ap, arith, bytes_stayed, cond, count_unstayed}
+use Rattle.emit_image.proofs.Common.{covers, covers_data, covers_part, covers_piece, covers_section, drawing_end}
+use Rattle.emit_image.proofs.Common.{drawing_spot, false, file_offset, filter, find, image_length, in_file, length}
+use Rattle.emit_image.proofs.Common.{linked_in, loaded, map, min, nat_lt, nat_tests, nonempty, not, range_in, refl}
+use Rattle.emit_image.proofs.Common.{section_spot, segments, slice_index, spot_among, spot_past_headers, suc, sum_by}
+use Rattle.emit_image.proofs.Common.{sum_by-cons, sym, true, zero, ℕ, ◌&&◌, ◌+◌, ◌-◌, ◌<◌, ◌==◌, ◌∙◌, ◌∷◌, ◌≡◌, ◌≤◌}
 use Rattle.ldmodel.specs.declared.placed.PlacedData.{PlacedData}
 use Rattle.emit_image.proofs.Members.{zip_both}
 use Rattle.emit_image.proofs.OfLink.{end-same}
@@ -178,7 +163,8 @@ module _ (d : Drawing) where
   unfolding all_below all_at
   one_more n = each d.sections.now
     where
-      each : (ys : List ImageSection) → sum_by (kept_below (suc n)) ys ≡ sum_by (kept_below n) ys + sum_by (kept_at n) ys
+      each : (ys : List ImageSection) → sum_by (kept_below (suc n)) ys ≡ sum_by (kept_below n) ys + sum_by (kept_at n)
+          ys
       each [] = omega arith
       each (y ∷ ys) =
           let own = sum_plus (λ v. passing (is_kept_at y v) n) (λ v. bit (is_kept_at y v n)) y.pieces.now in
@@ -277,7 +263,8 @@ module _ (old new : GoodLink) (all_in_file : (sections : List PlacedOutput)
 
       range : u.piece.size ≤ (range_in (segments new.layout.sections) q u).length
       range =
-          let is : (range_in (segments new.layout.sections) q u).length ≡ (cond (not (u.piece.size == 0)) own none).length =
+          let is : (range_in (segments new.layout.sections) q u).length ≡
+          (cond (not (u.piece.size == 0)) own none).length =
           ap (λ b. (cond (b && not (u.piece.size == 0)) own none).length) bytes in
           let at = full (u.piece.size == 0) refl in
           omega (arith, is, at)
@@ -308,7 +295,8 @@ module _ (old new : GoodLink) (all_in_file : (sections : List PlacedOutput)
       let least = least_drawn d in
       let end = end-same new.project new.layout d is in
       let few = sum_zip_back (λ x y. (x.section.has_file_bytes ≡ true)
-      × (IsImageSection new.project new.layout x y × AllZip (HasStayed old new x.section) x.section.pieces y.pieces.now))
+      × (IsImageSection new.project new.layout x y × AllZip (HasStayed old new x.section) x.section.pieces
+      y.pieces.now))
       (λ (x : SectionInFile). stayed_in old new x.section) kept_bytes section_stayed (loaded new.layout) d.sections.now
       (zip_filtered (λ x y. IsImageSection new.project new.layout x y
       × AllZip (HasStayed old new x.section) x.section.pieces y.pieces.now)

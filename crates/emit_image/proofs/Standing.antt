@@ -1,36 +1,23 @@
 -- The parts of a drawing of a link stand in order.
-use Rattle.std.proofs.Common.{◌≡◌, ◌+◌, ◌*◌, ◌<◌, ◌≤◌, ◌^◌, ℕ, zero, suc, List, [], ◌∷◌, ◌++◌, length, map, flat_map}
-use Rattle.std.proofs.Common.{get_or, Bool, true, false, cond, not, refl, sym, ap, ◌∙◌, subst, arith, inl, inr}
-use Rattle.std.specs.Prelude.{◌==◌, nat_lt}
-use Rattle.std.specs.Int.{next_multiple_of}
-use Rattle.std.specs.List.{All, AllZip}
-use Rattle.std.proofs.lemmas.Bool.Decides.{nat_tests}
-use Rattle.std.proofs.lemmas.List.{length-append, length-map, get_or-map, map-append}
-use Rattle.std.proofs.lemmas.List.Concat.{flat_map-cons}
-use Rattle.std.proofs.lemmas.Slice.Zip.{AllZip-long}
-use Rattle.ldmodel_laws.specs.FileLayout.{IsFileLayout}
+use Rattle.emit_image.proofs.Common.{All, AllZip, AllZip-long, AreParts, ArePieces, AreSections, Bool, Drawing}
+use Rattle.emit_image.proofs.Common.{FilePart, ImagePart, ImagePiece, ImageSection, IsDrawing, IsDrawingOf}
+use Rattle.emit_image.proofs.Common.{IsFileLayout, IsImageData, IsImagePart, IsImagePiece, IsImageSection, IsOrderly}
+use Rattle.emit_image.proofs.Common.{Layout, List, PlacedOutput, PlacedPiece, Project, SectionInFile, [], ap, arith}
+use Rattle.emit_image.proofs.Common.{cond, end_of, end_of_part, end_of_sections, false, file_headers, flat_map}
+use Rattle.emit_image.proofs.Common.{flat_map-cons, get_or, get_or-map, header_part, image_length, in_file, inl, inr}
+use Rattle.emit_image.proofs.Common.{insert_by, length, length-append, length-map, loaded, loaded_end, map, map-append}
+use Rattle.emit_image.proofs.Common.{nat_lt, nat_tests, next_multiple_of, nonempty, not, part_end, refl, segment_start}
+use Rattle.emit_image.proofs.Common.{segments, sort_by, subst, suc, sym, tables, tail, true, zero, ℕ, ◌*◌, ◌++◌, ◌+◌}
+use Rattle.emit_image.proofs.Common.{◌<◌, ◌==◌, ◌^◌, ◌∙◌, ◌∷◌, ◌≡◌, ◌≤◌}
 use Rattle.ldmodel.specs.Headers.{ascending, elf_header, program_header}
-use Rattle.ldmodel.specs.Image.{file_headers}
-use Rattle.ldmodel.specs.Layout.{Layout, PlacedPiece, PlacedOutput}
 use Rattle.ldmodel.specs.Layout as layout
-use Rattle.ldmodel.specs.Project.{Project}
-use Rattle.ldmodel.specs.SectionHeaders.{FilePart, end_of_part, header_count, header_names_number, header_part}
-use Rattle.ldmodel.specs.SectionHeaders.{image_length, tables, tail}
-use Rattle.ldmodel.specs.Segments.{SectionInFile, Segment, end_of, headers_end, in_file, in_segment}
-use Rattle.ldmodel.specs.Segments.{loaded_end, nonempty, group_sections, segments, segment_start}
+use Rattle.ldmodel.specs.SectionHeaders.{header_count, header_names_number}
+use Rattle.ldmodel.specs.Segments.{Segment, headers_end, in_segment, group_sections}
 use Rattle.ldmodel.specs.SymbolValues.{entry_point, number_or_0}
-use Rattle.ldmodel.specs.Sorting.{insert_by, sort_by}
 use Rattle.ldmodel.specs.declared.placed.PlacedData.{PlacedData}
-use Rattle.emit_image.specs.Drawing.{AreApart, AreData, AreParts, ArePieces, AreSections, IsDrawing, IsOrderly}
-use Rattle.emit_image.specs.Drawing.{data_end}
-use Rattle.emit_image.specs.Drawing.{end_of_sections, part_end, piece_end}
+use Rattle.emit_image.specs.Drawing.{AreApart, AreData, data_end, piece_end}
 use Rattle.emit_image.specs.InMemory.{AreFilled, DataInOrder, DoNotMeet, IsInMemory, IsSectionFilled, PiecesInOrder}
 use Rattle.emit_image.specs.InMemory.{bytes_end, placed_end}
-use Rattle.emit_image.specs.OfLink.{IsDrawingOf, IsImageData, IsImagePart, IsImagePiece, IsImageSection, loaded}
-use Rattle.emit_image.specs.declared.section.Drawing.{Drawing}
-use Rattle.emit_image.specs.declared.section.ImagePart.{ImagePart}
-use Rattle.emit_image.specs.declared.section.ImagePiece.{ImagePiece}
-use Rattle.emit_image.specs.declared.section.ImageSection.{ImageSection}
 use Rattle.emit_image.proofs.FileOrder.{InFile, files, last_file_end}
 use Rattle.emit_image.proofs.Found.{all-full}
 use Rattle.emit_image.proofs.OfLink.{data-long}

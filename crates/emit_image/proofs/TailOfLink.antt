@@ -1,25 +1,15 @@
 -- The tail that is made of values is that of the link whose values they are.
-use Rattle.std.proofs.Common.{◌≡◌, ◌+◌, ℕ, List, [], ◌∷◌, ◌++◌, length, map, flat_map, append_assoc, append-nil, refl}
-use Rattle.std.proofs.Common.{sym, ap, ◌∙◌}
-use Rattle.std.specs.Prelude.{replicate, codes}
-use Rattle.std.specs.Int.{next_multiple_of}
-use Rattle.std.specs.List.{AllZip, enumerate_from}
-use Rattle.std.proofs.lemmas.List.Concat.{flat_map-cons}
-use Rattle.std.proofs.lemmas.Slice.Zip.{AllZip-long}
-use Rattle.ldmodel.specs.Layout.{Layout, PlacedOutput}
-use Rattle.ldmodel.specs.Project.{Project}
-use Rattle.ldmodel.specs.SectionHeaders.{FilePart, SectionHeader, Tables, end_of_part, header_bytes, header_names}
-use Rattle.ldmodel.specs.SectionHeaders.{header_name_table, header_part, output_header, part_at, section_headers}
-use Rattle.ldmodel.specs.SectionHeaders.{table_headers, tables, tail}
-use Rattle.ldmodel.specs.Segments.{segments, loaded_end}
-use Rattle.ldmodel.specs.Tail.{SymbolEntry, ValuedSymbol, string_table, symbol_bytes, symbol_entry, symbol_names}
-use Rattle.ldmodel.specs.Tail.{symbol_name_table, output_symbol_table, table_symbols}
-use Rattle.emit_image.specs.HeaderRecord.{header_of}
-use Rattle.emit_image.specs.Tables.{IsTableSection, IsTableSymbol, IsTailOf, entry_of, header_names_of, header_part_of}
-use Rattle.emit_image.specs.Tables.{names_of, output_headers_of, section_header_of, symbol_table_of, tables_of, tail_of}
-use Rattle.emit_image.specs.declared.sections.Header.{Header}
-use Rattle.emit_image.specs.declared.sections.TableSection.{TableSection}
-use Rattle.emit_image.specs.declared.symbols.TableSymbol.{TableSymbol}
+use Rattle.emit_image.proofs.Common.{AllZip, AllZip-long, FilePart, Header, Layout, List, PlacedOutput, Project}
+use Rattle.emit_image.proofs.Common.{SectionHeader, SymbolEntry, TableSection, TableSymbol, [], ap, append-nil}
+use Rattle.emit_image.proofs.Common.{append_assoc, codes, end_of_part, entry_of, enumerate_from, flat_map}
+use Rattle.emit_image.proofs.Common.{flat_map-cons, header_bytes, header_names_of, header_of, header_part, length}
+use Rattle.emit_image.proofs.Common.{loaded_end, map, names_of, next_multiple_of, output_headers_of, part_at, refl}
+use Rattle.emit_image.proofs.Common.{replicate, section_header_of, segments, string_table, sym, symbol_bytes}
+use Rattle.emit_image.proofs.Common.{symbol_table_of, table_headers, tables, tail, ℕ, ◌++◌, ◌+◌, ◌∙◌, ◌∷◌, ◌≡◌}
+use Rattle.ldmodel.specs.SectionHeaders.{Tables, header_names, header_name_table, output_header, section_headers}
+use Rattle.ldmodel.specs.Tail.{ValuedSymbol, symbol_entry, symbol_names, symbol_name_table, output_symbol_table}
+use Rattle.ldmodel.specs.Tail.{table_symbols}
+use Rattle.emit_image.specs.Tables.{IsTableSection, IsTableSymbol, IsTailOf, header_part_of, tables_of, tail_of}
 
 -- three headers that are written one after the other
 pub three : (out a b c : List ℕ) (f g h : Header) (x y z : SectionHeader) → a ≡ out ++ header_bytes (header_of f) → b

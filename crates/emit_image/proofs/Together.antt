@@ -1,8 +1,6 @@
 -- A short section that is put together: its bytes, and the first of its fields over them.
-use Rattle.std.proofs.Common.{◌≡◌, ◌∙◌, ◌+◌, ◌-◌, ◌<◌, ◌≤◌, ℕ, List, length, drop, get_or, sym, inl, inr, arith}
-use Rattle.std.proofs.lemmas.Bool.{cases_lt}
-use Rattle.emit_fields.specs.Patches.{AreInOrder, patch_end, patched_byte}
-use Rattle.emit_fields.specs.declared.patch.Patch.{Patch}
+use Rattle.emit_image.proofs.Common.{AreInOrder, List, Patch, arith, cases_lt, drop, get_or, inl, inr, length}
+use Rattle.emit_image.proofs.Common.{patch_end, patched_byte, sym, ℕ, ◌+◌, ◌-◌, ◌<◌, ◌∙◌, ◌≡◌, ◌≤◌}
 use Rattle.emit_fields.proofs.Patches.{no_more, turn_of}
 
 -- the first k fields were put over the bytes; what lies after them is as it was

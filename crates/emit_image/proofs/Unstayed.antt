@@ -1,7 +1,6 @@
 -- How many bytes do not stay.
-use Rattle.std.proofs.Common.{◌≡◌, ◌+◌, ◌<◌, ◌≤◌, ℕ, zero, suc, Bool, true, false, cond, refl, ap, ◌∙◌, arith}
-use Rattle.emit_image.specs.Drawn.{count_unstayed}
-use Rattle.emit_image.specs.Stretches.{Spot}
+use Rattle.emit_image.proofs.Common.{Bool, Spot, ap, arith, cond, count_unstayed, false, refl, suc, true, zero, ℕ, ◌+◌}
+use Rattle.emit_image.proofs.Common.{◌<◌, ◌∙◌, ◌≡◌, ◌≤◌}
 
 abbrev pub unless : Bool → ℕ → ℕ
 unless b n = cond b 0 n

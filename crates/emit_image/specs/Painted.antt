@@ -4,7 +4,7 @@ use Rattle.std.specs.Prelude.{if◌then◌else◌}
 use Rattle.elfobj.specs.Counts.{Counts}
 use Rattle.elfobj.specs.Raised.{raised}
 use Rattle.elfobj.specs.declared.meter.Count.TheVariants.{Bytes}
-use Rattle.emit_fields.specs.Sheet.{CanvasState}
+use Rattle.emit_fields.specs.Canvas.{CanvasState}
 use Rattle.emit_image.specs.Stretches.{Spot}
 
 -- a canvas is no longer than this, and grows to it without more memory

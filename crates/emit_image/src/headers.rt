@@ -15,10 +15,9 @@ ghost use Rattle.emit_image.specs.SegmentBytes.{file_end_of, flags_number, segme
 
 use crate::number::{put_low_u64, put_u16, put_u32, put_u64};
 use elfobj::file::constants::EM_X86_64;
-use ldmodel::impossible::impossible;
-use ldmodel::memory::NoMemory;
+use growth::{NoMemory, impossible, vec};
 use ldmodel::segment::Segment;
-use std::alloc::{AllocError, Global};
+use std::alloc::Global;
 
 /// Identification of a little-endian 64-bit file of version 1, `e_ident`.
 const IDENT: [u8; 16] = [0x7f, b'E', b'L', b'F', 2, 1, 1, 0, 0, 0, 0, 0, 0, 0, 0, 0];
@@ -63,7 +62,7 @@ fn put_elf_header(
 ) -> Result<(), NoMemory>
     ensures { OnOk result (out.new.items ≡ out.old.items ++ elf_header entry count table headers names) }
 {
-    out.extend_from_slice(&IDENT)?;
+    vec::extend_from_slice(out, &IDENT)?;
     put_u16(out, ET_EXEC)?;
     put_u16(out, u64::from(EM_X86_64))?;
     put_u32(out, EV_CURRENT)?;
@@ -109,8 +108,8 @@ fn put_segment(out: &mut Vec<u8>, g: &Segment) -> Result<(), NoMemory>
 fn ascending(alloc: Global, segments: &[Segment]) -> Result<Vec<Segment>, NoMemory>
     ensures { IfOk result (λ v. v.items ≡ sort_by starts_before segments.now) }
 {
-    let mut sorted = Vec::from_slice(alloc, segments)?;
-    sorted.sort_by(|g, h| g.start.cmp(&h.start))?;
+    let mut sorted = vec::from_slice(alloc, segments)?;
+    vec::sort_by(&mut sorted, |g, h| g.start.cmp(&h.start))?;
     Ok(sorted)
 }
 
@@ -151,7 +150,7 @@ pub fn headers(
         ≡ file_headers project layout) }
 {
     let sorted = ascending(alloc, segments)?;
-    let mut out = Vec::with_capacity(alloc, length_of(segments.len()))?;
+    let mut out = vec::with_capacity(alloc, length_of(segments.len()))?;
     let count = sections as u64;
     put_elf_header(
         &mut out,
@@ -174,7 +173,7 @@ fn file_end(end: u128, g: &Segment) -> Result<u128, NoMemory>
     }
     g.offset
         .checked_add(u128::from(g.file_size))
-        .ok_or(AllocError)
+        .ok_or(impossible())
 }
 
 /// Where the loaded part of the file ends: with the file bytes of these segments, which come in the order of the

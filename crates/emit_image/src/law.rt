@@ -26,7 +26,7 @@ ghost use Rattle.emit_image.specs.Drawn.{IsDrawnFor, count_unstayed};
 ghost use Rattle.emit_image.specs.Stretches.{EndsBy, patch_bytes};
 ghost use Rattle.emit_image.specs.declared.section.Drawing.{Drawing};
 
-use ldmodel_laws::layout::{layout_by_effects, nothing_meets};
+use ldmodel_laws::layout::{layout_by_effects, nothing_overlaps};
 use ldmodel_laws::segments::{sections_in_file, segments_by_neighbours};
 use ldmodel_laws::stayed::{fields_in_image, pieces_in_image, stayed_in_both, untouched_bytes};
 
@@ -60,7 +60,7 @@ pub fn placement_is_in_memory()
     ensures { (script : List Statement) (rows : List (List Piece)) (provided : List (List ℕ)) (layout : Layout)
         → placement script rows provided ≡ Ok layout → All IsInMemory (nonempty layout.sections) }
 {
-    nothing_meets();
+    nothing_overlaps();
     layout_by_effects();
 }
 

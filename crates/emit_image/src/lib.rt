@@ -4,16 +4,15 @@
 //! - `headers`: ELF header and program headers; `tail` over `symbols`, `table_entries`, `table_names`,
 //!   `strings`, `sections`, `number`: the tail;
 //! - `section`: what is drawn; `row`: sections that stayed side by side as one;
-//! - `redraw`: anew, or over the image of a previous link, of which what stayed is kept; `commit`: the patches, and
-//!   then what does not stay, by `paint_drawing` over `paint_section` over `paint`, `patched`; `law`.
+//! - `redraw`: anew, or over the image of a previous link, of which what stayed is kept: the patches, and then what
+//!   does
+//!   not stay, by `paint_section` over `paint`, `patched`; `law`.
 #![tactic(auto)]
 
-mod commit;
 pub mod headers;
 pub mod law;
 mod number;
 pub mod paint;
-mod paint_drawing;
 pub mod paint_section;
 mod patched;
 pub mod redraw;

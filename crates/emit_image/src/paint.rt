@@ -196,26 +196,26 @@ pub(crate) fn paint_bytes(
 #[inline(always)]
 fn write_drawn(
     canvas: &mut Canvas,
-    desk: &mut [u8; BUFFER_SIZE],
+    buffer: &mut [u8; BUFFER_SIZE],
     from: usize,
-    x: &ImagePiece<'_>,
+    piece: &ImagePiece<'_>,
     meter: &mut Meter,
 )
-    requires within { from + x.now.size ≤ length canvas.old.bytes }
-    requires filled { IsFilled x.now }
-    ensures own { (i : ℕ) → i < x.now.size
-        → slice_index canvas.new.bytes (from + i) ≡ piece_byte (x.now.start + i) x.now }
+    requires within { from + piece.now.size ≤ length canvas.old.bytes }
+    requires filled { IsFilled piece.now }
+    ensures own { (i : ℕ) → i < piece.now.size
+        → slice_index canvas.new.bytes (from + i) ≡ piece_byte (piece.now.start + i) piece.now }
     ensures before { (o : ℕ) → o < from → slice_index canvas.new.bytes o ≡ slice_index canvas.old.bytes o }
-    ensures after { (o : ℕ) → from + x.now.size ≤ o
+    ensures after { (o : ℕ) → from + piece.now.size ≤ o
         → slice_index canvas.new.bytes o ≡ slice_index canvas.old.bytes o }
     ensures len { length canvas.new.bytes ≡ length canvas.old.bytes }
     ensures room { canvas.new.room ≡ canvas.old.room }
-    ensures counted { meter.new ≡ raised meter.old Bytes x.now.size }
+    ensures counted { meter.new ≡ raised meter.old Bytes piece.now.size }
 {
-    if x.bytes.is_empty() {
-        write_long(canvas, from, x.size as usize, &ZERO, meter);
+    if piece.bytes.is_empty() {
+        write_long(canvas, from, piece.size as usize, &ZERO, meter);
     } else {
-        write_piece(canvas, desk, from, x.bytes, x.fields, meter);
+        write_piece(canvas, buffer, from, piece.bytes, piece.fields, meter);
     }
 }
 
@@ -223,22 +223,22 @@ fn write_drawn(
 #[inline(always)]
 pub(crate) fn paint_piece(
     canvas: &mut Canvas,
-    desk: &mut [u8; BUFFER_SIZE],
+    buffer: &mut [u8; BUFFER_SIZE],
     from: usize,
-    x: &ImagePiece<'_>,
+    piece: &ImagePiece<'_>,
     meter: &mut Meter,
 )
-    requires within { from + x.now.size ≤ length canvas.old.bytes }
-    requires filled { IsFilled x.now }
+    requires within { from + piece.now.size ≤ length canvas.old.bytes }
+    requires filled { IsFilled piece.now }
     ensures len { length canvas.new.bytes ≡ length canvas.old.bytes }
     ensures room { canvas.new.room ≡ canvas.old.room }
-    ensures painted { IsPainted canvas.old.bytes canvas.new.bytes meter.old meter.new from (from + x.now.size) (λ o.
-        record { byte = piece_byte (x.now.start + (o - from)) x.now; stays = x.now.stays }) }
+    ensures painted { IsPainted canvas.old.bytes canvas.new.bytes meter.old meter.new from (from + piece.now.size) (λ o.
+        record { byte = piece_byte (piece.now.start + (o - from)) piece.now; stays = piece.now.stays }) }
 {
-    if x.stays {
+    if piece.stays {
         return;
     }
-    write_drawn(canvas, desk, from, x, meter);
+    write_drawn(canvas, buffer, from, piece, meter);
 }
 
 /// Writes a data command.
@@ -247,17 +247,17 @@ pub(crate) fn paint_data(
     limit: usize,
     from: usize,
     end: usize,
-    d: &PlacedData,
+    command: &PlacedData,
     meter: &mut Meter,
 )
     requires ready { IsReady limit canvas.old }
-    requires end { from + byte_count d.now.width ≡ end }
+    requires end { from + byte_count command.now.width ≡ end }
     requires within { end ≤ limit }
     ensures ready { IsReady limit canvas.new }
     ensures painted { IsPainted canvas.old.bytes canvas.new.bytes meter.old meter.new from end (λ o.
-        record { byte = data_byte (d.now.start + (o - from)) d.now; stays = false }) }
+        record { byte = data_byte (command.now.start + (o - from)) command.now; stays = false }) }
 {
-    let bytes = d.value.to_le_bytes();
+    let bytes = command.value.to_le_bytes();
     grow_to(canvas, end, limit);
     canvas.write(from, &bytes[..end - from], meter);
 }

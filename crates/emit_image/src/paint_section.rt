@@ -38,13 +38,13 @@ fn copy_of(cursor: SectionCursor) -> SectionCursor
 }
 
 /// Where an address of an output section lies in the file.
-fn file_offset(x: &ImageSection<'_>, at: u64) -> usize
-    requires orderly { IsOrderly x.now }
-    requires low { x.now.start ≤ at }
-    requires high { at ≤ x.now.start + x.now.size }
-    ensures { result ≡ file_offset_of x.now at }
+fn file_offset(section: &ImageSection<'_>, at: u64) -> usize
+    requires orderly { IsOrderly section.now }
+    requires low { section.now.start ≤ at }
+    requires high { at ≤ section.now.start + section.now.size }
+    ensures { result ≡ file_offset_of section.now at }
 {
-    (x.offset + (at - x.start)) as usize
+    (section.offset + (at - section.start)) as usize
 }
 
 /// Writes the next data command, which starts below `below`, and the gap before it. The input sections to come start at
@@ -130,25 +130,26 @@ fn paint_some_data(
 fn paint_data_apart(
     canvas: &mut Canvas,
     limit: usize,
-    x: &ImageSection<'_>,
+    section: &ImageSection<'_>,
     cursor: SectionCursor,
     below: u64,
     meter: &mut Meter,
 ) -> SectionCursor
-    requires orderly { IsOrderly x.now }
-    requires reached { IsReached x.now cursor.pieces cursor.data_commands cursor.at }
+    requires orderly { IsOrderly section.now }
+    requires reached { IsReached section.now cursor.pieces cursor.data_commands cursor.at }
     requires ready { IsReady limit canvas.old }
-    requires within { x.now.offset + x.now.size ≤ limit }
-    requires pieces { PiecesFrom x.now cursor.pieces below }
-    ensures reached { IsReached x.now result.pieces result.data_commands result.at }
+    requires within { section.now.offset + section.now.size ≤ limit }
+    requires pieces { PiecesFrom section.now cursor.pieces below }
+    ensures reached { IsReached section.now result.pieces result.data_commands result.at }
     ensures pieces { result.pieces ≡ cursor.pieces }
-    ensures data_commands { DataFrom x.now result.data_commands below }
+    ensures data_commands { DataFrom section.now result.data_commands below }
     ensures up { cursor.at ≤ result.at }
     ensures ready { IsReady limit canvas.new }
-    ensures painted { IsPainted canvas.old.bytes canvas.new.bytes meter.old meter.new (file_offset_of x.now cursor.at)
-        (file_offset_of x.now result.at) (section_image x.now) }
+    ensures painted { IsPainted canvas.old.bytes canvas.new.bytes meter.old meter.new
+        (file_offset_of section.now cursor.at)
+        (file_offset_of section.now result.at) (section_image section.now) }
 {
-    let now = paint_some_data(canvas, limit, x, copy_of(cursor), below, meter);
+    let now = paint_some_data(canvas, limit, section, copy_of(cursor), below, meter);
     copy_of(now)
 }
 
@@ -157,67 +158,69 @@ fn paint_data_apart(
 fn paint_data_before(
     canvas: &mut Canvas,
     limit: usize,
-    x: &ImageSection<'_>,
+    section: &ImageSection<'_>,
     cursor: SectionCursor,
     below: u64,
     meter: &mut Meter,
 ) -> SectionCursor
-    requires orderly { IsOrderly x.now }
-    requires reached { IsReached x.now cursor.pieces cursor.data_commands cursor.at }
+    requires orderly { IsOrderly section.now }
+    requires reached { IsReached section.now cursor.pieces cursor.data_commands cursor.at }
     requires ready { IsReady limit canvas.old }
-    requires within { x.now.offset + x.now.size ≤ limit }
-    requires pieces { PiecesFrom x.now cursor.pieces below }
-    ensures reached { IsReached x.now result.pieces result.data_commands result.at }
+    requires within { section.now.offset + section.now.size ≤ limit }
+    requires pieces { PiecesFrom section.now cursor.pieces below }
+    ensures reached { IsReached section.now result.pieces result.data_commands result.at }
     ensures pieces { result.pieces ≡ cursor.pieces }
-    ensures data_commands { DataFrom x.now result.data_commands below }
+    ensures data_commands { DataFrom section.now result.data_commands below }
     ensures up { cursor.at ≤ result.at }
     ensures ready { IsReady limit canvas.new }
-    ensures painted { IsPainted canvas.old.bytes canvas.new.bytes meter.old meter.new (file_offset_of x.now cursor.at)
-        (file_offset_of x.now result.at) (section_image x.now) }
+    ensures painted { IsPainted canvas.old.bytes canvas.new.bytes meter.old meter.new
+        (file_offset_of section.now cursor.at)
+        (file_offset_of section.now result.at) (section_image section.now) }
 {
-    if cursor.data_commands == x.data_commands.len() {
+    if cursor.data_commands == section.data_commands.len() {
         return cursor;
     }
-    paint_data_apart(canvas, limit, x, cursor, below, meter)
+    paint_data_apart(canvas, limit, section, cursor, below, meter)
 }
 
 /// Writes the next input section, which is not empty, the data commands before it, and the gaps.
 fn paint_full_piece(
     canvas: &mut Canvas,
-    desk: &mut [u8; BUFFER_SIZE],
+    buffer: &mut [u8; BUFFER_SIZE],
     limit: usize,
-    x: &ImageSection<'_>,
+    section: &ImageSection<'_>,
     cursor: SectionCursor,
     meter: &mut Meter,
 ) -> SectionCursor
-    requires orderly { IsOrderly x.now }
-    requires reached { IsReached x.now cursor.pieces cursor.data_commands cursor.at }
+    requires orderly { IsOrderly section.now }
+    requires reached { IsReached section.now cursor.pieces cursor.data_commands cursor.at }
     requires ready { IsReady limit canvas.old }
-    requires within { x.now.offset + x.now.size ≤ limit }
-    requires some { cursor.pieces < length x.now.pieces.now }
-    requires full { (y : ImagePiece) → 0 < (slice_index_or x.now.pieces.now cursor.pieces y).size }
-    ensures reached { IsReached x.now result.pieces result.data_commands result.at }
+    requires within { section.now.offset + section.now.size ≤ limit }
+    requires some { cursor.pieces < length section.now.pieces.now }
+    requires full { (y : ImagePiece) → 0 < (slice_index_or section.now.pieces.now cursor.pieces y).size }
+    ensures reached { IsReached section.now result.pieces result.data_commands result.at }
     ensures pieces { result.pieces ≡ cursor.pieces + 1 }
     ensures up { cursor.at ≤ result.at }
     ensures ready { IsReady limit canvas.new }
-    ensures painted { IsPainted canvas.old.bytes canvas.new.bytes meter.old meter.new (file_offset_of x.now cursor.at)
-        (file_offset_of x.now result.at) (section_image x.now) }
+    ensures painted { IsPainted canvas.old.bytes canvas.new.bytes meter.old meter.new
+        (file_offset_of section.now cursor.at)
+        (file_offset_of section.now result.at) (section_image section.now) }
 {
-    let piece = &x.pieces[cursor.pieces];
-    let now = paint_data_before(canvas, limit, x, cursor, piece.start, meter);
+    let piece = &section.pieces[cursor.pieces];
+    let now = paint_data_before(canvas, limit, section, cursor, piece.start, meter);
     let end = piece.start + piece.size;
-    let from = file_offset(x, piece.start);
-    let reach = file_offset(x, end);
+    let from = file_offset(section, piece.start);
+    let reach = file_offset(section, end);
     paint_gap(
         canvas,
         limit,
-        file_offset(x, now.at),
+        file_offset(section, now.at),
         from,
         reach,
-        x.fill,
+        section.fill,
         meter,
     );
-    paint_piece(canvas, desk, from, piece, meter);
+    paint_piece(canvas, buffer, from, piece, meter);
     SectionCursor {
         pieces: cursor.pieces + 1,
         data_commands: now.data_commands,
@@ -228,66 +231,67 @@ fn paint_full_piece(
 /// Writes the next input section; nothing if it is empty.
 fn paint_next_piece(
     canvas: &mut Canvas,
-    desk: &mut [u8; BUFFER_SIZE],
+    buffer: &mut [u8; BUFFER_SIZE],
     limit: usize,
-    x: &ImageSection<'_>,
+    section: &ImageSection<'_>,
     cursor: SectionCursor,
     meter: &mut Meter,
 ) -> SectionCursor
-    requires orderly { IsOrderly x.now }
-    requires reached { IsReached x.now cursor.pieces cursor.data_commands cursor.at }
+    requires orderly { IsOrderly section.now }
+    requires reached { IsReached section.now cursor.pieces cursor.data_commands cursor.at }
     requires ready { IsReady limit canvas.old }
-    requires within { x.now.offset + x.now.size ≤ limit }
-    requires some { cursor.pieces < length x.now.pieces.now }
-    ensures reached { IsReached x.now result.pieces result.data_commands result.at }
+    requires within { section.now.offset + section.now.size ≤ limit }
+    requires some { cursor.pieces < length section.now.pieces.now }
+    ensures reached { IsReached section.now result.pieces result.data_commands result.at }
     ensures pieces { result.pieces ≡ cursor.pieces + 1 }
     ensures up { cursor.at ≤ result.at }
     ensures ready { IsReady limit canvas.new }
-    ensures painted { IsPainted canvas.old.bytes canvas.new.bytes meter.old meter.new (file_offset_of x.now cursor.at)
-        (file_offset_of x.now result.at) (section_image x.now) }
+    ensures painted { IsPainted canvas.old.bytes canvas.new.bytes meter.old meter.new
+        (file_offset_of section.now cursor.at)
+        (file_offset_of section.now result.at) (section_image section.now) }
 {
-    if x.pieces[cursor.pieces].size == 0 {
+    if section.pieces[cursor.pieces].size == 0 {
         return SectionCursor {
             pieces: cursor.pieces + 1,
             data_commands: cursor.data_commands,
             at: cursor.at,
         };
     }
-    paint_full_piece(canvas, desk, limit, x, cursor, meter)
+    paint_full_piece(canvas, buffer, limit, section, cursor, meter)
 }
 
 /// Writes an output section.
 #[inline(never)]
 pub(crate) fn paint_section(
     canvas: &mut Canvas,
-    desk: &mut [u8; BUFFER_SIZE],
+    buffer: &mut [u8; BUFFER_SIZE],
     limit: usize,
-    x: &ImageSection<'_>,
+    section: &ImageSection<'_>,
     meter: &mut Meter,
 )
-    requires orderly { IsOrderly x.now }
+    requires orderly { IsOrderly section.now }
     requires ready { IsReady limit canvas.old }
-    requires within { x.now.offset + x.now.size ≤ limit }
+    requires within { section.now.offset + section.now.size ≤ limit }
     ensures ready { IsReady limit canvas.new }
-    ensures painted { IsPainted canvas.old.bytes canvas.new.bytes meter.old meter.new x.now.offset
-        (x.now.offset + x.now.size) (section_image x.now) }
+    ensures painted { IsPainted canvas.old.bytes canvas.new.bytes meter.old meter.new section.now.offset
+        (section.now.offset + section.now.size) (section_image section.now) }
 {
     let mut cursor = SectionCursor {
         pieces: 0,
         data_commands: 0,
-        at: x.start,
+        at: section.start,
     };
-    for _k in 0..x.pieces.len() {
-        cursor = paint_next_piece(canvas, desk, limit, x, cursor, meter);
+    for _k in 0..section.pieces.len() {
+        cursor = paint_next_piece(canvas, buffer, limit, section, cursor, meter);
     }
-    let end = x.start + x.size;
-    let last = paint_data_before(canvas, limit, x, cursor, end, meter);
+    let end = section.start + section.size;
+    let last = paint_data_before(canvas, limit, section, cursor, end, meter);
     paint_fill(
         canvas,
         limit,
-        file_offset(x, last.at),
-        file_offset(x, end),
-        x.fill,
+        file_offset(section, last.at),
+        file_offset(section, end),
+        section.fill,
         meter,
     );
 }

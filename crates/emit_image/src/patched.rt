@@ -57,7 +57,7 @@ fn put_together(whole: &mut [u8; BUFFER_SIZE], bytes: &[u8], patches: &[Patch])
 #[inline(never)]
 fn write_with_fields(
     canvas: &mut Canvas,
-    desk: &mut [u8; BUFFER_SIZE],
+    buffer: &mut [u8; BUFFER_SIZE],
     at: usize,
     bytes: &[u8],
     patches: &[Patch],
@@ -78,16 +78,16 @@ fn write_with_fields(
         write_patched(canvas, at, bytes, patches, meter);
         return;
     }
-    put_together(desk, bytes, patches);
-    canvas.write(at, &desk[..bytes.len()], meter);
+    put_together(buffer, bytes, patches);
+    canvas.write(at, &buffer[..bytes.len()], meter);
 }
 
 /// Writes an input section from `at` on: the bytes of the fields that lie in it, and its own between them, each byte
-/// once. It may be assembled in `desk`, whose contents have no meaning before and after.
+/// once. It may be assembled in `buffer`, whose contents have no meaning before and after.
 #[inline(always)]
 pub(crate) fn write_piece(
     canvas: &mut Canvas,
-    desk: &mut [u8; BUFFER_SIZE],
+    buffer: &mut [u8; BUFFER_SIZE],
     at: usize,
     bytes: &[u8],
     patches: &[Patch],
@@ -107,6 +107,6 @@ pub(crate) fn write_piece(
     if patches.is_empty() {
         canvas.write(at, bytes, meter);
     } else {
-        write_with_fields(canvas, desk, at, bytes, patches, meter);
+        write_with_fields(canvas, buffer, at, bytes, patches, meter);
     }
 }

@@ -6,7 +6,7 @@ ghost use Rattle.emit_image.specs.Joined.{IsStayedPieceAt, StandFor};
 ghost use Rattle.emit_image.specs.declared.section.ImagePiece.{ImagePiece as PieceOf};
 
 use crate::section::ImagePiece;
-use ldmodel::memory::NoMemory;
+use growth::{NoMemory, vec};
 
 /// An input section that stays, of `size` bytes at `start`.
 fn stayed_piece<'a>(size: u64, start: u64) -> ImagePiece<'a>
@@ -44,7 +44,7 @@ fn add<'a>(row: &mut Vec<ImagePiece<'a>>, piece: ImagePiece<'a>) -> Result<(), N
     if row.len() < row.capacity() {
         row.push_reserved(piece);
     } else {
-        row.push(piece)?;
+        vec::push(row, piece)?;
     }
     Ok(())
 }

@@ -11,7 +11,7 @@ ghost use Rattle.emit_image.specs.HeaderRecord.{header_of};
 use crate::number::{put_u32, put_u64};
 use crate::strings::{add_name, no_names};
 use elfobj::file::constants::{SHF_ALLOC, SHF_EXECINSTR, SHF_WRITE, SHT_NOBITS, SHT_PROGBITS};
-use ldmodel::memory::NoMemory;
+use growth::{NoMemory, vec};
 use ldmodel::placed::Placed;
 use std::alloc::Global;
 
@@ -203,9 +203,9 @@ pub(crate) fn output_headers(
         ≡ name_offset (header_names_of sections.now) (length sections.now + 2)) }
 {
     let room = sections.len().saturating_add(4).saturating_mul(64);
-    let mut headers = Vec::with_capacity(alloc, room)?;
+    let mut headers = vec::with_capacity(alloc, room)?;
     let mut names = no_names(alloc, names_length(sections))?;
-    headers.extend_from_slice(&[0; 64])?;
+    vec::extend_from_slice(&mut headers, &[0; 64])?;
     put_sections(&mut headers, &mut names, sections)?;
     let tables = add_tables(&mut names, sections)?;
     Ok(OutputHeaders {

@@ -2,15 +2,15 @@
 
 ghost use Rattle.std.specs.Prelude.{◌≡◌, ◌++◌, ◌∷◌, [], IfOk, OnOk, length};
 
-use ldmodel::memory::NoMemory;
+use growth::{NoMemory, vec};
 use std::alloc::Global;
 
 /// An empty string table, with room for this many bytes.
 pub(crate) fn no_names(alloc: Global, room: usize) -> Result<Vec<u8>, NoMemory>
     ensures { IfOk result (λ v. v.items ≡ 0 ∷ []) }
 {
-    let mut names = Vec::with_capacity(alloc, room)?;
-    names.push(0)?;
+    let mut names = vec::with_capacity(alloc, room)?;
+    vec::push(&mut names, 0)?;
     Ok(names)
 }
 
@@ -19,8 +19,8 @@ pub(crate) fn no_names(alloc: Global, room: usize) -> Result<Vec<u8>, NoMemory>
 fn grow_by_name(names: &mut Vec<u8>, name: &[u8]) -> Result<(), NoMemory>
     ensures { OnOk result (names.new.items ≡ names.old.items ++ name.now ++ 0 ∷ []) }
 {
-    names.extend_from_slice(name)?;
-    names.push(0)?;
+    vec::extend_from_slice(names, name)?;
+    vec::push(names, 0)?;
     Ok(())
 }
 
@@ -33,7 +33,7 @@ pub(crate) fn add_name(names: &mut Vec<u8>, name: &[u8]) -> Result<usize, NoMemo
     let at = names.len();
     // where there is room, both calls are a few instructions
     if name.len() < names.capacity() - at {
-        names.extend_from_slice(name)?;
+        vec::extend_from_slice(names, name)?;
         names.push_reserved(0);
     } else {
         grow_by_name(names, name)?;

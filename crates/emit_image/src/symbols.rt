@@ -10,7 +10,7 @@ use elfobj::file::constants::{
     STB_GLOBAL, STB_WEAK, STT_FILE, STT_FUNC, STT_NOTYPE, STT_OBJECT, STT_SECTION,
 };
 use elfobj::file::symbol::SymbolKind;
-use ldmodel::memory::NoMemory;
+use growth::NoMemory;
 use std::alloc::Global;
 
 /// A symbol of the output that has a value.

@@ -3,7 +3,7 @@
 
 ghost use Rattle.std.specs.Prelude.{◌≡◌, ◌≤◌, ◌+◌, ◌++◌, [], IfOk, OnOk, length, take};
 
-use ldmodel::memory::NoMemory;
+use growth::{NoMemory, vec};
 use std::alloc::Global;
 use std::marker::Model;
 
@@ -48,7 +48,7 @@ fn put_entry(block: &mut [u8; BLOCK_SIZE], at: usize, entry: &[u8; ENTRY_SIZE])
 fn add_block(bytes: &mut Vec<u8>, block: &[u8]) -> Result<(), NoMemory>
     ensures { OnOk result (bytes.new.items ≡ bytes.old.items ++ block.now) }
 {
-    bytes.extend_from_slice(block)
+    vec::extend_from_slice(bytes, block)
 }
 
 impl Entries {
@@ -57,7 +57,7 @@ impl Entries {
         ensures { IfOk result (λ entries. entries ≡ []) }
     {
         Ok(Entries {
-            bytes: Vec::with_capacity(alloc, room)?,
+            bytes: vec::with_capacity(alloc, room)?,
             block: [0; BLOCK_SIZE],
             used: 0,
         })

@@ -4,7 +4,7 @@
 ghost use Rattle.std.specs.Prelude.{◌≡◌, ◌≤◌, ◌<◌, ◌+◌, ◌++◌, ◌∷◌, [], IfOk, OnOk, cond, length};
 
 use crate::strings::no_names;
-use ldmodel::memory::NoMemory;
+use growth::{NoMemory, vec};
 use std::alloc::Global;
 use std::marker::Model;
 
@@ -110,7 +110,7 @@ impl NameBlock {
         ensures list { OnOk result (list.new.items ≡ list.old.items ++ self.old) }
         ensures empty { OnOk result (self.new ≡ []) }
     {
-        list.extend_from_slice(&self.bytes[..self.used])?;
+        vec::extend_from_slice(list, &self.bytes[..self.used])?;
         self.used = 0;
         Ok(())
     }
@@ -150,8 +150,8 @@ impl Names {
         ensures { OnOk result (self.new ≡ self.old ++ name.now ++ 0 ∷ []) }
     {
         self.block.move_to(&mut self.bytes)?;
-        self.bytes.extend_from_slice(name)?;
-        self.bytes.push(0)?;
+        vec::extend_from_slice(&mut self.bytes, name)?;
+        vec::push(&mut self.bytes, 0)?;
         Ok(())
     }
 

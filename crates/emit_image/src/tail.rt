@@ -16,8 +16,8 @@ use crate::sections::{
 };
 use crate::symbols::SymbolTables;
 use elfobj::file::constants::{SHT_STRTAB, SHT_SYMTAB};
-use ldmodel::memory::NoMemory;
-use std::alloc::{AllocError, Global};
+use growth::{NoMemory, impossible};
+use std::alloc::Global;
 use std::marker::Model;
 
 /// A part of the image, and its file offset.
@@ -86,7 +86,7 @@ pub struct TailParts {
 fn aligned(n: u64) -> Result<u64, NoMemory>
     ensures { IfOk result (λ x. x ≡ next_multiple_of n 8) }
 {
-    n.checked_next_multiple_of(8).ok_or(AllocError)
+    n.checked_next_multiple_of(8).ok_or(impossible())
 }
 
 /// Where a part ends.
@@ -95,7 +95,7 @@ fn end_of(part: &TailPart) -> Result<u64, NoMemory>
 {
     part.offset()
         .checked_add(part.bytes().len() as u64)
-        .ok_or(AllocError)
+        .ok_or(impossible())
 }
 
 /// Bytes right after a part.

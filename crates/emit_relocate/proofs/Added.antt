@@ -1,33 +1,18 @@
 -- Sites that were evaluated one after another.
-use Rattle.std.proofs.Common.{◌≡◌, ◌<◌, ◌≤◌, ◌^◌, ℕ, ◌+◌, List, [], ◌∷◌, ◌++◌, length, map, filter, take, get_or, false}
-use Rattle.std.proofs.Common.{ap, refl, sym, ◌∙◌, arith, add-one, append_assoc, append-nil, subst, take-suc}
-use Rattle.std.proofs.Math.Seq.{take-length}
-use Rattle.std.specs.List.{All, cons_option, filter_map}
-use Rattle.std.specs.List.Sorted.{IsNonDecreasingBy}
-use Rattle.std.specs.Prelude.{Err, Ok, Some, slice_get, true}
-use Rattle.std.proofs.lemmas.List.{append_cancel_left, map-append}
-use Rattle.std.proofs.lemmas.List.Elements.{filter-append, filter_map-append}
-use Rattle.std.proofs.lemmas.List.Sorted.{IsPermutation-refl}
-use Rattle.std.proofs.lemmas.List.Sums.{sum_by-append}
+use Rattle.emit_relocate.proofs.Common.{All, AreAdded, AreFieldsOf, Counts, Err, IsAdded, IsCounted, IsNonDecreasingBy}
+use Rattle.emit_relocate.proofs.Common.{IsPermutation-refl, IsPlaced, IsSiteAt, IsTried, KnownLink, LinkedSection, List}
+use Rattle.emit_relocate.proofs.Common.{NamedObject, Ok, Patch, PlacedInput, Relocation, Site, Some, [], add-one, ap}
+use Rattle.emit_relocate.proofs.Common.{append-nil, append_assoc, append_cancel_left, arith, capped, cons_option}
+use Rattle.emit_relocate.proofs.Common.{evaluations, false, fault_at, fault_of, faults_of, field_at, filter}
+use Rattle.emit_relocate.proofs.Common.{filter-append, filter_map, filter_map-append, get_or, is_evaluated, length, map}
+use Rattle.emit_relocate.proofs.Common.{map-append, raised, refl, site_field, site_value, sites_among, slice_get, subst}
+use Rattle.emit_relocate.proofs.Common.{sum_by-append, sym, take, take-length, take-suc, true, work_of, ℕ, ◌++◌, ◌+◌}
+use Rattle.emit_relocate.proofs.Common.{◌<◌, ◌^◌, ◌∙◌, ◌∷◌, ◌≡◌, ◌≤◌}
 use Rattle.elfobj.specs.Profile as elf
-use Rattle.elfobj.specs.Sections.{LinkedSection}
-use Rattle.elfobj.specs.declared.relocation.Relocation.{Relocation}
 use Rattle.emit_fields.specs.Patches.{AreInOrder, IsWithin, patched_byte}
-use Rattle.emit_fields.specs.declared.patch.Patch.{Patch}
 use Rattle.emit_fields.proofs.Order.{in_order_sorted}
-use Rattle.ldmodel.specs.Counts.{Counts, capped}
-use Rattle.ldmodel.specs.Project.{NamedObject}
-use Rattle.ldmodel.specs.Raised.{raised}
-use Rattle.ldmodel.specs.FaultCode.{fault_of}
-use Rattle.ldmodel.specs.Relocations.{Site, is_evaluated, site_field, site_value}
 use Rattle.ldmodel.specs.declared.fault.Fault as code
 use Rattle.elfobj.specs.declared.meter.Count.TheVariants as count
-use Rattle.emit_relocate.specs.Fields.{AreAdded, AreFieldsOf, IsAdded, IsCounted, IsTried, evaluations, fault_at}
-use Rattle.emit_relocate.specs.Fields.{faults_of}
-use Rattle.emit_relocate.specs.Fields.{field_at, sites_among, work_of}
-use Rattle.emit_relocate.specs.KnownLink.{KnownLink}
-use Rattle.emit_relocate.specs.Sites.{IsPlaced, IsSiteAt}
-use Rattle.emit_relocate.specs.declared.site.PlacedInput.{PlacedInput}
 use Rattle.emit_relocate.proofs.Runs.{within}
 
 -- a relocation of a section, as a site

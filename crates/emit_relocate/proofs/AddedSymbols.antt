@@ -1,35 +1,20 @@
 -- Symbols of the output, one by one.
-use Rattle.std.proofs.Common.{◌≡◌, ◌∙◌, ◌<◌, ℕ, List, [], ◌∷◌, ◌++◌, Bool, true, false, ap, cond, get_or, length}
-use Rattle.std.proofs.Common.{refl, subst, sym}
-use Rattle.std.specs.Prelude.{None, Option, Some, slice_get}
-use Rattle.std.specs.Option.{option_map}
-use Rattle.std.specs.Borrow.{Bor}
-use Rattle.std.specs.List.{All}
-use Rattle.std.proofs.lemmas.List.{map-append}
-use Rattle.std.proofs.lemmas.List.Elements.{All-push}
-use Rattle.std.proofs.lemmas.Option.{same_Some, slice_get_read}
-use Rattle.ldmodel.specs.HandedOver.{decision_of}
-use Rattle.ldmodel.specs.Layout.{Layout, script_value}
-use Rattle.ldmodel.specs.Names.{decision}
+use Rattle.emit_relocate.proofs.Common.{AddsIf, AddsSymbols, All, All-push, AreSources, Bool, Bor, Case, HasFacts}
+use Rattle.emit_relocate.proofs.Common.{IsNamed, KeepsFacts, Layout, List, ObjectPlace, Option, OutputSymbol, Project}
+use Rattle.emit_relocate.proofs.Common.{Some, SymbolRow, [], ap, cond, decision, decision_of, defined, definer_of}
+use Rattle.emit_relocate.proofs.Common.{defines, false, get_or, is_defined, length, map-append, name_value, option_map}
+use Rattle.emit_relocate.proofs.Common.{output_symbol, refl, same_Some, script_value, shown, shown_symbol, slice_get}
+use Rattle.emit_relocate.proofs.Common.{slice_get_read, subst, sym, symbol_with, true, ℕ, ◌++◌, ◌<◌, ◌∙◌, ◌∷◌, ◌≡◌}
+use Rattle.std.specs.Prelude.{None}
 use Rattle.ldmodel.specs.OutputSymbols as model
-use Rattle.ldmodel.specs.OutputSymbols.{is_defined, output_symbol}
-use Rattle.ldmodel.specs.Project.{Project}
-use Rattle.ldmodel.specs.SymbolValues.{SymbolValue, name_value}
-use Rattle.ldmodel.specs.declared.names.Case.{Case}
-use Rattle.ldmodel.specs.declared.names.ObjectPlace.{ObjectPlace}
+use Rattle.ldmodel.specs.SymbolValues.{SymbolValue}
 use Rattle.emit_relocate.specs.Values.{value_of}
-use Rattle.emit_text.specs.Definer.{definer_of, defines}
 use Rattle.emit_text.proofs.Definers.{defines_as}
-use Rattle.symres.specs.table.State.{IsNamed}
 use Rattle.emit_relocate.specs.NameRows.{Resolved, decided_row, resolved, shown_in, shown_resolved}
 use Rattle.emit_relocate.specs.NameRows as model_row
 use Rattle.emit_relocate.specs.ScriptValues.{value_in}
-use Rattle.emit_relocate.specs.Symbols.{AddsIf, AddsSymbols, AreSources, KeepsFacts, defined, shown, symbol_with}
-use Rattle.emit_relocate.specs.LinkValues.{HasFacts, shown_symbol}
 use Rattle.emit_relocate.specs.SymbolRows as rows
-use Rattle.emit_relocate.specs.declared.symbol_row.SymbolRow.{SymbolRow}
 use Rattle.emit_relocate.specs.declared.symbols.Sources.{Sources}
-use Rattle.emit_relocate.specs.declared.values.OutputSymbol.{OutputSymbol}
 
 -- it is the symbol of a name
 same_symbol : (p : Project) (s : Layout) (x : OutputSymbol) → value_of (rows.value_in x.row) ≡ name_value p s x.name.now

@@ -1,33 +1,17 @@
 -- What was evaluated of input sections, one after another.
-use Rattle.std.proofs.Common.{◌≡◌, ◌<◌, ◌≤◌, ◌^◌, ℕ, ◌+◌, List, [], ◌∷◌, ◌++◌, length, map, take, Option, Some, None}
-use Rattle.std.proofs.Common.{refl, ap, sym, ◌∙◌, arith, add-one, append-nil, append_assoc, length-append, subst}
-use Rattle.std.proofs.Common.{false, filter, take-suc}
-use Rattle.std.specs.Prelude.{IfSome, IsSome, flat_map, is_some, slice_get}
-use Rattle.std.specs.List.{AllZip, filter_map}
-use Rattle.std.proofs.Math.Seq.{take-length}
-use Rattle.std.proofs.lemmas.Bool.{false≢true}
-use Rattle.std.proofs.lemmas.Grind.{flat_map-append}
-use Rattle.std.proofs.lemmas.List.{map-append}
-use Rattle.std.proofs.lemmas.Option.{get_or_from_slice_get, slice_get_within}
-use Rattle.elfobj.specs.Object.{ObjectData}
-use Rattle.elfobj.specs.Sections.{LinkedSection}
-use Rattle.emit_fields.specs.declared.patch.Patch.{Patch}
-use Rattle.ldmodel.specs.Project.{NamedObject}
-use Rattle.ldmodel.specs.Relocations.{Site}
-use Rattle.ldmodel.specs.Stayed.{GoodLink}
-use Rattle.ldmodel.specs.declared.names.ObjectPlace.{ObjectPlace}
-use Rattle.ldmodel.specs.declared.sections.SectionKey.{SectionKey}
-use Rattle.emit_relocate.specs.Changes.{Adds, AreChanged, Evaluated, IsEvaluatedAt, IsEvaluatedOf, AreRetargetedFiled}
-use Rattle.emit_relocate.specs.Changes.{HasRetargetedFields}
-use Rattle.emit_relocate.specs.Changes.{Results, file_patch_at, own_sites, section_key}
-use Rattle.emit_relocate.specs.PreviousLinkInfo.{HasStayedAt, HasSomeStayed, IsFoundStayed, has_new_value}
-use Rattle.emit_relocate.specs.Fields.{IsCounted, faults_of}
-use Rattle.emit_relocate.specs.Filled.{IsOrder, ObjectSection, ends_of, sections_in, sections_of}
-use Rattle.emit_relocate.specs.KnownLink.{KnownLink, named_object}
-use Rattle.emit_relocate.specs.Links.{IsFoundStayedAt}
-use Rattle.emit_relocate.specs.declared.previous_link_info.FileRange.{FileRange}
+use Rattle.emit_relocate.proofs.Common.{Adds, AllZip, AreChanged, AreRetargetedFiled, Evaluated, FileRange, GoodLink}
+use Rattle.emit_relocate.proofs.Common.{HasRetargetedFields, HasSomeStayed, HasStayedAt, IfSome, IsCounted}
+use Rattle.emit_relocate.proofs.Common.{IsEvaluatedAt, IsEvaluatedOf, IsFoundStayed, IsFoundStayedAt, IsSome, KnownLink}
+use Rattle.emit_relocate.proofs.Common.{LinkedSection, List, NamedObject, ObjectPlace, ObjectSection, Option, Patch}
+use Rattle.emit_relocate.proofs.Common.{Results, SectionRef, Site, Some, [], add-one, ap, append-nil, append_assoc}
+use Rattle.emit_relocate.proofs.Common.{arith, ends_of, false, false≢true, faults_of, file_patch_at, filter, filter_map}
+use Rattle.emit_relocate.proofs.Common.{flat_map, flat_map-append, get_or_from_slice_get, has_new_value, is_some}
+use Rattle.emit_relocate.proofs.Common.{length, length-append, map, map-append, named_object, own_sites, refl}
+use Rattle.emit_relocate.proofs.Common.{section_ref, sections_in, sections_of, slice_get, slice_get_within, subst, sym}
+use Rattle.emit_relocate.proofs.Common.{take, take-length, take-suc, take_all, ℕ, ◌++◌, ◌+◌, ◌<◌, ◌^◌, ◌∙◌, ◌∷◌, ◌≡◌}
+use Rattle.emit_relocate.proofs.Common.{◌≤◌}
+use Rattle.std.proofs.Common.{None}
 use Rattle.emit_relocate.proofs.Added.{counted_more, raise_none}
-use Rattle.emit_relocate.proofs.Filling.{as_many}
 use Rattle.emit_relocate.proofs.Found.{there}
 
 abbrev pub run_of : Evaluated → List Patch
@@ -44,7 +28,7 @@ flat_runs [] = refl
 flat_runs (c ∷ cs) = ap (λ r. c.run ++ r) (flat_runs cs)
 
 -- a section that is known to have stayed is one of its object
-pub kept_by : (range : SectionKey → Option FileRange) (key : SectionKey) (r : FileRange) → Some r ≡ range key
+pub kept_by : (range : SectionRef → Option FileRange) (key : SectionRef) (r : FileRange) → Some r ≡ range key
     → HasSomeStayed range key.object
 kept_by range key r e = (key.part, ap is_some (sym e))
 
@@ -52,9 +36,9 @@ pub not_some : (known : Option FileRange) → is_some known ≡ false → None �
 not_some None e = refl
 not_some (Some r) e = absurd (false≢true (sym e))
 
-module _ (old : GoodLink) (l : KnownLink) (range : SectionKey → Option FileRange) where
+module _ (old : GoodLink) (l : KnownLink) (range : SectionRef → Option FileRange) where
   -- those sites of a section that stayed were evaluated whose symbol has another value
-  pub retained : (s : ObjectSection) (key : SectionKey) (r : FileRange) (a b : Results) → HasStayedAt old l key r
+  pub retained : (s : ObjectSection) (key : SectionRef) (r : FileRange) (a b : Results) → HasStayedAt old l key r
       → b.fields ≡ a.fields → b.ends ≡ a.ends
       → AreRetargetedFiled old l r (own_sites l s) a.patches b.patches a.faults b.faults a.counts b.counts
       → Adds l (HasRetargetedFields old l key r s) a b
@@ -71,14 +55,14 @@ module _ (old : GoodLink) (l : KnownLink) (range : SectionKey → Option FileRan
 
   -- by what is known of the section
   pub known_as : (s : ObjectSection) (place : ObjectPlace) → named_object l place ≡ Some s.object
-      → (r : Option FileRange) → r ≡ range (section_key place s) → (a b : Results)
-      → Adds l (λ c. IsEvaluatedAt old l (section_key place s) r s c) a b → Adds l (IsEvaluatedOf old l range s) a b
+      → (r : Option FileRange) → r ≡ range (section_ref place s) → (a b : Results)
+      → Adds l (λ c. IsEvaluatedAt old l (section_ref place s) r s c) a b → Adds l (IsEvaluatedOf old l range s) a b
   known_as s place named r e a b h = record {
     evaluated = h.evaluated;
     is_done = record {
       key = place;
       named = named;
-      outcome = subst (λ q. IsEvaluatedAt old l (section_key place s) q s h.evaluated) e h.is_done;
+      outcome = subst (λ q. IsEvaluatedAt old l (section_ref place s) q s h.evaluated) e h.is_done;
     };
     fields = h.fields;
     ends = h.ends;
@@ -88,14 +72,14 @@ module _ (old : GoodLink) (l : KnownLink) (range : SectionKey → Option FileRan
 
   -- beside what is known to have stayed
   pub retained_as : (s : ObjectSection) (place : ObjectPlace) → named_object l place ≡ Some s.object
-      → IsFoundStayed old l range (section_key place s) → (a b : Results)
-      → ((r : FileRange) → IsFoundStayedAt old l range (section_key place s) r
-      → Adds l (HasRetargetedFields old l (section_key place s) r s) a b)
+      → IsFoundStayed old l range (section_ref place s) → (a b : Results)
+      → ((r : FileRange) → IsFoundStayedAt old l range (section_ref place s) r
+      → Adds l (HasRetargetedFields old l (section_ref place s) r s) a b)
       → Adds l (IsEvaluatedOf old l range s) a b
-  retained_as s place named h a b each = go (range (section_key place s)) refl h.known h.stayed
+  retained_as s place named h a b each = go (range (section_ref place s)) refl h.known h.stayed
     where
-      go : (known : Option FileRange) → known ≡ range (section_key place s) → IsSome known
-          → IfSome known (HasStayedAt old l (section_key place s)) → Adds l (IsEvaluatedOf old l range s) a b
+      go : (known : Option FileRange) → known ≡ range (section_ref place s) → IsSome known
+          → IfSome known (HasStayedAt old l (section_ref place s)) → Adds l (IsEvaluatedOf old l range s) a b
       go None e some stayed = absurd (false≢true some)
       go (Some r) e some stayed =
           known_as s place named (Some r) e a b (each r (record { known = e; stayed = stayed }))
@@ -223,17 +207,8 @@ module _ (old : GoodLink) (l : KnownLink) (range : SectionKey → Option FileRan
       subst (λ ys. AreChanged old l range (sections_of o ys) a b) (ap (λ n. take n xs) e ∙ take-length xs) h
 
   -- all objects
-  pub whole_link : (places : List ObjectPlace) (i : ℕ) → IsOrder l places → length places ≤ i → i ≤ length places
+  pub whole_link : (i : ℕ) → length l.project.objects ≤ i
       → (a b : Results) → AreChanged old l range (sections_in (take i l.project.objects)) a b
       → AreChanged old l range (sections_in l.project.objects) a b
-  whole_link places i order low high a b h =
-      let many = as_many l places order in
-      let e : i ≡ length l.project.objects = omega (arith, many) in
-      subst (λ os. AreChanged old l range (sections_in os) a b) (ap (λ n. take n l.project.objects) e
-      ∙ take-length l.project.objects) h
-
-  pub of_read : (o : NamedObject) (read : ObjectData) → o.object ≡ read → (a b : Results)
-      → AreChanged old l range (sections_of o read.sections) a b
-      → AreChanged old l range (sections_of o o.object.sections) a b
-  of_read o read same a b h =
-      subst (λ (r : ObjectData). AreChanged old l range (sections_of o r.sections) a b) (sym same) h
+  whole_link i high a b h =
+      subst (λ os. AreChanged old l range (sections_in os) a b) (take_all i l.project.objects high) h

@@ -1,15 +1,10 @@
 -- How much the symbols of the output have in the symbol table.
-use Rattle.std.proofs.Common.{◌≡◌, ◌∙◌, ◌<◌, ◌≤◌, ◌+◌, ℕ, zero, suc, List, [], ◌∷◌, ◌++◌, ap, arith, drop, length, refl}
-use Rattle.std.proofs.Common.{get_or, sym}
-use Rattle.std.proofs.lemmas.List.{drop-map, length-map}
-use Rattle.ldmodel.specs.Layout.{Layout}
+use Rattle.emit_relocate.proofs.Common.{AddsSymbols, Layout, List, OutputSymbol, Project, [], ap, arith}
+use Rattle.emit_relocate.proofs.Common.{defined_symbols, drop, drop-map, get_or, length, length-map, plus_symbols, refl}
+use Rattle.emit_relocate.proofs.Common.{shown, shown_symbol, suc, sym, zero, ℕ, ◌++◌, ◌+◌, ◌<◌, ◌∙◌, ◌∷◌, ◌≡◌, ◌≤◌}
 use Rattle.ldmodel.specs.OutputSymbols as model
-use Rattle.ldmodel.specs.Project.{Project}
-use Rattle.emit_relocate.specs.Sizes.{plus_symbol, plus_symbols, plus_value}
-use Rattle.emit_relocate.specs.Symbols.{AddsSymbols, defined_symbols, shown}
-use Rattle.emit_relocate.specs.LinkValues.{shown_symbol}
+use Rattle.emit_relocate.specs.Sizes.{plus_symbol, plus_value}
 use Rattle.emit_relocate.specs.declared.sizes.SymbolSizes.{SymbolSizes}
-use Rattle.emit_relocate.specs.declared.values.OutputSymbol.{OutputSymbol}
 
 -- the same of symbols of the definition
 abbrev plus_all : SymbolSizes → List model.OutputSymbol → SymbolSizes

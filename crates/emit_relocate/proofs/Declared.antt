@@ -1,33 +1,17 @@
 -- A name that stands for something is declared.
-use Rattle.std.proofs.Common.{◌≡◌, ◌∙◌, ◌⊎◌, ℕ, suc, Bool, true, false, cond, List, [], ◌∷◌, ◌++◌, filter, map, refl}
-use Rattle.std.proofs.Common.{ap}
-use Rattle.std.proofs.Common.{inl, inr}
-use Rattle.std.specs.Prelude.{Option, Some, None, bytes_eq}
-use Rattle.std.proofs.lemmas.Bool.{true≢false}
-use Rattle.std.proofs.lemmas.Slice.Eq.{bytes_eq-Decides}
+use Rattle.emit_relocate.proofs.Common.{AssignmentAt, Bool, Decision, Declaration, Directive, DirectiveAt, Duplicate}
+use Rattle.emit_relocate.proofs.Common.{Layout, List, Option, Project, Provided, Script, Some, Statement, Strong}
+use Rattle.emit_relocate.proofs.Common.{Undefined, Weak, [], all_directives, ap, assigned_by, assigned_in, bytes_eq}
+use Rattle.emit_relocate.proofs.Common.{bytes_eq-Decides, cond, decided, decided_value, decision, declarations}
+use Rattle.emit_relocate.proofs.Common.{declared_names, entries, false, filter, inl, inr, is_defined, is_of_name, map}
+use Rattle.emit_relocate.proofs.Common.{name_value, names_in_objects, refl, suc, true, true≢false, ℕ, ◌++◌, ◌∙◌, ◌∷◌}
+use Rattle.emit_relocate.proofs.Common.{◌≡◌, ◌⊎◌}
+use Rattle.std.specs.Prelude.{None}
 use Rattle.ldscript.specs.statements.Given.{assigned_from, assigned_here, given_as, provided_from}
-use Rattle.ldscript.specs.statements.Numbering.{AssignmentAt, DirectiveAt, assigned_by, assigned_in, all_directives}
-use Rattle.ldscript.specs.statements.declared.directive.Directive.{Directive}
 use Rattle.ldscript.specs.statements.declared.directive.Directive.TheVariants as directives
-use Rattle.ldscript.specs.statements.declared.statement.Statement.{Statement}
-use Rattle.ldmodel.specs.Assertions.{number_if_any}
-use Rattle.ldmodel.specs.Layout.{Layout}
-use Rattle.ldmodel.specs.Names.{
-  Declaration,
-  Decision,
-  Strong,
-  Script,
-  Common as CommonCase,
-  Weak,
-  Provided,
-  Undefined,
-}
-use Rattle.ldmodel.specs.Names.{Duplicate, decided, decision, declarations, declared_names, entries, is_of_name}
-use Rattle.ldmodel.specs.Names.{names_in_objects}
-use Rattle.ldmodel.specs.OutputSymbols.{is_defined}
-use Rattle.ldmodel.specs.Project.{Project}
+use Rattle.ldmodel.specs.Names.{Common as CommonCase}
 use Rattle.ldmodel.specs.ScriptNames.{assigned_names, is_assigned, is_assignment, is_provided, provided_names}
-use Rattle.ldmodel.specs.SymbolValues.{decided_value, name_value}
+use Rattle.ldmodel.specs.SymbolValues.{NotDefined}
 use Rattle.emit_text.proofs.ByteOrder.{In, Name, append_in, distinct_in}
 
 pub same_name : (x y : Name) → bytes_eq x y ≡ true → x ≡ y
@@ -99,7 +83,7 @@ not_declared p name n =
     ∙ (ap (λ (b : Bool). decided b (is_provided p.script name) []) script ∙ decided_none (is_provided p.script name))
 
 undefined_value : (p : Project) (s : Layout) (name : Name) (d : Decision) → is_defined d ≡ false
-    → number_if_any (decided_value p s name d) ≡ None
+    → decided_value p s name d ≡ NotDefined
 undefined_value p s name (Strong e) h = absurd (true≢false h)
 undefined_value p s name Script h = absurd (true≢false h)
 undefined_value p s name (CommonCase e size align) h = absurd (true≢false h)
@@ -111,12 +95,12 @@ undefined_value p s name Duplicate h = refl
 -- a name that is not among the declared ones that stand for something has no value
 pub no_value : (p : Project) (s : Layout) (name : Name)
     → (In name (declared_names p) → is_defined (decision p name) ≡ true → ⊥)
-    → number_if_any (name_value p s name) ≡ None
+    → name_value p s name ≡ NotDefined
 unfolding name_value
 no_value p s name n = go (is_defined (decision p name)) refl
   where
     go : (b : Bool) → is_defined (decision p name) ≡ b
-        → number_if_any (decided_value p s name (decision p name)) ≡ None
+        → decided_value p s name (decision p name) ≡ NotDefined
     go true e =
         undefined_value p s name (decision p name)
         (ap is_defined (not_declared p name (λ i. n i e)))

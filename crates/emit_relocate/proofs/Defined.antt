@@ -1,27 +1,18 @@
 -- The names that stand for something are declared, and symbols of them in byte order are those of the output.
-use Rattle.std.proofs.Common.{◌≡◌, ◌∙◌, ℕ, suc, ◌⊎◌, List, [], ◌∷◌, ◌++◌, map, filter, ap, append_assoc, append-nil}
-use Rattle.std.proofs.Common.{sym, refl, Bool, true, false, cond, inl, inr}
-use Rattle.std.specs.Prelude.{Option, Some, None, bytes_eq}
-use Rattle.std.proofs.lemmas.List.{map-append}
-use Rattle.std.proofs.lemmas.List.Elements.{filter-append}
-use Rattle.std.proofs.lemmas.Slice.Eq.{bytes_eq-Decides}
-use Rattle.emit_text.proofs.ByteOrder.{Asc, In, Name, distinct_once, filtered_asc, filtered_in}
-use Rattle.emit_text.proofs.ByteOrder.{in_filtered, in_sorted, same_list, sorted_asc, sorted_in}
+use Rattle.emit_relocate.proofs.Common.{AddsSymbols, AssignmentAt, Bool, Declaration, Directive, DirectiveAt, Layout}
+use Rattle.emit_relocate.proofs.Common.{List, Option, OutputSymbol, Project, Some, Statement, [], all_directives, ap}
+use Rattle.emit_relocate.proofs.Common.{append-nil, append_assoc, assigned_by, assigned_in, bytes_eq, bytes_eq-Decides}
+use Rattle.emit_relocate.proofs.Common.{cond, decided, decision, declarations, declared_names, defined, defined_symbols}
+use Rattle.emit_relocate.proofs.Common.{entries, false, filter, filter-append, in_byte_order, inl, inr, is_defined}
+use Rattle.emit_relocate.proofs.Common.{is_of_name, map, map-append, names_in_objects, output_symbol, output_symbols}
+use Rattle.emit_relocate.proofs.Common.{refl, shown, suc, sym, true, ℕ, ◌++◌, ◌∙◌, ◌∷◌, ◌≡◌, ◌⊎◌}
+use Rattle.std.specs.Prelude.{None}
+use Rattle.emit_text.proofs.ByteOrder.{Asc, In, Name, distinct_once, filtered_asc, filtered_in, in_filtered, in_sorted}
+use Rattle.emit_text.proofs.ByteOrder.{same_list, sorted_asc, sorted_in}
 use Rattle.ldscript.specs.statements.Given.{assigned_from, assigned_here, given_as, provided_from}
-use Rattle.ldscript.specs.statements.Numbering.{AssignmentAt, DirectiveAt, assigned_by, assigned_in, all_directives}
-use Rattle.ldscript.specs.statements.declared.directive.Directive.{Directive}
 use Rattle.ldscript.specs.statements.declared.directive.Directive.TheVariants as directive
-use Rattle.ldscript.specs.statements.declared.statement.Statement.{Statement}
-use Rattle.ldmodel.specs.Layout.{Layout}
-use Rattle.ldmodel.specs.Names.{Declaration, decided, declarations, declared_names, decision, entries, is_of_name}
-use Rattle.ldmodel.specs.Names.{names_in_objects}
 use Rattle.ldmodel.specs.OutputSymbols as model
-use Rattle.ldmodel.specs.OutputSymbols.{in_byte_order, is_defined, output_symbol, output_symbols}
-use Rattle.ldmodel.specs.Project.{Project}
-use Rattle.ldmodel.specs.ScriptNames.{assigned_names, is_assigned, is_assignment, is_provided}
-use Rattle.ldmodel.specs.ScriptNames.{provided_names}
-use Rattle.emit_relocate.specs.Symbols.{AddsSymbols, defined, defined_symbols, shown}
-use Rattle.emit_relocate.specs.declared.values.OutputSymbol.{OutputSymbol}
+use Rattle.ldmodel.specs.ScriptNames.{assigned_names, is_assigned, is_assignment, is_provided, provided_names}
 use Rattle.emit_relocate.proofs.Listing.{declared_in}
 
 -- ---- what stands for something is declared

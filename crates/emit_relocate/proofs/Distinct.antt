@@ -1,20 +1,12 @@
 -- The first of each run of alike names in a sorted list.
-use Rattle.std.proofs.Common.{◌≡◌, ◌≢◌, ◌∙◌, ℕ, zero, suc, ◌+◌, ◌-◌, ◌<◌, ◌≤◌, ◌⊎◌, List, [], ◌∷◌, ◌++◌, length}
-use Rattle.std.proofs.Common.{get_or, ap, sym, subst, refl, arith, Bool, true, false, cond, inl, inr, ⊎_elim}
-use Rattle.std.proofs.Common.{append-nil}
-use Rattle.std.specs.Prelude.{bytes_eq, nat_lt, ◌&&◌}
-use Rattle.std.specs.Borrow.{Bor}
-use Rattle.std.specs.Cmp.{IsStrictWeakOrder}
-use Rattle.std.specs.Cmp.Lexicographic.{nat_list_cmp_total}
-use Rattle.std.specs.List.Sorted.{IsSortedBy}
-use Rattle.std.proofs.lemmas.Bool.{cases_lt, false≢true, true≢false}
-use Rattle.std.proofs.lemmas.List.{get_or-map, length-map}
-use Rattle.std.proofs.lemmas.List.Sorted.{ranks_by, sorted_far}
-use Rattle.std.proofs.lemmas.Slice.Eq.{bytes_eq-Decides}
+use Rattle.emit_relocate.proofs.Common.{Bool, Bor, IsSortedBy, IsStrictWeakOrder, List, [], ap, append-nil, arith}
+use Rattle.emit_relocate.proofs.Common.{bytes_eq, bytes_eq-Decides, cases_lt, cond, distinct_first, false, false≢true}
+use Rattle.emit_relocate.proofs.Common.{get_or, get_or-map, inl, inr, is_before, length, length-map, nat_list_cmp_total}
+use Rattle.emit_relocate.proofs.Common.{nat_lt, ranks_by, refl, sorted_far, subst, suc, sym, texts, true, true≢false}
+use Rattle.emit_relocate.proofs.Common.{zero, ℕ, ⊎_elim, ◌&&◌, ◌++◌, ◌+◌, ◌-◌, ◌<◌, ◌∙◌, ◌∷◌, ◌≡◌, ◌≢◌, ◌≤◌, ◌⊎◌}
 use Rattle.emit_text.proofs.ByteOrder.{Asc, In, Lt, Name, append_asc, append_in, in_append, lt_from_not_before}
 use Rattle.emit_text.proofs.ByteOrder.{lt_trans}
-use Rattle.ldmodel.specs.OutputSymbols.{is_before}
-use Rattle.emit_relocate.specs.ScriptNames.{distinct_first, fresh, is_repeat, texts}
+use Rattle.emit_relocate.specs.ScriptNames.{fresh, is_repeat}
 
 pub before_order : IsStrictWeakOrder is_before
 before_order = ranks_by nat_list_cmp_total (λ (x : Name). x)

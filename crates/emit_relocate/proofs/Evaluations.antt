@@ -1,15 +1,8 @@
 -- How many sites have a symbol with a value: between good links each.
-use Rattle.std.proofs.Common.{◌≡◌, ℕ, List, [], ◌∷◌, length, refl, arith}
-use Rattle.std.specs.Prelude.{Ok}
-use Rattle.std.specs.List.{Contains}
-use Rattle.std.proofs.lemmas.List.Sums.{sum_by-cons}
-use Rattle.ldmodel.specs.Relocations.{Site, site_field_with, site_field, site_value}
-use Rattle.ldmodel.specs.SymbolValues.{SymbolValue, Number, NotDefined, NotInOutput}
-use Rattle.ldmodel_laws.specs.Untouched.{HasField}
-use Rattle.emit_relocate.specs.PreviousLinkInfo.{good_link}
-use Rattle.emit_relocate.specs.Fields.{evaluations, work_of}
-use Rattle.emit_relocate.specs.KnownLink.{KnownLink}
-use Rattle.ldmodel_laws.proofs.Members.{here, later}
+use Rattle.emit_relocate.proofs.Common.{Contains, HasField, KnownLink, List, NotInOutput, Number, Ok, Site, [], arith}
+use Rattle.emit_relocate.proofs.Common.{evaluations, good_link, here, later, length, refl, site_field, site_field_with}
+use Rattle.emit_relocate.proofs.Common.{site_value, sum_by-cons, work_of, ℕ, ◌∷◌, ◌≡◌}
+use Rattle.ldmodel.specs.SymbolValues.{SymbolValue, NotDefined}
 
 module _ (l : KnownLink) where
   abbrev one_of : Site → ℕ

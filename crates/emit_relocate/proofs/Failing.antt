@@ -1,24 +1,13 @@
 -- The ASSERTs of a script, one after another.
-use Rattle.std.proofs.Common.{◌≡◌, ◌∙◌, ℕ, ◌+◌, ◌<◌, ◌≤◌, suc, Bool, true, false, cond, not, List, [], ◌∷◌, ◌++◌}
-use Rattle.std.proofs.Common.{filter, map}
-use Rattle.std.proofs.Common.{ap, arith, get_or, length, refl, sym, take}
-use Rattle.std.specs.Prelude.{Option, Some, slice_get}
-use Rattle.std.proofs.Math.Seq.{take-suc}
-use Rattle.std.proofs.lemmas.List.{get_or-map, length-map, map-append, take_all}
-use Rattle.std.proofs.lemmas.List.Elements.{filter-append}
-use Rattle.std.proofs.lemmas.Option.{slice_get-get_or}
-use Rattle.ldscript.specs.statements.Numbering.{AssertionAt, asserts}
+use Rattle.emit_relocate.proofs.Common.{AssertionAt, Bool, Fault, Layout, List, Option, Project, Scope, Some, [], ap}
+use Rattle.emit_relocate.proofs.Common.{arith, asserts, cond, failures, false, fault_of, fault_unless, faults_in}
+use Rattle.emit_relocate.proofs.Common.{filter, filter-append, get_or, get_or-map, holds_in, length, length-map, map}
+use Rattle.emit_relocate.proofs.Common.{map-append, not, refl, shown_assertions, slice_get, slice_get-get_or, suc, sym}
+use Rattle.emit_relocate.proofs.Common.{take, take-suc, take_all, true, ℕ, ◌++◌, ◌+◌, ◌<◌, ◌∙◌, ◌∷◌, ◌≡◌, ◌≤◌}
 use Rattle.ldmodel.specs.Assertions.{assertion_faults, final_scope}
-use Rattle.ldmodel.specs.Fault.{Fault}
-use Rattle.ldmodel.specs.FaultCode.{assertion_of, fault_of}
-use Rattle.ldmodel.specs.Layout.{Layout}
-use Rattle.ldmodel.specs.Project.{Project}
-use Rattle.ldmodel.specs.Value.{Scope}
+use Rattle.ldmodel.specs.FaultCode.{assertion_of}
 use Rattle.ldmodel.specs.declared.fault.Fault as code
-use Rattle.ldmodel_project.specs.ByPlace.{faults_in}
-use Rattle.emit_text.specs.Naming.{shown_assertions}
 use Rattle.emit_text.specs.declared.assertion.AssertionAt as shown
-use Rattle.emit_relocate.specs.FinalScope.{failures, fault_unless, holds_in}
 
 one_fault : (p : Project) (scope : Scope) (n : ℕ) (x : AssertionAt) (b : Bool)
     → slice_get (asserts p.script) n ≡ Some x → holds_in scope x.assertion.condition ≡ b

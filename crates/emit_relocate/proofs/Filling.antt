@@ -1,24 +1,16 @@
--- An input section, by whether it is in the output; and an object, by its key.
-use Rattle.std.proofs.Common.{◌≡◌, ◌<◌, ◌^◌, ◌-◌, ℕ, List, [], length, Option, Some, None}
-use Rattle.std.proofs.Common.{refl, ap, sym, ◌∙◌, arith, append-nil, subst}
-use Rattle.std.specs.Prelude.{slice_get}
-use Rattle.std.specs.Option.{option_map, option_map_or}
-use Rattle.std.proofs.lemmas.List.{length-map}
-use Rattle.std.proofs.lemmas.Option.{same_Some, slice_get-map}
-use Rattle.elfobj.specs.Object.{ObjectData}
-use Rattle.ldmodel.specs.Image.{section_numbered}
-use Rattle.ldmodel.specs.Layout.{PlacedPiece}
-use Rattle.ldmodel.specs.Project.{NamedObject}
-use Rattle.ldmodel.specs.Relocations.{Site, sites_at}
-use Rattle.ldmodel.specs.SymbolValues.{placed_part}
-use Rattle.ldmodel.specs.declared.names.ObjectPlace.{ObjectPlace}
-use Rattle.ldmodel.specs.declared.sections.Part.TheVariants.{InTable}
-use Rattle.emit_relocate.specs.Changes.{Adds, HasAllFields, Results, own_sites, section_key}
-use Rattle.emit_relocate.specs.Fields.{IsAdded, IsCounted, IsRun}
-use Rattle.emit_relocate.specs.Filled.{EndBelow, IsOrder, IsRunAt, ObjectSection}
-use Rattle.emit_relocate.specs.KnownLink.{KnownLink, named_object, object_of, start_of}
-use Rattle.emit_relocate.specs.Links.{IsPlaceOf, IsPlacedAt}
-use Rattle.emit_relocate.specs.declared.site.PlacedInput.{PlacedInput}
+-- An input section, by whether it is in the output; and an object, by its place.
+use Rattle.emit_relocate.proofs.Common.{Adds, EndBelow, HasAllFields, InTable, IsAdded, IsCounted, IsLinkView}
+use Rattle.emit_relocate.proofs.Common.{IsPlacedAt, IsRun, IsRunAt, KnownLink, LinkView, List, NamedObject, ObjectPlace}
+use Rattle.emit_relocate.proofs.Common.{ObjectSection, Option, PlacedInput, PlacedPiece, Project, Results, Site, Some}
+use Rattle.emit_relocate.proofs.Common.{[], ap, append-nil, arith, get_or, length, length-map, named_object, option_map}
+use Rattle.emit_relocate.proofs.Common.{option_map_or, own_sites, placed_part, refl, same_Some, section_numbered}
+use Rattle.emit_relocate.proofs.Common.{section_ref, slice_get, slice_get-get_or, slice_get-map, start_of, subst, sym}
+use Rattle.emit_relocate.proofs.Common.{ℕ, ◌-◌, ◌<◌, ◌^◌, ◌∙◌, ◌≡◌, ◌≤◌}
+use Rattle.std.proofs.Common.{None}
+use Rattle.ldmodel.specs.Relocations.{sites_at}
+use Rattle.ldmodel_project.specs.Inputs.{shown_input, shown_inputs}
+use Rattle.ldmodel_project.specs.declared.input.InputObject.{InputObject}
+use Rattle.emit_relocate.specs.Links.{IsPlaceOf}
 use Rattle.emit_relocate.proofs.Added.{tried_nothing}
 
 abbrev pub start_in : Option PlacedPiece → Option ℕ
@@ -38,7 +30,7 @@ module _ (l : KnownLink) (s : ObjectSection) where
   placed = placed_part l.layout s.object.name (InTable s.section.number)
 
   pub start_is : (place : ObjectPlace) → named_object l place ≡ Some s.object
-      → start_of l (section_key place s) ≡ start_in (placed_part l.layout s.object.name (InTable s.section.number))
+      → start_of l (section_ref place s) ≡ start_in (placed_part l.layout s.object.name (InTable s.section.number))
   start_is place named =
       ap (λ n. start_in (placed_part l.layout n (InTable s.section.number)))
       (ap (λ (a : Option NamedObject). option_map_or (λ (y : NamedObject). y.name) a []) named)
@@ -87,30 +79,23 @@ not_past l place s y start size below named numbered placed at is past =
     let end = below place s.object s.section y named numbered placed in
     omega (arith, end, at, is, past)
 
-module _ (l : KnownLink) where
-  -- the object of a place, in its place
-  some_there : (a : Option NamedObject) (b : Option NamedObject) → Some a ≡ option_map Some b → (o : NamedObject)
-      × (a ≡ Some o) × (b ≡ Some o)
-  some_there a None e = cc
-  some_there a (Some o) e = (o, same_Some _ _ e, refl)
+module _ (l : KnownLink) (v : LinkView) (is : IsLinkView l v) (inputs : List InputObject)
+    (same : shown_inputs inputs ≡ v.project.now.objects) where
+  -- an object of a link, under its place
+  pub input_at : (i : ℕ) (x : InputObject) → x ≡ get_or inputs i x → i < length inputs
+      → (named_object l (record { 0 = i }) ≡ Some (shown_input x))
+      × (slice_get l.project.objects i ≡ Some (shown_input x))
+  input_at i x at within =
+      let here : slice_get l.project.objects i ≡ Some (shown_input x) =
+      ap (λ (p : Project). slice_get p.objects i) is.project ∙ ap (λ os. slice_get os i) (sym same)
+      ∙ slice_get-map shown_input inputs i
+      ∙ ap (option_map shown_input) (slice_get-get_or inputs i x within)
+      ∙ ap (λ (y : InputObject). Some (shown_input y)) (sym at) in
+      (ap (λ (k : KnownLink). slice_get l.project.objects (k.number i)) is.link ∙ here, here)
 
-  pub in_order : (places : List ObjectPlace) (i : ℕ) (place : ObjectPlace) → IsOrder l places
-      → slice_get places i ≡ Some place
-      → (o : NamedObject) × (named_object l place ≡ Some o) × (slice_get l.project.objects i ≡ Some o)
-  in_order places i place order is =
-      some_there (named_object l place) (slice_get l.project.objects i)
-      (ap (λ a. option_map (named_object l) a) (sym is) ∙ sym (slice_get-map (named_object l) places i)
-      ∙ ap (λ r. slice_get r i) order ∙ slice_get-map Some l.project.objects i)
-
-  pub as_many : (places : List ObjectPlace) → IsOrder l places → length places ≡ length l.project.objects
-  as_many places order = sym (length-map places (named_object l)) ∙ ap length order ∙ length-map l.project.objects Some
-
-  -- the object of a place, as it is lent
-  pub not_there : (place : ObjectPlace) (o : NamedObject) → None ≡ object_of l place → named_object l place ≡ Some o
-      → ⊥
-  not_there place o h named = let e : None ≡ Some o.object = h
-      ∙ ap (λ a. option_map (λ (y : NamedObject). y.object) a) named in cc
-
-  pub lent : (place : ObjectPlace) (o : NamedObject) (read : ObjectData) → Some read ≡ object_of l place
-      → named_object l place ≡ Some o → o.object ≡ read
-  lent place o read h named = sym (same_Some _ _ (h ∙ ap (λ a. option_map (λ (y : NamedObject). y.object) a) named))
+  -- no object comes after the last input
+  pub all_inputs : (i : ℕ) → length inputs ≤ i → length l.project.objects ≤ i
+  all_inputs i low =
+      let many : length l.project.objects ≡ length inputs =
+      ap (λ (p : Project). length p.objects) is.project ∙ sym (ap length same) ∙ length-map inputs shown_input in
+      omega (arith, many, low)

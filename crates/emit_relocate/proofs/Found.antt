@@ -1,26 +1,14 @@
 -- A section by its number among those of its object.
-use Rattle.std.proofs.Common.{◌≡◌, ◌<◌, ◌≤◌, ◌^◌, ℕ, ◌+◌, zero, suc, List, [], ◌∷◌, length, map, find, get_or, Option}
-use Rattle.std.proofs.Common.{Some, None, refl, ap, sym, ◌∙◌, arith, nat_eq, subst}
-use Rattle.std.specs.Prelude.{slice_get}
-use Rattle.std.specs.List.{All, AllPairs}
-use Rattle.std.specs.Option.{option_map}
-use Rattle.std.proofs.lemmas.Bool.{eq-eqb, ne_eqb}
-use Rattle.std.proofs.lemmas.List.{length-map}
-use Rattle.std.proofs.lemmas.Option.{get_or_from_slice_get, same_Some, slice_get-map, slice_get_within}
-use Rattle.elfobj.specs.Object.{ObjectData}
-use Rattle.elfobj.specs.Profile.{AreApart, HasRelocationsOfProfile}
-use Rattle.elfobj.specs.Relocations.{field_end}
-use Rattle.elfobj.specs.Sections.{LinkedSection, section_of}
-use Rattle.elfobj.specs.declared.relocation.Relocation.{Relocation}
+use Rattle.emit_relocate.proofs.Common.{All, AllPairs, AreApart, HasRelocationsOfProfile, IsAtHand, IsPlaced}
+use Rattle.emit_relocate.proofs.Common.{IsSectionOf, KnownLink, LinkedSection, List, ObjectData, ObjectSection, Option}
+use Rattle.emit_relocate.proofs.Common.{PlacedInput, Relocation, Some, [], ap, arith, eq-eqb, field_end, find, get_or}
+use Rattle.emit_relocate.proofs.Common.{get_or_from_slice_get, length, length-map, map, nat_eq, ne_eqb, option_map}
+use Rattle.emit_relocate.proofs.Common.{refl, same_Some, section_numbered, section_of, slice_get, slice_get-map}
+use Rattle.emit_relocate.proofs.Common.{slice_get_within, subst, suc, sym, zero, ℕ, ◌+◌, ◌<◌, ◌^◌, ◌∙◌, ◌∷◌, ◌≡◌, ◌≤◌}
+use Rattle.std.proofs.Common.{None}
 use Rattle.elfobj.specs.declared.section.Section.{Section}
-use Rattle.ldmodel.specs.Image.{section_numbered}
-use Rattle.emit_relocate.specs.Filled.{ObjectSection}
-use Rattle.emit_relocate.specs.KnownLink.{KnownLink}
-use Rattle.emit_relocate.specs.Links.{IsAtHand}
-use Rattle.emit_relocate.specs.Sites.{IsPlaced, IsSectionOf}
 use Rattle.emit_relocate.specs.SymbolValues.{IsRow}
 use Rattle.emit_relocate.specs.declared.input_section.InputSection.{InputSection}
-use Rattle.emit_relocate.specs.declared.site.PlacedInput.{PlacedInput}
 
 abbrev Ascend : List LinkedSection → Type 0
 Ascend xs = AllPairs (λ (s : Section) (t : Section). s.number.0 < t.number.0) (map section_of xs)

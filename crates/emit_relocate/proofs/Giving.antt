@@ -1,33 +1,25 @@
 -- The values that a script gives names.
-use Rattle.std.proofs.Common.{◌≡◌, ◌∙◌, ℕ, ◌+◌, ◌<◌, ◌≤◌, List, [], ◌∷◌, ◌++◌, length, map, take, get_or, set, ap, sym}
-use Rattle.std.proofs.Common.{subst, refl, arith, suc, zero, ⊎_elim, ◌⊎◌, inl, inr, Bool, true, false}
-use Rattle.std.specs.Prelude.{Option, Some, None, replicate, bytes_eq, slice_get}
-use Rattle.std.specs.Option.{is_some, option_map, option_map_or}
-use Rattle.std.proofs.lemmas.Option.{slice_get-map, slice_get-get_or}
-use Rattle.std.proofs.Math.Seq.{take-suc}
-use Rattle.std.proofs.lemmas.Bool.{cases_eq, cases_lt, true≢false}
-use Rattle.std.proofs.lemmas.List.{map-append, take_all, get_or-set_same, get_or-set_other}
-use Rattle.std.proofs.lemmas.List.{length-map, length-replicate, length-set}
-use Rattle.std.proofs.lemmas.Slice.Eq.{bytes_eq-Decides}
-use Rattle.ldscript.specs.statements.Numbered.{shown_directives}
-use Rattle.ldscript.specs.statements.Numbering.{DirectiveAt, all_directives}
+use Rattle.emit_relocate.proofs.Common.{AreOf, Bool, DirectiveAt, HasCase, HasPlaces, IsGivenTable, IsNamed, IsPut}
+use Rattle.emit_relocate.proofs.Common.{Layout, List, NamedKey, Option, Places, Some, Statement, [], all_directives, ap}
+use Rattle.emit_relocate.proofs.Common.{arith, bytes_eq, bytes_eq-Decides, cases_eq, cases_lt, false, get_or}
+use Rattle.emit_relocate.proofs.Common.{get_or-set_other, get_or-set_same, given_name, inl, inr, is_some, length}
+use Rattle.emit_relocate.proofs.Common.{length-map, length-replicate, length-set, map, map-append, name_given_by}
+use Rattle.emit_relocate.proofs.Common.{option_map, option_map_or, refl, replicate, set, shown_directives, slice_get}
+use Rattle.emit_relocate.proofs.Common.{slice_get-get_or, slice_get-map, subst, suc, sym, symbol_of, take, take-suc}
+use Rattle.emit_relocate.proofs.Common.{take_all, true, true≢false, zero, ℕ, ⊎_elim, ◌++◌, ◌+◌, ◌<◌, ◌∙◌, ◌∷◌, ◌≡◌, ◌≤◌}
+use Rattle.emit_relocate.proofs.Common.{◌⊎◌}
+use Rattle.std.specs.Prelude.{None}
 use Rattle.ldscript.specs.statements.declared.numbering.DirectiveAt as code_directive
-use Rattle.ldscript.specs.statements.declared.statement.Statement.{Statement}
-use Rattle.ldmodel.specs.Layout.{Layout, ScriptSymbol}
-use Rattle.ldmodel.specs.PlacementView.{given_name, name_given_by, symbol_of}
+use Rattle.ldmodel.specs.Layout.{ScriptSymbol}
 use Rattle.ldmodel.specs.declared.script_symbol.ScriptSymbol as code
-use Rattle.symres.specs.Decided.{HasCase}
 use Rattle.symres.specs.SymbolTable.{SymbolTableState}
-use Rattle.symres.specs.declared.sorted.NamedKey.{NamedKey}
-use Rattle.place.specs.sections.Places.{AreOf, Places}
 use Rattle.place.proofs.TermNumbers.{symbol_at, symbol_named_by}
 use Rattle.place.specs.terms.LayoutSymbols.{AreValuesOf, IsFound, value_of}
 use Rattle.place.specs.terms.Tables.{entry_under, symbol_number}
-use Rattle.symres.specs.table.State.{AreDistinct, IsNamed, slot}
-use Rattle.emit_relocate.specs.GivenTable.{HasPlaces, IsGivenTable, IsPut}
+use Rattle.symres.specs.table.State.{AreDistinct, slot}
 use Rattle.emit_relocate.specs.ScriptValues.{AreScriptValues, value_in}
 use Rattle.emit_relocate.specs.declared.script_values.ScriptValues.{ScriptValues}
-use Rattle.emit_relocate.proofs.Cased.{case_within}
+use Rattle.emit_relocate.proofs.NumbersWithCases.{case_within}
 
 pub take_more : {X : Type 0} (xs : List X) (i : ℕ) (x : X) → i < length xs → get_or xs i x ≡ x
     → take (i + 1) xs ≡ take i xs ++ x ∷ []

@@ -1,46 +1,37 @@
 -- An index to which a site is added.
-use Rattle.std.proofs.Common.{◌≡◌, ◌≢◌, inl, inr, ◌<◌, ◌≤◌, ℕ, ◌+◌, zero, suc, List, [], ◌∷◌, ◌++◌, length, map, filter}
-use Rattle.std.proofs.Common.{set, get_or, Bool, true, false, cond, ◌||◌, ◌&&◌, nat_eq, Option, Some, None, refl, ap}
-use Rattle.std.proofs.Common.{sym, ◌∙◌, arith, if◌then◌else◌, add-one, append-nil, append_assoc, count_by, drop, subst}
-use Rattle.std.proofs.Common.{take}
-use Rattle.std.proofs.Math.Seq.{drop-cons, take-suc}
-use Rattle.std.proofs.lemmas.List.Elements.{filter-append}
-use Rattle.std.proofs.lemmas.List.Sums.{sum_by-cons}
-use Rattle.std.specs.List.{cons_option, filter_map, list_any}
-use Rattle.std.specs.List.Sorted.{IsPermutation}
-use Rattle.std.proofs.lemmas.Bool.{cases_eq, eq-eqb, eqb-true, ne_eqb}
-use Rattle.std.proofs.lemmas.List.{get_or-set_same, get_or-set_other, map-append}
-use Rattle.std.proofs.lemmas.List.Sorted.{IsPermutation-cons, IsPermutation-insert, IsPermutation-refl}
-use Rattle.std.proofs.lemmas.List.Sorted.{IsPermutation-to_front}
-use Rattle.std.proofs.lemmas.List.Sorted.{IsPermutation-trans}
-use Rattle.std.proofs.lemmas.Option.{same_Some, slice_get-get_or}
-use Rattle.slab.specs.Slab.{Updates, get, values}
-use Rattle.ldmodel.specs.declared.fault.SiteKey.{SiteKey}
-use Rattle.emit_relocate.specs.Index.{IsSound, has_spot, is_against, is_owner, is_spot, no_bucket, slot}
-use Rattle.emit_relocate.specs.declared.bucket.Bucket.{Bucket}
-use Rattle.emit_relocate.specs.declared.index.IndexSlot.{IndexSlot}
-use Rattle.emit_relocate.specs.declared.index.TargetSite.{TargetSite}
+use Rattle.emit_relocate.proofs.Common.{Bool, Bucket, IndexSlot, IsPermutation, IsPermutation-cons}
+use Rattle.emit_relocate.proofs.Common.{IsPermutation-insert, IsPermutation-refl, IsPermutation-to_front}
+use Rattle.emit_relocate.proofs.Common.{IsPermutation-trans, IsSound, List, Option, SiteRef, Some, TargetSite, Updates}
+use Rattle.emit_relocate.proofs.Common.{[], add-one, ap, append-nil, append_assoc, arith, cases_eq, cond, cons_option}
+use Rattle.emit_relocate.proofs.Common.{count_by, drop, drop-cons, eq-eqb, eqb-true, false, filter, filter-append}
+use Rattle.emit_relocate.proofs.Common.{filter_map, get, get_or, get_or-set_other, get_or-set_same, has_spot}
+use Rattle.emit_relocate.proofs.Common.{if◌then◌else◌, inl, inr, is_against, is_owner, is_spot, length, list_any, map}
+use Rattle.emit_relocate.proofs.Common.{map-append, nat_eq, ne_eqb, no_bucket, refl, same_Some, set, slice_get-get_or}
+use Rattle.emit_relocate.proofs.Common.{subst, suc, sum_by-cons, sym, take, take-suc, true, values, zero, ℕ, ◌&&◌, ◌++◌}
+use Rattle.emit_relocate.proofs.Common.{◌+◌, ◌<◌, ◌||◌, ◌∙◌, ◌∷◌, ◌≡◌, ◌≢◌, ◌≤◌}
+use Rattle.std.proofs.Common.{None}
+use Rattle.emit_relocate.specs.Index.{slot}
 
-abbrev held : List (Option SiteKey) → List SiteKey
+abbrev held : List (Option SiteRef) → List SiteRef
 held slots = filter_map (λ s. s) slots
 
-same_held : (xs ys : List (Option SiteKey)) → ((j : ℕ) → get_or ys j None ≡ get_or xs j None) → held ys ≡ held xs
+same_held : (xs ys : List (Option SiteRef)) → ((j : ℕ) → get_or ys j None ≡ get_or xs j None) → held ys ≡ held xs
 same_held [] [] h = refl
 same_held [] (y ∷ ys) h = rw (h zero) (same_held [] ys (λ j. h (suc j)))
 same_held (x ∷ xs) [] h = rw (← h zero) (same_held xs [] (λ j. h (suc j)))
 same_held (x ∷ xs) (y ∷ ys) h = rw (h zero) (ap (cons_option x) (same_held xs ys (λ j. h (suc j))))
 
-exchanged : (a b : SiteKey) (xs : List SiteKey) → IsPermutation (a ∷ b ∷ xs) (b ∷ a ∷ xs)
+exchanged : (a b : SiteRef) (xs : List SiteRef) → IsPermutation (a ∷ b ∷ xs) (b ∷ a ∷ xs)
 exchanged a b xs = IsPermutation-insert (b ∷ xs) 1 a
 
-behind : (x : Option SiteKey) (v : SiteKey) (xs ys : List SiteKey) → IsPermutation (v ∷ xs) ys
+behind : (x : Option SiteRef) (v : SiteRef) (xs ys : List SiteRef) → IsPermutation (v ∷ xs) ys
     → IsPermutation (v ∷ cons_option x xs) (cons_option x ys)
 behind None v xs ys h = h
 behind (Some a) v xs ys h =
     IsPermutation-trans (v ∷ a ∷ xs) (a ∷ v ∷ xs) (a ∷ ys) (exchanged v a xs) (IsPermutation-cons a (v ∷ xs) ys h)
 
 -- a slot that was free is filled
-filled : (xs ys : List (Option SiteKey)) (k : ℕ) (v : SiteKey) → get_or xs k None ≡ None → get_or ys k None ≡ Some v
+filled : (xs ys : List (Option SiteRef)) (k : ℕ) (v : SiteRef) → get_or xs k None ≡ None → get_or ys k None ≡ Some v
     → ((j : ℕ) → j ≢ k → get_or ys j None ≡ get_or xs j None) → IsPermutation (v ∷ held xs) (held ys)
 filled xs [] k v free is same = cc
 filled [] (y ∷ ys) zero v free is same =
@@ -56,7 +47,7 @@ filled (x ∷ xs) (y ∷ ys) (suc k) v free is same =
     (behind x v (held xs) (held ys)
     (filled xs ys k v free is (λ j differs. same (suc j) (λ e. differs (omega (arith, e))))))
 
-pub filled_bucket : (a b : Bucket) (k : ℕ) (v : SiteKey) → get a.sites k ≡ None → Updates a.sites b.sites k (Some v)
+pub filled_bucket : (a b : Bucket) (k : ℕ) (v : SiteRef) → get a.sites k ≡ None → Updates a.sites b.sites k (Some v)
     → IsPermutation (v ∷ values a.sites) (values b.sites)
 filled_bucket a b k v free u = filled a.sites.slots b.sites.slots k v free u.changed u.others
 
@@ -89,7 +80,7 @@ any_snoc p [] x = sym (or_none (p x))
 any_snoc p (y ∷ ys) x = ap (λ b. p y || b) (any_snoc p ys x) ∙ or_assoc (p y) (list_any p ys) (p x)
 
 -- who owns a place that is filled
-joined : (o p : ℕ) (v : SiteKey) (s : Option SiteKey) (known b : Bool) → v.object.0 ≡ o → known ≡ is_owner p s
+joined : (o p : ℕ) (v : SiteRef) (s : Option SiteRef) (known b : Bool) → v.object.0 ≡ o → known ≡ is_owner p s
     → (b ≡ true → s ≡ None)
     → (known || (nat_eq o p && b)) ≡ is_owner p (if b then Some v else s)
 joined o p v s known true owner e free =
@@ -98,7 +89,7 @@ joined o p v s known true owner e free =
 joined o p v s known false owner e free = ap (λ b. known || b) (and_none (nat_eq o p)) ∙ sym (or_none known) ∙ e
 
 module _ (ts : List Bucket) (os : List (List IndexSlot)) (o t k : ℕ) (low_t : t < length ts) (low_o : o < length os)
-    (a b : Bucket) (is : a ≡ get_or ts t a) (v : SiteKey)
+    (a b : Bucket) (is : a ≡ get_or ts t a) (v : SiteRef)
     (owner : v.object.0 ≡ o) (free : get a.sites k ≡ None) (u : Updates a.sites b.sites k (Some v)) (h : IsSound ts os)
   where
     abbrev spot : IndexSlot
@@ -211,8 +202,8 @@ module _ (sites : List TargetSite) (i : ℕ) (d : TargetSite) (low : i < length 
       ap (λ n. filter (is_against t) (take n sites)) (add-one i) ∙ ap (filter (is_against t)) (take-suc sites i d low)
       ∙ filter-append (is_against t) (take i sites) (this ∷ [])
 
-  module _ (f : TargetSite → SiteKey) where
-    none_added : (t : ℕ) (before now next : List SiteKey) → t ≢ this.target.0 → next ≡ now
+  module _ (f : TargetSite → SiteRef) where
+    none_added : (t : ℕ) (before now next : List SiteRef) → t ≢ this.target.0 → next ≡ now
         → IsPermutation (before ++ map f (filter (is_against t) (take i sites))) now
         → IsPermutation (before ++ map f (filter (is_against t) (take (i + 1) sites))) next
     none_added t before now next differs e h =
@@ -222,7 +213,7 @@ module _ (sites : List TargetSite) (i : ℕ) (d : TargetSite) (low : i < length 
         ∙ append-nil (filter (is_against t) (take i sites)) in
         rw (same, e) h
 
-    one_added : (before now next : List SiteKey) → IsPermutation (f this ∷ now) next
+    one_added : (before now next : List SiteRef) → IsPermutation (f this ∷ now) next
         → IsPermutation (before ++ map f (filter (is_against this.target.0) (take i sites))) now
         → IsPermutation (before ++ map f (filter (is_against this.target.0) (take (i + 1) sites))) next
     one_added before now next e h =
@@ -239,7 +230,7 @@ module _ (sites : List TargetSite) (i : ℕ) (d : TargetSite) (low : i < length 
         (IsPermutation-trans (f this ∷ (before ++ map f xs)) (f this ∷ now) next
         (IsPermutation-cons (f this) (before ++ map f xs) now h) e))
 
-    pub sites_added : (before now next : ℕ → List SiteKey)
+    pub sites_added : (before now next : ℕ → List SiteRef)
         → IsPermutation (f this ∷ now this.target.0) (next this.target.0)
         → ((t : ℕ) → t ≢ this.target.0 → next t ≡ now t)
         → ((t : ℕ) → IsPermutation (before t ++ map f (filter (is_against t) (take i sites))) (now t))

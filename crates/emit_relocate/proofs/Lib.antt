@@ -1,3 +1,4 @@
+pub mod Common
 mod Targets
 mod Sites
 mod Runs
@@ -6,23 +7,22 @@ mod Evaluations
 mod Places
 mod Kept
 mod Found
-mod Rowed
+mod SymbolValueRows
 mod Filling
 pub mod Lists
-mod Filed
+mod FieldsInFile
 mod Moving
 mod Changing
 mod Settling
-mod Bare
+mod NoRelocations
 mod Renewing
 mod Paired
 mod Patching
-mod Settled
-pub mod Cased
+mod NothingToEvaluate
+pub mod NumbersWithCases
 pub mod Rows
 pub mod Objects
 pub mod Giving
-pub mod EntryCase
 pub mod Listing
 pub mod AddedSymbols
 pub mod Distinct
@@ -32,7 +32,7 @@ pub mod Declared
 pub mod Looking
 pub mod Failing
 pub mod Searching
-pub mod Rising
+pub mod NamesAscending
 pub mod Picking
 pub mod Walking
 pub mod Counted

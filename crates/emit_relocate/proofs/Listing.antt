@@ -1,34 +1,22 @@
 -- The names that are declared: those of objects, and those that the script gives values to.
-use Rattle.std.proofs.Common.{◌≡◌, ◌∙◌, ℕ, ◌+◌, ◌<◌, List, [], ◌∷◌, ◌++◌, length, map, take, get_or, ap, sym, subst}
-use Rattle.std.proofs.Common.{append_assoc, append-nil, arith, ◌⊎◌, inl, inr, ⊎_elim}
-use Rattle.std.specs.Prelude.{Contains}
-use Rattle.std.specs.Borrow.{Bor}
-use Rattle.std.specs.List.Sorted.{IsPermutation, IsSortedBy}
-use Rattle.std.proofs.lemmas.List.{get_or_default, length-map, map-append}
-use Rattle.std.proofs.lemmas.List.Concat.{flat_map-append}
-use Rattle.std.proofs.lemmas.List.Sorted.{Contains-permutation, IsPermutation-map}
+use Rattle.emit_relocate.proofs.Common.{AssignmentAt, Bor, Contains, Contains-permutation, Directive, DirectiveAt}
+use Rattle.emit_relocate.proofs.Common.{IsPermutation, IsPermutation-map, IsSortedBy, List, NamedKey, Project}
+use Rattle.emit_relocate.proofs.Common.{Statement, [], all_directives, all_given, ap, append-nil, append_assoc, arith}
+use Rattle.emit_relocate.proofs.Common.{assigned_by, assigned_in, declared_names, distinct_first, flat_map-append}
+use Rattle.emit_relocate.proofs.Common.{get_or, get_or_default, inl, inr, is_before, keyed_names, length, length-map}
+use Rattle.emit_relocate.proofs.Common.{map, map-append, names_in_objects, provided_by, provided_in, shown_directives}
+use Rattle.emit_relocate.proofs.Common.{subst, sym, take, texts, ℕ, ⊎_elim, ◌++◌, ◌+◌, ◌<◌, ◌∙◌, ◌∷◌, ◌≡◌, ◌⊎◌}
 use Rattle.emit_text.proofs.ByteOrder.{Asc, In, append_in, contained_in, distinct_in, in_append, in_contained}
 use Rattle.emit_text.proofs.ByteOrder.{in_distinct}
-use Rattle.ldscript.specs.statements.Numbering.{AssignmentAt, DirectiveAt, assigned_by, assigned_in, all_directives}
-use Rattle.ldscript.specs.statements.Numbering.{provided_by}
-use Rattle.ldscript.specs.statements.Numbering.{provided_in}
-use Rattle.ldscript.specs.statements.Numbered.{shown_directives}
 use Rattle.ldscript.specs.statements.declared.numbering.DirectiveAt as code
-use Rattle.ldscript.specs.statements.declared.directive.Directive.{Directive}
 use Rattle.ldscript.specs.statements.declared.directive.Directive.TheVariants as directive
-use Rattle.ldscript.specs.statements.declared.statement.Statement.{Statement}
-use Rattle.ldmodel.specs.Names.{declared_names, names_in_objects}
-use Rattle.ldmodel.specs.OutputSymbols.{is_before}
-use Rattle.ldmodel.specs.Project.{Project}
 use Rattle.ldmodel.specs.ScriptNames.{assigned_names, provided_names}
 use Rattle.symres.specs.SymbolTable.{IsSymbolTable, SymbolTableState}
 use Rattle.symres.specs.Sorted.{AreSorted}
-use Rattle.symres.specs.declared.sorted.NamedKey.{NamedKey}
-use Rattle.emit_relocate.specs.ScriptNames.{AreScriptNames, all_given, distinct_first, names_given, texts}
-use Rattle.emit_relocate.specs.Symbols.{keyed_names}
+use Rattle.emit_relocate.specs.ScriptNames.{AreScriptNames, names_given}
 use Rattle.emit_relocate.proofs.Distinct.{first_asc, first_in, text_before, texts_up}
 use Rattle.emit_relocate.proofs.Giving.{no_key, take_more}
-use Rattle.emit_relocate.proofs.Rising.{asc_pairs}
+use Rattle.emit_relocate.proofs.NamesAscending.{asc_pairs}
 
 -- one more name with a key
 pub names_more : (xs : List NamedKey) (i : ℕ) → i < length xs

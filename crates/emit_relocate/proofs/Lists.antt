@@ -1,10 +1,8 @@
 -- What a test keeps of a list, and members of two lists that are related one by one.
-use Rattle.std.proofs.Common.{◌≡◌, ⊎_elim, ◌+◌, Bool, true, false, cond, not, ◌&&◌}
-use Rattle.std.proofs.Common.{List, [], ◌∷◌, length, filter, Option, None, refl, sym, ap, ◌∙◌}
-use Rattle.std.proofs.Common.{subst, arith}
-use Rattle.std.specs.Prelude.{◌||◌}
-use Rattle.std.specs.List.{AllZip, Contains, cons_option, filter_map}
-use Rattle.ldmodel_laws.proofs.Members.{first_or_later, here, later, none_in_nil}
+use Rattle.emit_relocate.proofs.Common.{AllZip, Bool, Contains, List, Option, [], ap, arith, cond, cons_option, false}
+use Rattle.emit_relocate.proofs.Common.{filter, filter_map, first_or_later, here, later, length, none_in_nil, not, refl}
+use Rattle.emit_relocate.proofs.Common.{subst, sym, true, ⊎_elim, ◌&&◌, ◌+◌, ◌||◌, ◌∙◌, ◌∷◌, ◌≡◌}
+use Rattle.std.proofs.Common.{None}
 
 -- what tests keep
 pub filter_where : {X : Type 0} (p q : X → Bool) (xs : List X) → ((x : X) → Contains xs x → p x ≡ q x)

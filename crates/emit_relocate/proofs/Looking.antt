@@ -1,31 +1,20 @@
 -- What names stand for at the end of a link.
-use Rattle.std.proofs.Common.{◌≡◌, ◌∙◌, ◌⊎◌, ℕ, suc, Bool, true, false, cond, List, [], ◌∷◌, filter, map, refl}
-use Rattle.std.proofs.Common.{ap, sym, inl, inr, ⊎_elim}
-use Rattle.std.specs.Prelude.{Option, Some, None, bytes_eq, find}
-use Rattle.std.specs.Option.{option_and_then, option_map}
-use Rattle.std.proofs.lemmas.Bool.{true≢false}
-use Rattle.std.proofs.lemmas.Slice.Eq.{bytes_eq-Decides}
+use Rattle.emit_relocate.proofs.Common.{Bool, FinalScope, IsPlacementView, Layout, List, MemoryRegion, Number, Option}
+use Rattle.emit_relocate.proofs.Common.{OutputSectionAt, OutputSymbol, PlacedOutput, Project, Region, Scope, Some, []}
+use Rattle.emit_relocate.proofs.Common.{ap, bytes_eq, bytes_eq-Decides, cond, decision, declared_names, entry_symbol}
+use Rattle.emit_relocate.proofs.Common.{false, filter, find, found_symbol, in_byte_order, inl, inr, is_defined, map}
+use Rattle.emit_relocate.proofs.Common.{meaning_of, name_value, numbered, option_map, output_sections, output_symbol}
+use Rattle.emit_relocate.proofs.Common.{output_symbols, placed_of, refl, region_of, regions, shown_symbol, suc, sym}
+use Rattle.emit_relocate.proofs.Common.{true, true≢false, value_found, ℕ, ⊎_elim, ◌∙◌, ◌∷◌, ◌≡◌, ◌⊎◌}
+use Rattle.std.specs.Prelude.{None}
 use Rattle.ldscript.specs.statements.Given.{region_from, section_from}
-use Rattle.ldscript.specs.statements.Numbering.{OutputSectionAt, output_sections, regions}
-use Rattle.ldscript.specs.statements.declared.statement.Region.{Region}
 use Rattle.ldmodel.specs.Assertions.{final_scope, number_if_any}
-use Rattle.ldmodel.specs.Layout.{Layout, MemoryRegion, PlacedOutput}
-use Rattle.ldmodel.specs.PlacementView.{IsPlacementView, placed_of, region_of}
-use Rattle.ldmodel.specs.Names.{declared_names, decision}
 use Rattle.ldmodel.specs.OutputSymbols as model
-use Rattle.ldmodel.specs.OutputSymbols.{in_byte_order, is_defined, output_symbol, output_symbols}
-use Rattle.ldmodel.specs.Project.{Project}
-use Rattle.ldmodel.specs.SymbolValues.{name_value}
-use Rattle.ldmodel.specs.Value.{Scope}
+use Rattle.ldmodel.specs.SymbolValues.{NotDefined, SymbolValue, entry_point, value_if_named}
 use Rattle.ldmodel.specs.declared.placed.Placed.{Placed}
 use Rattle.ldmodel.specs.declared.placed.PlacedRegion.{PlacedRegion}
-use Rattle.place.specs.sections.Meetings.{AreOutputs}
+use Rattle.place.specs.sections.OverlapFaults.{AreOutputs}
 use Rattle.place.specs.terms.Scopes as code
-use Rattle.emit_relocate.specs.LinkValues.{shown_symbol}
-use Rattle.emit_relocate.specs.declared.values.OutputSymbol.{OutputSymbol}
-use Rattle.emit_relocate.specs.FinalScope.{meaning_of, number_of, numbered}
-use Rattle.emit_relocate.specs.AssertedSymbols.{found_symbol}
-use Rattle.emit_relocate.specs.declared.final_scope.FinalScope.{FinalScope}
 use Rattle.emit_relocate.proofs.Declared.{no_value, same_name}
 use Rattle.emit_text.proofs.ByteOrder.{In, Name, sorted_in}
 
@@ -85,46 +74,47 @@ searched p s name (x ∷ xs) =
               (λ j. h.1 j is) i,
         )
 
-number : Option model.OutputSymbol → Option ℕ
-number o = option_and_then (λ (y : model.OutputSymbol). number_if_any y.value) o
+abbrev value_shown : Option model.OutputSymbol → SymbolValue
+value_shown None = NotDefined
+value_shown (Some y) = y.value
 
 symbol_value : (p : Project) (s : Layout) (name : Name)
-    → option_and_then (λ (y : model.OutputSymbol). number_if_any y.value) (find (is_named name) (output_symbols p s))
-    ≡ number_if_any (name_value p s name)
+    → value_shown (find (is_named name) (output_symbols p s)) ≡ name_value p s name
 unfolding output_symbols
 symbol_value p s name =
     ⊎_elim
-    (λ h.
-    ap (λ (o : Option model.OutputSymbol). option_and_then (λ (y : model.OutputSymbol). number_if_any y.value) o) h.1
-    ∙ ap number_if_any h.2)
-    (λ h.
-    ap (λ (o : Option model.OutputSymbol). option_and_then (λ (y : model.OutputSymbol). number_if_any y.value) o) h.0
-    ∙ sym (no_value p s name (λ i is. h.1 (sorted_in name (declared_names p) i) is)))
+    (λ h. ap value_shown h.1 ∙ h.2)
+    (λ h. ap value_shown h.0 ∙ sym (no_value p s name (λ i is. h.1 (sorted_in name (declared_names p) i) is)))
     (searched p s name (in_byte_order (declared_names p)))
 
 found_shown : (p : Project) (xs : List OutputSymbol) (name : Name)
-    → option_and_then (λ (y : model.OutputSymbol). number_if_any y.value)
-    (find (is_named name) (map (shown_symbol p) xs)) ≡ number_of (found_symbol xs name)
+    → value_shown (find (is_named name) (map (shown_symbol p) xs)) ≡ value_found (found_symbol xs name)
 found_shown p [] name = refl
 found_shown p (x ∷ xs) name = go (bytes_eq x.name.now name) (found_shown p xs name)
   where
-    go : (b : Bool)
-        → option_and_then (λ (y : model.OutputSymbol). number_if_any y.value)
-        (find (is_named name) (map (shown_symbol p) xs)) ≡ number_of (found_symbol xs name)
-        → option_and_then (λ (y : model.OutputSymbol). number_if_any y.value)
-        (cond b (Some (shown_symbol p x)) (find (is_named name) (map (shown_symbol p) xs)))
-        ≡ number_of (cond b (Some x) (found_symbol xs name))
+    go : (b : Bool) → value_shown (find (is_named name) (map (shown_symbol p) xs)) ≡ value_found (found_symbol xs name)
+        → value_shown (cond b (Some (shown_symbol p x)) (find (is_named name) (map (shown_symbol p) xs)))
+        ≡ value_found (cond b (Some x) (found_symbol xs name))
     go true e = refl
     go false e = e
 
-symbol_found : (p : Project) (s : Layout) (xs : List OutputSymbol) (name : Name)
-    → map (shown_symbol p) xs ≡ output_symbols p s
-    → number_of (found_symbol xs name) ≡ number_if_any (name_value p s name)
-symbol_found p s xs name same =
+-- the value of the symbol of a name is that of the name
+value_is : (p : Project) (s : Layout) (xs : List OutputSymbol) (name : Name)
+    → map (shown_symbol p) xs ≡ output_symbols p s → value_found (found_symbol xs name) ≡ name_value p s name
+value_is p s xs name same =
     sym (found_shown p xs name)
-    ∙ (ap (λ (ys : List model.OutputSymbol).
-    option_and_then (λ (y : model.OutputSymbol). number_if_any y.value) (find (is_named name) ys)) same
-    ∙ symbol_value p s name)
+    ∙ (ap (λ (ys : List model.OutputSymbol). value_shown (find (is_named name) ys)) same ∙ symbol_value p s name)
+
+-- ---- the entry symbol
+
+pub entry_none : (p : Project) (s : Layout) → None ≡ entry_symbol p → Number 0 ≡ entry_point p s
+unfolding entry_point
+entry_none p s e = ap (value_if_named p s) e
+
+pub entry_some : (p : Project) (s : Layout) (xs : List OutputSymbol) (name : Name) → Some name ≡ entry_symbol p
+    → map (shown_symbol p) xs ≡ output_symbols p s → value_found (found_symbol xs name) ≡ entry_point p s
+unfolding entry_point
+entry_some p s xs name e same = value_is p s xs name same ∙ ap (value_if_named p s) e
 
 -- ---- output sections and memory regions
 
@@ -252,7 +242,7 @@ pub scope_is : (p : Project) (s : Layout) (f : FinalScope) → f.script.now ≡ 
     → map (λ (m : MemoryRegion). m.name) s.regions ≡ map (λ (r : Region). r.name) (regions p.script)
     → meaning_of f ≡ final_scope p s
 scope_is p s f script placement symbols outputs memory =
-    same_scope (meaning_of f) (final_scope p s) (λ z. symbol_found p s f.symbols.list.now z symbols)
+    same_scope (meaning_of f) (final_scope p s) (λ z. ap number_if_any (value_is p s f.symbols.list.now z symbols))
     (λ z.
     ap (λ (qs : List Placed). option_map code.section_numbers (numbered qs
     (section_from 0 (output_sections f.script.now) z))) placement.sections

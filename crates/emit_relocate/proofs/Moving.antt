@@ -1,32 +1,18 @@
 -- Sites of sections that stayed, of which those are evaluated whose symbol has another value.
-use Rattle.std.proofs.Common.{◌≡◌, ◌<◌, ◌≤◌, ◌^◌, ℕ, ◌+◌, List, [], ◌∷◌, ◌++◌, length, map, filter, take, get_or, false}
-use Rattle.std.proofs.Common.{true, Option, Some, None, not, refl, ap, sym, ◌∙◌, arith, append_assoc}
-use Rattle.std.proofs.Common.{append-nil, subst}
-use Rattle.std.proofs.Math.Seq.{take-length}
-use Rattle.std.specs.List.{filter_map}
-use Rattle.std.specs.Option.{option_map_or}
-use Rattle.std.proofs.lemmas.Bool.{eq-eqb}
-use Rattle.std.proofs.lemmas.List.Elements.{filter-append, filter_map-append}
-use Rattle.elfobj.specs.Sections.{LinkedSection}
-use Rattle.elfobj.specs.declared.relocation.Relocation.{Relocation}
-use Rattle.emit_fields.specs.declared.patch.Patch.{Patch}
-use Rattle.ldmodel.specs.Counts.{Counts}
-use Rattle.ldmodel.specs.Layout.{PlacedPiece}
-use Rattle.ldmodel.specs.Project.{NamedObject}
-use Rattle.ldmodel.specs.Relocations.{Site, is_evaluated, site_value, sites_at}
-use Rattle.ldmodel.specs.Stayed.{GoodLink}
-use Rattle.ldmodel.specs.SymbolValues.{SymbolValue, Number, NotDefined, NotInOutput, placed_part}
+use Rattle.emit_relocate.proofs.Common.{AreRetargetedFiled, Counts, FileRange, GoodLink, HasSameValues, InTable}
+use Rattle.emit_relocate.proofs.Common.{IsCounted, IsFiled, IsPlacedAt, KnownLink, LinkedSection, List, NamedObject}
+use Rattle.emit_relocate.proofs.Common.{NotInOutput, Number, ObjectPlace, ObjectSection, Option, Patch, PlacedInput}
+use Rattle.emit_relocate.proofs.Common.{PlacedPiece, Relocation, Site, Some, [], ap, append-nil, append_assoc, arith}
+use Rattle.emit_relocate.proofs.Common.{eq-eqb, false, file_patch_at, filter, filter-append, filter_map}
+use Rattle.emit_relocate.proofs.Common.{filter_map-append, get_or, has_new_value, is_evaluated, is_same_value, length}
+use Rattle.emit_relocate.proofs.Common.{map, named_object, not, option_map_or, own_sites, placed_part, refl, site_value}
+use Rattle.emit_relocate.proofs.Common.{sites_among, sites_at_hand, subst, sym, take, take-length, true, ℕ, ◌++◌, ◌+◌}
+use Rattle.emit_relocate.proofs.Common.{◌<◌, ◌^◌, ◌∙◌, ◌∷◌, ◌≡◌, ◌≤◌}
+use Rattle.std.proofs.Common.{None}
+use Rattle.ldmodel.specs.Relocations.{sites_at}
+use Rattle.ldmodel.specs.SymbolValues.{SymbolValue, NotDefined}
 use Rattle.ldmodel.specs.declared.fault.Fault as code
-use Rattle.ldmodel.specs.declared.names.ObjectPlace.{ObjectPlace}
-use Rattle.ldmodel.specs.declared.sections.Part.TheVariants.{InTable}
-use Rattle.emit_relocate.specs.Changes.{IsFiled, AreRetargetedFiled, file_patch_at, own_sites}
-use Rattle.emit_relocate.specs.PreviousLinkInfo.{HasSameValues, has_new_value, is_same_value}
-use Rattle.emit_relocate.specs.Fields.{IsCounted, sites_among}
-use Rattle.emit_relocate.specs.Filled.{ObjectSection}
-use Rattle.emit_relocate.specs.KnownLink.{KnownLink, named_object}
-use Rattle.emit_relocate.specs.Links.{IsPlaceOf, IsPlacedAt, sites_at_hand}
-use Rattle.emit_relocate.specs.declared.previous_link_info.FileRange.{FileRange}
-use Rattle.emit_relocate.specs.declared.site.PlacedInput.{PlacedInput}
+use Rattle.emit_relocate.specs.Links.{IsPlaceOf}
 use Rattle.emit_relocate.proofs.Added.{among_more, counted_more, tried_nothing}
 
 -- a value is the same as itself

@@ -1,26 +1,16 @@
 -- Objects as the look-ups of their symbols need them.
-use Rattle.std.proofs.Common.{◌≡◌, ◌∙◌, ◌⊎◌, inl, inr, ℕ, List, Option, None, Some, ap, map, refl, subst, sym}
-use Rattle.std.proofs.Common.{◌++◌, ◌∷◌, [], length, slice_get, zero, suc}
-use Rattle.std.proofs.lemmas.Option.{same_Some, slice_get-map}
-use Rattle.std.specs.Prelude.{slice_index_or}
-use Rattle.std.specs.Option.{option_and_then, option_map}
-use Rattle.elfobj.specs.Object.{ObjectData}
-use Rattle.elfobj.specs.Symbols.{NamedSymbol}
-use Rattle.elfobj.specs.declared.section.SectionIndex.{SectionIndex}
-use Rattle.elfobj.specs.declared.symbol.Symbol.{Symbol}
-use Rattle.ldmodel.specs.HandedOver.{decision_of}
-use Rattle.ldmodel.specs.Layout.{Layout, script_value}
-use Rattle.ldmodel.specs.Project.{NamedObject, Project}
-use Rattle.ldmodel.specs.SymbolValues.{value_or_undefined}
-use Rattle.ldmodel.specs.declared.names.Case.{Case}
+use Rattle.emit_relocate.proofs.Common.{AreAddresses, Case, IsSectionAddress, Layout, List, NamedObject, NamedSymbol}
+use Rattle.emit_relocate.proofs.Common.{ObjectData, ObjectPlace, Option, Project, SectionIndex, Some, Symbol, [], ap}
+use Rattle.emit_relocate.proofs.Common.{decision_of, inl, inr, length, map, option_and_then, option_map, refl}
+use Rattle.emit_relocate.proofs.Common.{same_Some, script_value, slice_get, slice_get-map, slice_index_or, subst, suc}
+use Rattle.emit_relocate.proofs.Common.{sym, table_key, value_or_undefined, zero, ℕ, ◌++◌, ◌∙◌, ◌∷◌, ◌≡◌, ◌⊎◌}
+use Rattle.std.proofs.Common.{None}
 use Rattle.ldmodel.specs.declared.names.Case.TheVariants as case
 use Rattle.ldmodel.specs.declared.names.Entry as code_entry
-use Rattle.ldmodel.specs.declared.names.ObjectPlace.{ObjectPlace}
-use Rattle.place.specs.IndexedLayout.{IsIndexedLayout, IsSectionAddress, table_key}
+use Rattle.place.specs.IndexedLayout.{IsIndexedLayout}
 use Rattle.place.specs.declared.indexed_layout.IndexedLayout.{IndexedLayout}
 use Rattle.place.specs.declared.indexed_layout.SectionAddress.{SectionAddress}
 use Rattle.emit_relocate.specs.NameRows.{bare_row, decided_row, entry_row, shown_row}
-use Rattle.emit_relocate.specs.ObjectParts.{AreAddresses}
 use Rattle.emit_relocate.specs.ObjectTable.{AreObjects, IsObject}
 use Rattle.emit_relocate.specs.declared.name_row.NameRow as code
 use Rattle.emit_relocate.specs.declared.object_parts.ObjectParts.{ObjectParts}

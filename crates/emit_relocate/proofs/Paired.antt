@@ -1,7 +1,6 @@
 -- Lists of sites and of a patch of each.
-use Rattle.std.proofs.Common.{◌≡◌, List, [], ◌∷◌, ◌++◌, Option, Some, subst, sym}
-use Rattle.std.specs.List.{AllZip, Contains, cons_option, filter_map}
-use Rattle.ldmodel_laws.proofs.Members.{here, later}
+use Rattle.emit_relocate.proofs.Common.{AllZip, Contains, List, Option, Some, [], cons_option, filter_map, here, later}
+use Rattle.emit_relocate.proofs.Common.{subst, sym, ◌++◌, ◌∷◌, ◌≡◌}
 
 pub zip_append : {X Y : Type 0} (R : X → Y → Type 0) (a b : List X) (c d : List Y) → AllZip R a c → AllZip R b d
     → AllZip R (a ++ b) (c ++ d)

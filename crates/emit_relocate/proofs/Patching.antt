@@ -1,43 +1,27 @@
 -- Patches of input sections that stayed.
-use Rattle.std.proofs.Common.{◌≡◌, ◌<◌, ◌≤◌, ◌+◌, ◌-◌, ℕ, Bool, true, false, not, ◌&&◌, List, [], ◌∷◌, ◌++◌, length}
-use Rattle.std.proofs.Common.{map, filter, flat_map, Option, None, Some, Result, Ok, Err, refl, sym, ap, ◌∙◌, subst}
-use Rattle.std.proofs.Common.{arith, cond, nat_le, ◌==◌}
-use Rattle.std.specs.List.{All, AllZip, Contains}
-use Rattle.std.specs.List.Sorted.{IsPermutation}
-use Rattle.std.specs.Option.{option_and_then}
-use Rattle.std.proofs.lemmas.Bool.{eq-eqb}
+use Rattle.emit_relocate.proofs.Common.{All, All-contains, All-contains_itself, All-weaker, AllZip, AreChanged, Bool}
+use Rattle.emit_relocate.proofs.Common.{Contains, Contains-permutation, Err, Evaluated, Fault, FileRange, GoodLink}
+use Rattle.emit_relocate.proofs.Common.{HasField, HasRelocationsOfProfile, IsComplete, IsEvaluatedAt, IsEvaluatedOf}
+use Rattle.emit_relocate.proofs.Common.{IsPermutation, IsPermutation-sym, IsRelocationOfProfile, KnownLink, Layout}
+use Rattle.emit_relocate.proofs.Common.{LinkedSection, List, NamedObject, ObjectSection, Ok, Option, Patch}
+use Rattle.emit_relocate.proofs.Common.{PlacedOutput, PlacedPiece, Project, Result, Results, SectionRef, Site, Some, []}
+use Rattle.emit_relocate.proofs.Common.{ap, arith, cond, eq-eqb, false, field_end, file_patch_at, filter, filter-append}
+use Rattle.emit_relocate.proofs.Common.{filter_in, flat_map, good_link, has_new_value, has_part_stayed, here, in_file}
+use Rattle.emit_relocate.proofs.Common.{in_filter, later, length, map, none_in_nil, not, number_or_0, option_and_then}
+use Rattle.emit_relocate.proofs.Common.{own_sites, patch_of, range_of, refl, section_ref, sections_in, site_field}
+use Rattle.emit_relocate.proofs.Common.{sites, subst, sym, true, ℕ, ◌&&◌, ◌++◌, ◌+◌, ◌-◌, ◌<◌, ◌==◌, ◌∙◌, ◌∷◌, ◌≡◌, ◌≤◌}
+use Rattle.std.proofs.Common.{None, nat_le}
 use Rattle.std.proofs.lemmas.Bool.Decides.{nat_tests}
-use Rattle.std.proofs.lemmas.List.Elements.{All-contains, All-contains_itself, All-weaker, filter-append}
-use Rattle.std.proofs.lemmas.List.Sorted.{Contains-permutation, IsPermutation-sym}
-use Rattle.elfobj.specs.Profile.{HasRelocationsOfProfile, IsRelocationOfProfile}
 use Rattle.elfobj.specs.RelocationKinds.{width}
-use Rattle.elfobj.specs.Relocations.{field_end}
-use Rattle.elfobj.specs.Sections.{LinkedSection}
-use Rattle.emit_fields.specs.declared.patch.Patch.{Patch}
-use Rattle.ldmodel.specs.Fault.{Fault}
-use Rattle.ldmodel.specs.Layout.{Layout, PlacedPiece, PlacedOutput}
-use Rattle.ldmodel.specs.Project.{NamedObject, Project}
-use Rattle.ldmodel.specs.Relocations.{Site, patch_of, site_field, sites}
 use Rattle.ldmodel.specs.Segments.{file_offset, segments}
-use Rattle.ldmodel.specs.Stayed.{FileRange as FileBytes, GoodLink, LinkedPiece, has_stayed, has_other_value}
-use Rattle.ldmodel.specs.Stayed.{linked_piece}
-use Rattle.ldmodel.specs.Stayed.{linked_pieces, link_pieces, retargeted, sites_in, stayed, site_value_in}
-use Rattle.ldmodel.specs.SymbolValues.{number_or_0}
-use Rattle.ldmodel.specs.declared.sections.SectionKey.{SectionKey}
-use Rattle.ldmodel_laws.specs.StayedSites.{has_part_stayed}
-use Rattle.ldmodel_laws.specs.Untouched.{HasField}
-use Rattle.emit_relocate.specs.Changes.{AreChanged, Evaluated, IsEvaluatedAt, IsEvaluatedOf, Results, file_patch_at}
-use Rattle.emit_relocate.specs.Changes.{in_file, own_sites, section_key}
-use Rattle.emit_relocate.specs.PreviousLinkInfo.{IsComplete, good_link, has_new_value, range_of}
-use Rattle.emit_relocate.specs.Filled.{ObjectSection, sections_in}
-use Rattle.emit_relocate.specs.KnownLink.{KnownLink}
-use Rattle.emit_relocate.specs.Patched.{AreAllPatched, AreInFile, AreOfProfile, AreOneEach, AreSized}
-use Rattle.emit_relocate.specs.Patched.{IsPatchOfSite, file_patch}
-use Rattle.emit_relocate.specs.declared.previous_link_info.FileRange.{FileRange}
+use Rattle.ldmodel.specs.Stayed.{LinkedPiece, has_stayed, has_other_value, linked_piece, linked_pieces, link_pieces}
+use Rattle.ldmodel.specs.Stayed.{retargeted, sites_in, stayed, site_value_in}
+use Rattle.ldmodel.specs.Stayed.{FileRange as FileBytes}
+use Rattle.emit_relocate.specs.Patched.{AreAllPatched, AreInFile, AreOfProfile, AreOneEach, AreSized, IsPatchOfSite}
+use Rattle.emit_relocate.specs.Patched.{file_patch}
 use Rattle.emit_relocate.proofs.Changing.{patches_of}
 use Rattle.emit_relocate.proofs.Paired.{all_given, zip_append}
 use Rattle.ldmodel_laws.proofs.Finding.{filter_map_in, flat_map_in, in_filter_map, in_flat_map, in_map}
-use Rattle.ldmodel_laws.proofs.Members.{filter_in, here, in_filter, later, none_in_nil}
 use Rattle.emit_relocate.proofs.Lists.{filter_nothing, filter_where, partner_in, partner_of}
 use Rattle.emit_relocate.proofs.Settling.{Home, all_sites, belongs, home, keyed, lies, lies_as, own, same_where}
 
@@ -118,7 +102,7 @@ module _ (l : KnownLink) where
         (subst (λ (z : LinkedSection). Contains z.relocations t.relocation) (sym of_own.section) of_own.relocation) in
         one.field
 
-module _ (old : GoodLink) (l : KnownLink) (range : SectionKey → Option FileRange)
+module _ (old : GoodLink) (l : KnownLink) (range : SectionRef → Option FileRange)
     (by_piece : IsPermutation (sites l.project l.layout)
     (flat_map (sites_in l.project) (linked_pieces l.project l.layout)))
     (both : (x : LinkedPiece) → Contains (link_pieces (good_link l)) x → has_stayed old x ≡ true
@@ -129,7 +113,7 @@ module _ (old : GoodLink) (l : KnownLink) (range : SectionKey → Option FileRan
       subst (λ ts. Contains ts t) (all_sites l) (flat_map_in (own_sites l) (sections_in l.project.objects) s t c d)
 
   patch_at : (s : ObjectSection) (c : Evaluated) (r : Option FileRange) (h : IsEvaluatedOf old l range s c)
-      → IsEvaluatedAt old l (section_key h.key s) r s c → Contains (sections_in l.project.objects) s → (q : Patch)
+      → IsEvaluatedAt old l (section_ref h.key s) r s c → Contains (sections_in l.project.objects) s → (q : Patch)
       → Contains c.patches q → IsPatchOfSite old (good_link l) q
   patch_at s c None h k among q d = absurd (none_in_nil q (subst (λ qs. Contains qs q) k.patches d))
   patch_at s c (Some r) h k among q d =
@@ -165,7 +149,7 @@ module _ (old : GoodLink) (l : KnownLink) (range : SectionKey → Option FileRan
       (subst (λ qs. Contains qs q) (h.patches ∙ ap (λ qs. qs ++ flat_map patches_of h.sections) none) d) in
       let s = partner_of (IsEvaluatedOf old l range) (sections_in l.project.objects) h.sections found.origin h.each
       found.among in
-      patch_at s.partner found.origin (range (section_key s.related.key s.partner)) s.related s.related.outcome s.among
+      patch_at s.partner found.origin (range (section_ref s.related.key s.partner)) s.related s.related.outcome s.among
       q found.gives) b.patches (All-contains_itself b.patches)
 
 -- ---- where all that stayed is known to have stayed
@@ -210,7 +194,7 @@ among_moved old new t c = (in_filter (has_other_value old new) (flat_map (sites_
 abbrev pub HasWidth : Site → Patch → Type 0
 HasWidth t q = length q.field ≡ width t.relocation.kind
 
-module _ (old : GoodLink) (l : KnownLink) (range : SectionKey → Option FileRange) (complete : IsComplete range old l)
+module _ (old : GoodLink) (l : KnownLink) (range : SectionRef → Option FileRange) (complete : IsComplete range old l)
     (by_piece : IsPermutation (sites l.project l.layout)
     (flat_map (sites_in l.project) (linked_pieces l.project l.layout)))
     (wide : (x : LinkedPiece) (t : Site) (field : List ℕ) → Contains (sites_in l.project x) t
@@ -230,12 +214,12 @@ module _ (old : GoodLink) (l : KnownLink) (range : SectionKey → Option FileRan
       }
 
       all_at : (s : ObjectSection) (c : Evaluated) (r : Option FileRange) (h : IsEvaluatedOf old l range s c)
-          → range (section_key h.key s) ≡ r → IsEvaluatedAt old l (section_key h.key s) r s c
+          → range (section_ref h.key s) ≡ r → IsEvaluatedAt old l (section_ref h.key s) r s c
           → Contains (sections_in l.project.objects) s → Contains (own_sites l s) t
           → Contains c.patches (file_patch x t f)
       all_at s c None h e k among d =
           let out : has_stayed old x ≡ false =
-          complete (section_key h.key s) x e (keyed old l s h.key h.named t d home_is) in
+          complete (section_ref h.key s) x e (keyed old l s h.key h.named t d home_is) in
           absurd (let no : ⊥ = (let y : true ≡ false = sym ((of_stayed x stays).1) ∙ out in cc) in no)
       all_at s c (Some r) h e k among d =
           let at = k.stayed t d x (keyed old l s h.key h.named t d home_is) in
@@ -266,7 +250,7 @@ module _ (old : GoodLink) (l : KnownLink) (range : SectionKey → Option FileRan
         subst (λ qs. Contains qs (file_patch x t f)) (sym patches)
         (flat_map_in patches_of h.sections c.partner (file_patch x t f) c.among
         (all_at x t f stays some within (moved_of old l t (among_moved old (good_link l) t again)) is found.origin
-        c.partner (range (section_key c.related.key found.origin)) c.related refl c.related.outcome found.among
+        c.partner (range (section_ref c.related.key found.origin)) c.related refl c.related.outcome found.among
         found.gives))
 
   -- ---- one patch for each site that is retargeted
@@ -281,7 +265,7 @@ module _ (old : GoodLink) (l : KnownLink) (range : SectionKey → Option FileRan
         (found : (x : LinkedPiece) → Contains (link_pieces (good_link l)) x → (t : Site)
         → Contains (sites_in l.project x) t → HasField (good_link l) t) where
       one_at : (s : ObjectSection) (c : Evaluated) (r : Option FileRange) (h : IsEvaluatedOf old l range s c)
-          → range (section_key h.key s) ≡ r → IsEvaluatedAt old l (section_key h.key s) r s c
+          → range (section_ref h.key s) ≡ r → IsEvaluatedAt old l (section_ref h.key s) r s c
           → Contains (sections_in l.project.objects) s
           → ((t : Site) → Contains (own_sites l s) t → Contains (sites l.project l.layout) t)
           → AllZip HasWidth (filter both (own_sites l s)) c.patches
@@ -290,7 +274,7 @@ module _ (old : GoodLink) (l : KnownLink) (range : SectionKey → Option FileRan
           filter_where both (λ t. false) (own_sites l s) (λ t d.
           let at : Home old l t = home old l by_piece t (inside t d) in
           let out : lies old l t ≡ false = lies_as old l range complete by_piece by_part t at
-          ∙ complete (section_key h.key s) at.piece e (keyed old l s h.key h.named t d at) in
+          ∙ complete (section_ref h.key s) at.piece e (keyed old l s h.key h.named t d at) in
           ap (λ b. b && has_new_value old l t) out) in
           subst (λ ts. AllZip HasWidth ts c.patches) (sym (none ∙ filter_nothing (own_sites l s)))
           (subst (AllZip HasWidth []) (sym k.patches) tt)
@@ -333,7 +317,7 @@ module _ (old : GoodLink) (l : KnownLink) (range : SectionKey → Option FileRan
           (sym (filter-append both (own_sites l s) (flat_map (own_sites l) ss)))
           (zip_append HasWidth (filter both (own_sites l s)) (filter both (flat_map (own_sites l) ss)) c.patches
           (flat_map patches_of cs)
-          (one_at s c (range (section_key h.0.key s)) h.0 refl h.0.outcome (among s (here s ss))
+          (one_at s c (range (section_ref h.0.key s)) h.0 refl h.0.outcome (among s (here s ss))
           (λ t d. inside s t (here s ss) d))
           (one_of_each ss cs h.1 (λ z d. among z (later s ss z d)) (λ z t d e. inside z t (later s ss z d) e)))
 

@@ -1,14 +1,10 @@
 -- Symbols that are added name after name, where the names are in byte order, stand in byte order.
-use Rattle.std.proofs.Common.{◌≡◌, ◌∙◌, ◌⊎◌, ◌+◌, ◌<◌, List, [], ◌∷◌, ◌++◌, get_or, ap, append_assoc}
-use Rattle.std.proofs.Common.{append-nil, arith, inl, inr, refl, subst, sym, ⊎_elim}
-use Rattle.std.specs.List.Sorted.{IsSortedBy}
-use Rattle.std.proofs.lemmas.List.{get_or-map, length-map}
-use Rattle.ldmodel.specs.OutputSymbols.{is_before}
+use Rattle.emit_relocate.proofs.Common.{AddsAtMost, AddsSome, IsSortedBy, List, OutputSymbol, Picks, [], ap, append-nil}
+use Rattle.emit_relocate.proofs.Common.{append_assoc, arith, get_or, get_or-map, inl, inr, is_before, length-map}
+use Rattle.emit_relocate.proofs.Common.{names_in, refl, subst, sym, ⊎_elim, ◌++◌, ◌+◌, ◌<◌, ◌∙◌, ◌∷◌, ◌≡◌, ◌⊎◌}
 use Rattle.emit_text.proofs.ByteOrder.{Asc, In, Name, below_all, below_in}
 use Rattle.emit_relocate.specs.AssertedSymbols.{AreInOrder}
-use Rattle.emit_relocate.specs.Symbols.{AddsAtMost, AddsSome, Picks, names_in}
-use Rattle.emit_relocate.specs.declared.values.OutputSymbol.{OutputSymbol}
-use Rattle.emit_relocate.proofs.Rising.{asc_sorted}
+use Rattle.emit_relocate.proofs.NamesAscending.{asc_sorted}
 
 picks_join : (ms ns xs ys : List Name) → Picks ms xs → Picks ns ys → Picks (ms ++ ns) (xs ++ ys)
 picks_join [] ns xs ys p q = subst (λ (l : List Name). Picks ns (l ++ ys)) (sym p) q

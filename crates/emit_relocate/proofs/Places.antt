@@ -1,21 +1,16 @@
 -- An index: what is known of its places while sites are added and taken out.
-use Rattle.std.proofs.Common.{◌≡◌, ◌≢◌, inl, inr, ◌<◌, ◌≤◌, ℕ, ◌+◌, zero, suc, List, [], ◌∷◌, length, map, filter, set}
-use Rattle.std.proofs.Common.{get_or, Bool, true, false, not, nat_eq, Option, Some, None, refl, ap, sym, ◌∙◌, arith}
-use Rattle.std.proofs.Common.{if◌then◌else◌, ◌||◌, take, ◌≤◌, ◌-◌, Vec, Global, vec_capacity, vec_len}
-use Rattle.std.specs.List.{cons_option, filter_map}
-use Rattle.std.proofs.lemmas.Bool.{cases_eq, eqb-true, ne_eqb}
-use Rattle.std.proofs.lemmas.List.{get_or-map, get_or-set_other, get_or-set_same, get_or_past, length-map, set-get_or}
-use Rattle.std.proofs.lemmas.List.Folds.{list_any_more}
-use Rattle.slab.specs.Slab.{entries_from, values}
-use Rattle.ldmodel.specs.declared.fault.SiteKey.{SiteKey}
-use Rattle.ldmodel.specs.declared.names.ObjectPlace.{ObjectPlace}
-use Rattle.emit_relocate.specs.Index.{IsSound, cleared, cleared_one, has_spot, is_of_object, is_owner, is_spot, room_at}
-use Rattle.emit_relocate.specs.Index.{room_of, slot, slots_at}
-use Rattle.emit_relocate.specs.declared.bucket.Bucket.{Bucket}
-use Rattle.emit_relocate.specs.declared.index.IndexSlot.{IndexSlot}
+use Rattle.emit_relocate.proofs.Common.{Bool, Bucket, IndexSlot, IsSound, List, ObjectPlace, Option, SiteRef, Some, []}
+use Rattle.emit_relocate.proofs.Common.{ap, arith, cases_eq, cleared, cleared_one, cons_option, entries_from, eqb-true}
+use Rattle.emit_relocate.proofs.Common.{false, filter, filter_map, get_or, get_or-map, get_or-set_other}
+use Rattle.emit_relocate.proofs.Common.{get_or-set_same, get_or_past, has_spot, if◌then◌else◌, inl, inr, is_of_object}
+use Rattle.emit_relocate.proofs.Common.{is_owner, is_spot, length, length-map, list_any_more, map, nat_eq, ne_eqb, not}
+use Rattle.emit_relocate.proofs.Common.{refl, room_at, room_of, set, set-get_or, slots_at, suc, sym, take, true, values}
+use Rattle.emit_relocate.proofs.Common.{vec_capacity, vec_len, zero, ℕ, ◌+◌, ◌-◌, ◌<◌, ◌||◌, ◌∙◌, ◌∷◌, ◌≡◌, ◌≢◌, ◌≤◌}
+use Rattle.std.proofs.Common.{None, Vec, Global}
+use Rattle.emit_relocate.specs.Index.{slot}
 
 -- the values of entries are those of the slots
-pub entry_values : (k : ℕ) (slots : List (Option SiteKey)) → map (λ e. e.1) (entries_from k slots)
+pub entry_values : (k : ℕ) (slots : List (Option SiteRef)) → map (λ e. e.1) (entries_from k slots)
     ≡ filter_map (λ s. s) slots
 entry_values k [] = refl
 entry_values k (None ∷ slots) = entry_values (k + 1) slots
@@ -62,7 +57,7 @@ no_less_room os k o old new low is more = elim (cases_eq o k) [
 ]
 
 -- one place more is cleared
-pub cleared_more : (spots : List IndexSlot) (i t k : ℕ) (d : IndexSlot) (x : Option SiteKey) → i < length spots
+pub cleared_more : (spots : List IndexSlot) (i t k : ℕ) (d : IndexSlot) (x : Option SiteRef) → i < length spots
     → cleared_one t k (get_or spots i d) (cleared t k (take i spots) x) ≡ cleared t k (take (i + 1) spots) x
 cleared_more spots i t k d x low =
     rw (list_any_more (is_spot t k) spots i d low)
@@ -80,20 +75,20 @@ emptied [] o = refl
 emptied (x ∷ xs) zero = refl
 emptied (x ∷ xs) (suc o) = emptied xs o
 
-gone_if : (o : ℕ) (x : SiteKey) (b : Bool) → nat_eq x.object.0 o ≡ b → is_owner o (if b then None else Some x) ≡ false
+gone_if : (o : ℕ) (x : SiteRef) (b : Bool) → nat_eq x.object.0 o ≡ b → is_owner o (if b then None else Some x) ≡ false
 gone_if o x true e = refl
 gone_if o x false e = e
 
-gone : (o : ℕ) (s : Option SiteKey) → is_owner o (if is_owner o s then None else s) ≡ false
+gone : (o : ℕ) (s : Option SiteRef) → is_owner o (if is_owner o s then None else s) ≡ false
 gone o None = refl
 gone o (Some x) = gone_if o x (nat_eq x.object.0 o) refl
 
-stays_if : (o p : ℕ) (x : SiteKey) (b : Bool) → p ≢ o → nat_eq x.object.0 o ≡ b
+stays_if : (o p : ℕ) (x : SiteRef) (b : Bool) → p ≢ o → nat_eq x.object.0 o ≡ b
     → is_owner p (if b then None else Some x) ≡ nat_eq x.object.0 p
 stays_if o p x true differs e = sym (ne_eqb x.object.0 p (λ same. differs (sym same ∙ eqb-true x.object.0 o e)))
 stays_if o p x false differs e = refl
 
-stays : (o p : ℕ) (s : Option SiteKey) → p ≢ o → is_owner p (if is_owner o s then None else s) ≡ is_owner p s
+stays : (o p : ℕ) (s : Option SiteRef) → p ≢ o → is_owner p (if is_owner o s then None else s) ≡ is_owner p s
 stays o p None differs = refl
 stays o p (Some x) differs = stays_if o p x (nat_eq x.object.0 o) differs refl
 
@@ -112,23 +107,23 @@ module _ (ts us : List Bucket) (os : List (List IndexSlot)) (o : ℕ) (h : IsSou
   }
 
 -- the sites that are left are those of the other objects
-abbrev others : ObjectPlace → List SiteKey → List SiteKey
+abbrev others : ObjectPlace → List SiteRef → List SiteRef
 others object xs = filter (λ s. not (is_of_object object s)) xs
 
-kept_if : (object : ObjectPlace) (a : SiteKey) (y : Option SiteKey) (vs ws : List SiteKey) (b : Bool)
+kept_if : (object : ObjectPlace) (a : SiteRef) (y : Option SiteRef) (vs ws : List SiteRef) (b : Bool)
     → nat_eq a.object.0 object.0 ≡ b
     → y ≡ (if nat_eq a.object.0 object.0 then None else Some a) → ws ≡ others object vs → cons_option y ws
     ≡ others object (a ∷ vs)
 kept_if object a y vs ws true e is h = rw (is, e) h
 kept_if object a y vs ws false e is h = rw (is, e) (ap (λ l. a ∷ l) h)
 
-kept_one : (object : ObjectPlace) (x y : Option SiteKey) (vs ws : List SiteKey) → y
+kept_one : (object : ObjectPlace) (x y : Option SiteRef) (vs ws : List SiteRef) → y
     ≡ (if is_owner object.0 x then None else x) → ws ≡ others object vs
     → cons_option y ws ≡ others object (cons_option x vs)
 kept_one object None y vs ws is h = rw is h
 kept_one object (Some a) y vs ws is h = kept_if object a y vs ws (nat_eq a.object.0 object.0) refl is h
 
-kept_values : (object : ObjectPlace) (xs ys : List (Option SiteKey)) → length ys ≡ length xs
+kept_values : (object : ObjectPlace) (xs ys : List (Option SiteRef)) → length ys ≡ length xs
     → ((k : ℕ) → get_or ys k None ≡ (if is_owner object.0 (get_or xs k None) then None else get_or xs k None))
     → filter_map (λ s. s) ys ≡ others object (filter_map (λ s. s) xs)
 kept_values object [] [] e h = refl

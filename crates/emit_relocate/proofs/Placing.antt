@@ -1,16 +1,9 @@
 -- Where a name stands among others.
-use Rattle.std.proofs.Common.{◌≡◌, ◌∙◌, ◌+◌, ℕ, Bool, true, false, List, Some, ap, arith, get_or, refl, sym}
-use Rattle.std.specs.Cmp.{IsStrictWeakOrder}
-use Rattle.std.specs.Cmp.Lexicographic.{lists_agrees, nat_list_cmp_total, slice_cmp, slice_partial_cmp}
-use Rattle.std.specs.List.Sorted.{IsPartitionPoint, IsPartitionedBy, IsSortedBy}
-use Rattle.std.specs.Ordering.{is_le, is_lt, is_some_and, nat_cmp, ordering_reverse}
-use Rattle.std.specs.declared.cmp.Ordering.{Ordering}
-use Rattle.std.specs.declared.cmp.Ordering.TheVariants.{Equal, Greater, Less}
-use Rattle.std.proofs.lemmas.Bool.{false≢true}
-use Rattle.std.proofs.lemmas.List.Sorted.{ranks_by, sorted_far}
-use Rattle.ldmodel.specs.OutputSymbols.{is_before}
-use Rattle.symres.specs.declared.sorted.NamedKey.{NamedKey}
-use Rattle.emit_relocate.specs.Symbols.{AreUp, IsPlaceAmong}
+use Rattle.emit_relocate.proofs.Common.{AreUp, Bool, Equal, Greater, IsPartitionPoint, IsPartitionedBy, IsPlaceAmong}
+use Rattle.emit_relocate.proofs.Common.{IsSortedBy, IsStrictWeakOrder, Less, List, NamedKey, Ordering, Some, ap, arith}
+use Rattle.emit_relocate.proofs.Common.{false, false≢true, get_or, is_before, is_le, is_lt, is_some_and, lists_agrees}
+use Rattle.emit_relocate.proofs.Common.{nat_cmp, nat_list_cmp_total, ordering_reverse, ranks_by, refl, slice_cmp}
+use Rattle.emit_relocate.proofs.Common.{slice_partial_cmp, sorted_far, sym, true, ℕ, ◌+◌, ◌∙◌, ◌≡◌}
 
 abbrev Name : Type 0
 Name = List ℕ

@@ -1,13 +1,11 @@
 -- A layout has the memory regions of its script, in the order of the text.
-use Rattle.std.proofs.Common.{◌≡◌, ◌∙◌, sym, refl, ap, ℕ, ◌+◌, List, [], ◌∷◌, ◌++◌, map, append_assoc, Option, Some}
-use Rattle.std.proofs.Common.{None, Bool, true, false, bytes_eq, if◌then◌else◌}
-use Rattle.std.proofs.lemmas.List.{append-nil, map-append}
-use Rattle.ldscript.specs.statements.Numbering.{OutputSectionAt, output_sections, regions}
+use Rattle.emit_relocate.proofs.Common.{Bool, Layout, List, MemoryRegion, Option, OutputSectionAt, PlacedOutput, Region}
+use Rattle.emit_relocate.proofs.Common.{Some, Statement, [], ap, append-nil, append_assoc, bytes_eq, false}
+use Rattle.emit_relocate.proofs.Common.{if◌then◌else◌, map, map-append, nothing_placed, output_sections, refl, regions}
+use Rattle.emit_relocate.proofs.Common.{sym, true, ℕ, ◌++◌, ◌+◌, ◌∙◌, ◌∷◌, ◌≡◌}
+use Rattle.std.proofs.Common.{None}
 use Rattle.ldscript.specs.statements.declared.section.OutputSection.{OutputSection}
-use Rattle.ldscript.specs.statements.declared.statement.Region.{Region}
-use Rattle.ldscript.specs.statements.declared.statement.Statement.{Statement}
 use Rattle.ldmodel_laws.specs.Traces.{AddsSection, Trace, all_added, nothing_added, region_added, section_added}
-use Rattle.ldmodel.specs.Layout.{Layout, MemoryRegion, PlacedOutput, nothing_placed}
 use Rattle.ldmodel.specs.Placement.{freed_from, load_region, placed_section}
 
 -- the names of the regions so far

@@ -1,23 +1,17 @@
 -- What was evaluated of all input sections, where none is known to have stayed: all.
-use Rattle.std.proofs.Common.{◌≡◌, List, [], ◌∷◌, ◌++◌, map, flat_map, Option, None, refl, ap, sym, ◌∙◌, subst}
-use Rattle.std.specs.List.{AllZip}
-use Rattle.ldmodel.specs.Stayed.{GoodLink}
-use Rattle.ldmodel.specs.declared.sections.SectionKey.{SectionKey}
-use Rattle.emit_relocate.specs.Changes.{AreChanged, AreFilled, Evaluated, IsEvaluatedAt, IsEvaluatedOf, HasAllFields}
-use Rattle.emit_relocate.specs.Changes.{Results}
-use Rattle.emit_relocate.specs.Changes.{own_sites, section_key}
-use Rattle.emit_relocate.specs.Fields.{IsCounted}
-use Rattle.emit_relocate.specs.Filled.{IsRunOf, ObjectSection, sections_in}
-use Rattle.emit_relocate.specs.KnownLink.{KnownLink}
-use Rattle.emit_relocate.specs.declared.previous_link_info.FileRange.{FileRange}
+use Rattle.emit_relocate.proofs.Common.{AllZip, AreChanged, AreFilled, Evaluated, FileRange, GoodLink, HasAllFields}
+use Rattle.emit_relocate.proofs.Common.{IsCounted, IsEvaluatedAt, IsEvaluatedOf, IsRunOf, KnownLink, List}
+use Rattle.emit_relocate.proofs.Common.{ObjectSection, Option, Results, SectionRef, [], ap, flat_map, map, own_sites}
+use Rattle.emit_relocate.proofs.Common.{refl, section_ref, sections_in, subst, sym, ◌++◌, ◌∙◌, ◌∷◌, ◌≡◌}
+use Rattle.std.proofs.Common.{None}
 use Rattle.emit_relocate.proofs.Changing.{flat_runs, run_of, sites_of}
 use Rattle.emit_relocate.proofs.Settling.{all_sites}
 
-module _ (old : GoodLink) (l : KnownLink) (range : SectionKey → Option FileRange)
-    (nothing : (key : SectionKey) → range key ≡ None) where
+module _ (old : GoodLink) (l : KnownLink) (range : SectionRef → Option FileRange)
+    (nothing : (key : SectionRef) → range key ≡ None) where
   renewed : (s : ObjectSection) (c : Evaluated) → IsEvaluatedOf old l range s c → HasAllFields l s c
   renewed s c h =
-      subst (λ r. IsEvaluatedAt old l (section_key h.key s) r s c) (nothing (section_key h.key s)) h.outcome
+      subst (λ r. IsEvaluatedAt old l (section_ref h.key s) r s c) (nothing (section_ref h.key s)) h.outcome
 
   all_runs : (ss : List ObjectSection) (cs : List Evaluated) → AllZip (IsEvaluatedOf old l range) ss cs
       → AllZip (IsRunOf l) ss (map run_of cs)

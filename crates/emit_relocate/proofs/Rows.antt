@@ -1,41 +1,27 @@
 -- What names are in the output.
-use Rattle.std.proofs.Common.{◌≡◌, ◌∙◌, ℕ, ◌+◌, ◌<◌, zero, suc, List, [], ◌∷◌, ◌++◌, length, flat_map, find, position}
-use Rattle.std.proofs.Common.{Option, Some, None, Bool, true, false, cond, ◌||◌, arith, get_or, slice_get}
-use Rattle.std.proofs.Common.{refl, sym, ap, subst}
-use Rattle.std.specs.List.{list_any}
-use Rattle.std.specs.Option.{option_map, option_map_or}
+use Rattle.emit_relocate.proofs.Common.{Bool, Case, Decision, Entry, InTable, IsLinkView, KnownLink, Layout, LinkView}
+use Rattle.emit_relocate.proofs.Common.{List, ObjectPlace, Option, Part, PlacedOutput, PlacedPiece, Project}
+use Rattle.emit_relocate.proofs.Common.{SectionIndex, Some, Symbol, [], ap, arith, cond, decided_value, decision}
+use Rattle.emit_relocate.proofs.Common.{decision_of, definer_of, false, find, flat_map, get_or, length, list_any}
+use Rattle.emit_relocate.proofs.Common.{name_value, object_name, option_map, option_map_or, placed_part, refl}
+use Rattle.emit_relocate.proofs.Common.{slice_get, subst, suc, sym, true, zero, ℕ, ◌++◌, ◌+◌, ◌<◌, ◌||◌, ◌∙◌, ◌∷◌, ◌≡◌}
+use Rattle.std.proofs.Common.{position, None}
 use Rattle.std.proofs.lemmas.List.Quantifiers.{position-Some}
 use Rattle.elfobj.specs.file.declared.constants.TheConstants.{SHN_ABS, STT_NOTYPE}
-use Rattle.elfobj.specs.declared.section.SectionIndex.{SectionIndex}
-use Rattle.elfobj.specs.declared.symbol.Symbol.{Symbol}
 use Rattle.elfobj.specs.declared.symbol.SymbolPlace.{SymbolPlace}
 use Rattle.elfobj.specs.declared.symbol.SymbolPlace.TheVariants as place
 use Rattle.ldmodel.specs.Each.{Each}
-use Rattle.ldmodel.specs.HandedOver.{decision_of}
-use Rattle.ldmodel.specs.Layout.{Layout, PlacedPiece, PlacedOutput}
-use Rattle.ldmodel.specs.NameFaults.{object_name}
-use Rattle.ldmodel.specs.Names.{Decision, Entry, decision}
-use Rattle.ldmodel.specs.Project.{Project}
-use Rattle.ldmodel.specs.SymbolValues.{SymbolValue, address_in, decided_value, is_part, name_value, own_value}
-use Rattle.ldmodel.specs.SymbolValues.{placed_part, symbol_of_entry}
+use Rattle.ldmodel.specs.SymbolValues.{SymbolValue, address_in, is_part, own_value, symbol_of_entry}
 use Rattle.ldmodel.specs.SymbolValues as model
 use Rattle.ldmodel.specs.Tail.{header_of_part, header_of_place, kind_number}
-use Rattle.ldmodel.specs.declared.names.Case.{Case}
-use Rattle.ldmodel.specs.declared.names.ObjectPlace.{ObjectPlace}
-use Rattle.ldmodel.specs.declared.sections.Part.{Part}
-use Rattle.ldmodel.specs.declared.sections.Part.TheVariants.{InTable}
 use Rattle.ldmodel_laws.proofs.EachOf.{all_of_each}
-use Rattle.emit_relocate.specs.KnownLink.{KnownLink}
 use Rattle.emit_relocate.specs.Values.{address_from, value_of}
 use Rattle.emit_relocate.specs.declared.value.SymbolValue as code_value
-use Rattle.emit_text.specs.Definer.{definer_of}
 use Rattle.emit_text.specs.declared.definer.Definer.{Definer}
-use Rattle.emit_relocate.specs.LinkView.{IsLinkView}
-use Rattle.emit_relocate.specs.NameRows.{IsPlaceIn, IsPlaceOf, NameRow, decided_row, entry_row, facts}
-use Rattle.emit_relocate.specs.NameRows.{AreResolvedBelow, AreValuesBelow, IsCaseUnder, IsRowUnder}
-use Rattle.emit_relocate.specs.NameRows.{Resolved, resolved, row_of, shown_in, shown_resolved}
+use Rattle.emit_relocate.specs.NameRows.{IsPlaceIn, IsPlaceOf, NameRow, decided_row, entry_row, facts, AreResolvedBelow}
+use Rattle.emit_relocate.specs.NameRows.{AreValuesBelow, IsCaseUnder, IsRowUnder, Resolved, resolved, row_of, shown_in}
+use Rattle.emit_relocate.specs.NameRows.{shown_resolved}
 use Rattle.emit_relocate.specs.SymbolRows.{definer_in, value_in}
-use Rattle.emit_relocate.specs.declared.link_view.LinkView.{LinkView}
 use Rattle.emit_relocate.specs.declared.symbol_row.SymbolRow as code_rows
 use Rattle.emit_relocate.specs.declared.name_row.Standing.{Standing}
 

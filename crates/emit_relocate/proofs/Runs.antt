@@ -1,23 +1,15 @@
 -- Fields of relocations that share no byte share none.
-use Rattle.std.proofs.Common.{◌≡◌, inl, inr, ◌<◌, ◌≤◌, ℕ, ◌+◌, List, [], ◌∷◌, ◌++◌, length, Some, true, false, ap, ◌∙◌}
-use Rattle.std.proofs.Common.{append_assoc, append-nil, arith, get_or, refl, subst, sym}
-use Rattle.std.specs.Prelude.{slice_get}
-use Rattle.std.specs.List.{All, AllPairs}
-use Rattle.std.specs.List.Sorted.{IsNonDecreasingBy}
-use Rattle.std.proofs.lemmas.Bool.{cases_eq}
-use Rattle.std.proofs.lemmas.List.{get_or_append_left, length-append}
-use Rattle.std.proofs.lemmas.Option.{get_or_from_slice_get, slice_get_within}
+use Rattle.emit_relocate.proofs.Common.{All, AllPairs, AreAdded, AreFieldsOf, IsAmong, IsFieldOf, IsNext}
+use Rattle.emit_relocate.proofs.Common.{IsNonDecreasingBy, List, Patch, Relocation, Some, [], ap, append-nil}
+use Rattle.emit_relocate.proofs.Common.{append_assoc, arith, cases_eq, false, field_end, get_or, get_or_append_left}
+use Rattle.emit_relocate.proofs.Common.{get_or_from_slice_get, inl, inr, length, length-append, refl, slice_get}
+use Rattle.emit_relocate.proofs.Common.{slice_get_within, subst, sym, true, ℕ, ◌++◌, ◌+◌, ◌<◌, ◌∙◌, ◌∷◌, ◌≡◌, ◌≤◌}
 use Rattle.std.proofs.Math.Seq.{get_or-append_seam}
 use Rattle.elfobj.specs.Profile as elf
 use Rattle.elfobj.specs.RelocationKinds.{width}
 use Rattle.elfobj.specs.Relocations as of
-use Rattle.elfobj.specs.Relocations.{field_end}
-use Rattle.elfobj.specs.declared.relocation.Relocation.{Relocation}
 use Rattle.emit_fields.specs.Patches.{IsWithin, patches_meet}
-use Rattle.emit_fields.specs.declared.patch.Patch.{Patch}
 use Rattle.ldmodel_laws.proofs.Apart.{some_width}
-use Rattle.emit_relocate.specs.Fields.{AreAdded, AreFieldsOf, IsAmong, IsNext}
-use Rattle.emit_relocate.specs.Sites.{IsFieldOf}
 
 -- what holds of the items of a list and of one more
 module _ {X : Type 0} (xs : List X) (x : X) where

@@ -1,21 +1,13 @@
 -- The symbol of a name: where symbols are in byte order of their names, it is the first that is not before that name.
-use Rattle.std.proofs.Common.{◌≡◌, ◌<◌, ◌≤◌, ◌⊎◌, inl, inr, ℕ, Bool, true, false, refl, sym, ap, ◌∙◌, arith}
-use Rattle.std.proofs.Common.{List, [], ◌∷◌, length, get_or, bytes_eq, Some, None, Option}
-use Rattle.std.proofs.lemmas.Bool.{cases_lt, true≢false}
-use Rattle.std.proofs.lemmas.List.Folds.{find_at}
-use Rattle.std.proofs.lemmas.List.MinMax.{ranks_by}
-use Rattle.std.proofs.lemmas.List.Sorted.{sorted_far}
-use Rattle.std.proofs.lemmas.List.Sums.{position_or_len_is}
+use Rattle.emit_relocate.proofs.Common.{Bool, Equal, Greater, IsPartitionPoint, IsPartitionedBy, Less, List, Option}
+use Rattle.emit_relocate.proofs.Common.{Ordering, OutputSymbol, Some, [], ap, arith, bytes_eq, cases_lt, false, find_at}
+use Rattle.emit_relocate.proofs.Common.{found_symbol, get_or, inl, inr, is_eq, is_lt, is_some_and, length, lists_agrees}
+use Rattle.emit_relocate.proofs.Common.{nat_cmp, nat_list_cmp_total, ordering_reverse, position_or_len_is, ranks_by}
+use Rattle.emit_relocate.proofs.Common.{refl, slice_cmp, slice_get, slice_get-get_or, slice_get_past, slice_partial_cmp}
+use Rattle.emit_relocate.proofs.Common.{sorted_far, sym, true, true≢false, ℕ, ◌<◌, ◌∙◌, ◌∷◌, ◌≡◌, ◌≤◌, ◌⊎◌}
+use Rattle.std.proofs.Common.{None}
 use Rattle.std.proofs.lemmas.Map.Text.{is_eq-slice_cmp}
-use Rattle.std.proofs.lemmas.Option.{slice_get-get_or, slice_get_past}
-use Rattle.std.specs.Cmp.Lexicographic.{lists_agrees, nat_list_cmp_total, slice_cmp, slice_partial_cmp}
-use Rattle.std.specs.List.{slice_get}
-use Rattle.std.specs.List.Sorted.{IsPartitionPoint, IsPartitionedBy}
-use Rattle.std.specs.Ordering.{is_eq, is_lt, is_some_and, nat_cmp, ordering_reverse}
-use Rattle.std.specs.declared.cmp.Ordering.{Ordering}
-use Rattle.std.specs.declared.cmp.Ordering.TheVariants.{Less, Equal, Greater}
-use Rattle.emit_relocate.specs.AssertedSymbols.{AreInOrder, found_symbol}
-use Rattle.emit_relocate.specs.declared.values.OutputSymbol.{OutputSymbol}
+use Rattle.emit_relocate.specs.AssertedSymbols.{AreInOrder}
 
 abbrev Name : Type 0
 Name = List ℕ

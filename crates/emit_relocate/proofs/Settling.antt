@@ -1,42 +1,25 @@
 -- What was evaluated of all input sections, beside a link of which some stayed: no fault is missed, and each site that
 -- lies outside of what stayed or whose symbol has another value counts once.
-use Rattle.std.proofs.Common.{◌≡◌, ◌↔◌, ◌+◌, Bool, true, false, not, ◌&&◌, List, [], ◌∷◌, ◌++◌, length, filter}
-use Rattle.std.proofs.Common.{flat_map, Option, None, Some, refl, sym, ap, ◌∙◌, subst, find, cond, bytes_eq, ◌==◌}
-use Rattle.std.specs.Prelude.{◌||◌}
-use Rattle.std.specs.List.{AllZip, Contains, filter_map}
-use Rattle.std.specs.List.Sorted.{IsPermutation}
-use Rattle.std.specs.Option.{option_map_or}
+use Rattle.emit_relocate.proofs.Common.{AllZip, Bool, Contains, Contains-permutation, Evaluated, FileRange, GoodLink}
+use Rattle.emit_relocate.proofs.Common.{HasField, HasSameValue, InCommon, InTable, IsComplete, IsEvaluatedAt}
+use Rattle.emit_relocate.proofs.Common.{IsEvaluatedOf, IsPermutation, IsPieceOf, KnownLink, LinkedSection, List}
+use Rattle.emit_relocate.proofs.Common.{NamedObject, NotInOutput, Number, ObjectPlace, ObjectSection, Option, Part}
+use Rattle.emit_relocate.proofs.Common.{PlacedPiece, Project, Relocation, SectionIndex, SectionRef, Site, Some, [], ap}
+use Rattle.emit_relocate.proofs.Common.{bytes_eq, bytes_eq-Decides, cond, eqb-true, false, fault_at, filter}
+use Rattle.emit_relocate.proofs.Common.{filter-append, filter_map, filter_map-append, find, flat_map, flat_map-append}
+use Rattle.emit_relocate.proofs.Common.{good_link, has_new_value, has_part_stayed, here, in_filter, is_evaluated}
+use Rattle.emit_relocate.proofs.Common.{is_same_value, later, length, lies_in_stayed, named_object, none_in_nil, not}
+use Rattle.emit_relocate.proofs.Common.{object_named, option_map_or, own_sites, placed_part, refl, section_numbered}
+use Rattle.emit_relocate.proofs.Common.{section_ref, sections_in, sections_of, sites, sites_of_section, subst, sym}
+use Rattle.emit_relocate.proofs.Common.{true, ◌&&◌, ◌++◌, ◌+◌, ◌==◌, ◌||◌, ◌∙◌, ◌∷◌, ◌≡◌}
+use Rattle.std.proofs.Common.{◌↔◌, None}
 use Rattle.std.specs.Result.{result_err}
-use Rattle.std.proofs.lemmas.Bool.{eqb-true}
-use Rattle.std.proofs.lemmas.Grind.{flat_map-append}
-use Rattle.std.proofs.lemmas.List.Elements.{filter-append, filter_map-append}
-use Rattle.std.proofs.lemmas.List.Sorted.{Contains-permutation}
-use Rattle.std.proofs.lemmas.Slice.Eq.{bytes_eq-Decides}
-use Rattle.elfobj.specs.Sections.{LinkedSection}
-use Rattle.elfobj.specs.declared.relocation.Relocation.{Relocation}
-use Rattle.elfobj.specs.declared.section.SectionIndex.{SectionIndex}
-use Rattle.ldmodel.specs.Image.{object_named, section_numbered}
-use Rattle.ldmodel.specs.Layout.{PlacedPiece}
-use Rattle.ldmodel.specs.Project.{NamedObject, Project}
-use Rattle.ldmodel.specs.Relocations.{Site, is_evaluated, sites, sites_at, sites_of_section}
-use Rattle.ldmodel.specs.Stayed.{GoodLink, LinkedPiece, has_stayed, linked_pieces, link_pieces, sites_in, sites_in_part}
+use Rattle.ldmodel.specs.Relocations.{sites_at}
+use Rattle.ldmodel.specs.Stayed.{LinkedPiece, has_stayed, linked_pieces, link_pieces, sites_in, sites_in_part}
 use Rattle.ldmodel.specs.Stayed.{sites_in_section}
-use Rattle.ldmodel.specs.SymbolValues.{SymbolValue, Number, NotDefined, NotInOutput, placed_part}
-use Rattle.ldmodel.specs.declared.names.ObjectPlace.{ObjectPlace}
-use Rattle.ldmodel.specs.declared.sections.Part.{Part}
-use Rattle.ldmodel.specs.declared.sections.Part.TheVariants.{InTable, InCommon}
-use Rattle.ldmodel.specs.declared.sections.SectionKey.{SectionKey}
-use Rattle.ldmodel_laws.specs.StayedSites.{has_part_stayed, lies_in_stayed}
-use Rattle.ldmodel_laws.specs.Untouched.{HasField, HasSameValue}
-use Rattle.emit_relocate.specs.Changes.{Evaluated, IsEvaluatedAt, IsEvaluatedOf, own_sites, section_key}
-use Rattle.emit_relocate.specs.PreviousLinkInfo.{IsComplete, IsPieceOf, good_link, has_new_value, is_same_value}
-use Rattle.emit_relocate.specs.Fields.{fault_at}
-use Rattle.emit_relocate.specs.Filled.{ObjectSection, sections_in, sections_of}
-use Rattle.emit_relocate.specs.KnownLink.{KnownLink, named_object}
-use Rattle.emit_relocate.specs.declared.previous_link_info.FileRange.{FileRange}
+use Rattle.ldmodel.specs.SymbolValues.{SymbolValue, NotDefined}
 use Rattle.emit_relocate.proofs.Changing.{sites_of}
 use Rattle.ldmodel_laws.proofs.Finding.{flat_map_in, in_flat_map, in_map}
-use Rattle.ldmodel_laws.proofs.Members.{here, in_filter, later, none_in_nil}
 use Rattle.emit_relocate.proofs.Lists.{count_either, filter_map_kept, filter_where, filter_whole}
 use Rattle.emit_relocate.proofs.Moving.{unmoved}
 
@@ -184,7 +167,7 @@ module _ (old : GoodLink) (l : KnownLink) where
 
     -- its input section is that of the key
     pub keyed : (key : ObjectPlace) → named_object l key ≡ Some s.object → (t : Site) → Contains (own_sites l s) t
-        → (h : Home t) → IsPieceOf l (section_key key s) h.piece
+        → (h : Home t) → IsPieceOf l (section_ref key s) h.piece
     keyed key named t c h =
         let of_own = own t c in
         record {
@@ -196,13 +179,13 @@ module _ (old : GoodLink) (l : KnownLink) where
 
   -- ---- no fault is missed
 
-  module _ (range : SectionKey → Option FileRange)
+  module _ (range : SectionRef → Option FileRange)
       (by_piece : IsPermutation (sites l.project l.layout)
       (flat_map (sites_in l.project) (linked_pieces l.project l.layout)))
       (settled : (x : LinkedPiece) (t : Site) → Contains (link_pieces (good_link l)) x → has_stayed old x ≡ true
       → Contains (sites_in l.project x) t → HasSameValue old (good_link l) t → HasField (good_link l) t) where
     faults_at : (key : ObjectPlace) (s : ObjectSection) (c : Evaluated) (r : Option FileRange)
-        → named_object l key ≡ Some s.object → IsEvaluatedAt old l (section_key key s) r s c
+        → named_object l key ≡ Some s.object → IsEvaluatedAt old l (section_ref key s) r s c
         → ((t : Site) → Contains (own_sites l s) t → Contains (sites l.project l.layout) t)
         → filter_map (fault_at l) c.sites ≡ filter_map (fault_at l) (own_sites l s)
     faults_at key s c None named h inside = ap (filter_map (fault_at l)) h.sites
@@ -223,7 +206,7 @@ module _ (old : GoodLink) (l : KnownLink) where
     faults_of_some (s ∷ ss) (c ∷ cs) h inside =
         filter_map-append (fault_at l) c.sites (flat_map sites_of cs)
         ∙ ap (λ fs. fs ++ filter_map (fault_at l) (flat_map sites_of cs))
-        (faults_at h.0.key s c (range (section_key h.0.key s)) h.0.named h.0.outcome (λ t d. inside s t (here s ss) d))
+        (faults_at h.0.key s c (range (section_ref h.0.key s)) h.0.named h.0.outcome (λ t d. inside s t (here s ss) d))
         ∙ ap (λ fs. filter_map (fault_at l) (own_sites l s) ++ fs)
         (faults_of_some ss cs h.1 (λ z t d e. inside z t (later s ss z d) e))
         ∙ sym (filter_map-append (fault_at l) (own_sites l s) (flat_map (own_sites l) ss))
@@ -243,7 +226,7 @@ module _ (old : GoodLink) (l : KnownLink) where
   abbrev pub is_due : Site → Bool
   is_due t = not (lies t) || has_new_value old l t
 
-  module _ (range : SectionKey → Option FileRange) (complete : IsComplete range old l)
+  module _ (range : SectionRef → Option FileRange) (complete : IsComplete range old l)
       (by_piece : IsPermutation (sites l.project l.layout)
       (flat_map (sites_in l.project) (linked_pieces l.project l.layout)))
       (by_part : (x : LinkedPiece) → Contains (link_pieces (good_link l)) x
@@ -255,15 +238,15 @@ module _ (old : GoodLink) (l : KnownLink) where
         ∙ by_part h.piece h.among
 
     due_at : (key : ObjectPlace) (s : ObjectSection) (c : Evaluated) (r : Option FileRange)
-        → named_object l key ≡ Some s.object → range (section_key key s) ≡ r
-        → IsEvaluatedAt old l (section_key key s) r s c
+        → named_object l key ≡ Some s.object → range (section_ref key s) ≡ r
+        → IsEvaluatedAt old l (section_ref key s) r s c
         → ((t : Site) → Contains (own_sites l s) t → Contains (sites l.project l.layout) t)
         → c.sites ≡ filter is_due (own_sites l s)
     due_at key s c None named is h inside =
         h.sites
         ∙ filter_whole is_due (own_sites l s) (λ t d.
         let at : Home t = home by_piece t (inside t d) in
-        let out : lies t ≡ false = lies_as t at ∙ complete (section_key key s) at.piece is (keyed s key named t d at) in
+        let out : lies t ≡ false = lies_as t at ∙ complete (section_ref key s) at.piece is (keyed s key named t d at) in
         ap (λ b. not b || has_new_value old l t) out)
     due_at key s c (Some r) named is h inside =
         h.sites
@@ -281,7 +264,7 @@ module _ (old : GoodLink) (l : KnownLink) where
     due_of_some (s ∷ ss) [] h inside = absurd h
     due_of_some (s ∷ ss) (c ∷ cs) h inside =
         ap (λ ts. ts ++ flat_map sites_of cs)
-        (due_at h.0.key s c (range (section_key h.0.key s)) h.0.named refl h.0.outcome
+        (due_at h.0.key s c (range (section_ref h.0.key s)) h.0.named refl h.0.outcome
         (λ t d. inside s t (here s ss) d))
         ∙ ap (λ ts. filter is_due (own_sites l s) ++ ts)
         (due_of_some ss cs h.1 (λ z t d e. inside z t (later s ss z d) e))

@@ -1,22 +1,15 @@
 -- Relocations and their faults.
-use Rattle.std.proofs.Common.{◌≡◌, ℕ, ◌+◌, Some, Result, Ok, Err, refl, ap, sym, ◌∙◌}
-use Rattle.std.specs.Prelude.{slice_get}
-use Rattle.elfobj.specs.declared.relocation.Relocation.{Relocation}
+use Rattle.emit_relocate.proofs.Common.{Err, IsEvaluated, IsOutcome, IsSiteAt, KnownLink, NotInOutput, Number, Ok}
+use Rattle.emit_relocate.proofs.Common.{Patch, PlacedInput, Relocation, Result, Site, SiteRef, Some, ap, fault_of, refl}
+use Rattle.emit_relocate.proofs.Common.{site_field, site_field_with, site_value, slice_get, sym, ℕ, ◌+◌, ◌∙◌, ◌≡◌}
 use Rattle.emit_fields.specs.Fields.{field_of}
 use Rattle.emit_fields.specs.declared.field.Overflow.{Overflow}
-use Rattle.emit_fields.specs.declared.patch.Patch.{Patch}
-use Rattle.ldmodel.specs.FaultCode.{fault_of}
-use Rattle.ldmodel.specs.Relocations.{Site, site_field_with, site_field, site_value}
-use Rattle.ldmodel.specs.SymbolValues.{SymbolValue, Number, NotDefined, NotInOutput}
+use Rattle.ldmodel.specs.SymbolValues.{SymbolValue, NotDefined}
 use Rattle.ldmodel.specs.declared.fault.Fault as code
 use Rattle.ldmodel.specs.declared.fault.Fault.TheVariants as variant
-use Rattle.ldmodel.specs.declared.fault.SiteKey.{SiteKey}
-use Rattle.emit_relocate.specs.KnownLink.{KnownLink}
-use Rattle.emit_relocate.specs.Sites.{IsEvaluated, IsOutcome, IsSiteAt}
-use Rattle.emit_relocate.specs.declared.site.PlacedInput.{PlacedInput}
 
 module _ (l : KnownLink) (m : PlacedInput) (entry : ℕ) (t : Site) (h : IsSiteAt l m entry t) where
-  abbrev key : SiteKey
+  abbrev key : SiteRef
   key = record { object = m.object; section = m.section; entry = entry }
 
   relocation_is : slice_get t.section.relocations entry ≡ Some t.relocation

@@ -1,27 +1,12 @@
 -- Values of names, by what the names stand for, and of the symbols and targets that turn on them.
-use Rattle.std.proofs.Common.{◌≡◌, ℕ, List, [], true, false, Option, Some, None, refl, ap, sym, ◌∙◌}
-use Rattle.std.proofs.lemmas.Option.{same_Some}
-use Rattle.std.specs.Prelude.{slice_get, unwrap_or}
-use Rattle.std.specs.Option.{option_map, option_map_or, option_and_then}
-use Rattle.elfobj.specs.Symbols.{NamedSymbol}
-use Rattle.elfobj.specs.declared.section.SectionIndex.{SectionIndex}
-use Rattle.elfobj.specs.declared.symbol.Symbol.{Symbol}
-use Rattle.ldmodel.specs.HandedOver.{decision_of}
-use Rattle.ldmodel.specs.Layout.{PlacedPiece, script_value}
-use Rattle.ldmodel.specs.Live.{symbol_at}
-use Rattle.ldmodel.specs.Names.{decision, entry_symbol, is_local, is_weak_binding}
-use Rattle.ldmodel.specs.Project.{NamedObject}
-use Rattle.ldmodel.specs.SymbolValues.{SymbolValue, Number, decided_value, entry_point, name_value, number_or_0}
-use Rattle.ldmodel.specs.SymbolValues.{own_value}
-use Rattle.ldmodel.specs.SymbolValues.{placed_part, value_if_named}
-use Rattle.ldmodel.specs.Targets.{Target, Name, Section, Fixed, or_weak, referenced_value, target_number}
-use Rattle.ldmodel.specs.declared.names.Case.{Case}
+use Rattle.emit_relocate.proofs.Common.{InTable, KnownLink, List, ObjectPlace, Option, PlacedPiece, SectionIndex, Some}
+use Rattle.emit_relocate.proofs.Common.{ap, name_value, number_or_0, option_map, option_map_or, placed_part, refl}
+use Rattle.emit_relocate.proofs.Common.{same_Some, slice_get, start_of, unwrap_or, ℕ, ◌∙◌, ◌≡◌}
+use Rattle.std.proofs.Common.{None}
+use Rattle.ldmodel.specs.SymbolValues.{SymbolValue}
+use Rattle.ldmodel.specs.Targets.{Target, Name, Section, Fixed, target_number}
 use Rattle.ldmodel.specs.declared.names.NameKey.{NameKey}
-use Rattle.ldmodel.specs.declared.names.ObjectPlace.{ObjectPlace}
-use Rattle.ldmodel.specs.declared.sections.Part.TheVariants.{InTable}
-use Rattle.elfobj.specs.declared.relocation.SymbolIndex.{SymbolIndex}
-use Rattle.emit_relocate.specs.KnownLink.{AreNameValues, IsEntryCase, IsNameOf, IsSymbolOf, KnownLink, name_of_object}
-use Rattle.emit_relocate.specs.KnownLink.{start_of, value_under}
+use Rattle.emit_relocate.specs.KnownLink.{AreNameValues, name_of_object, value_under}
 use Rattle.emit_relocate.specs.Values.{value_of}
 use Rattle.emit_relocate.specs.declared.value.SymbolValue as code
 use Rattle.emit_relocate.specs.declared.value.SymbolValue.TheVariants as value
@@ -37,46 +22,6 @@ or_0 None = refl
 or_0 (Some x) = refl
 
 module _ (l : KnownLink) where
-  -- the value of what a name stands for is the name's
-  of_case : (name : List ℕ) (case : Case ObjectPlace) (v : SymbolValue) → Some (decision_of l.number case)
-      ≡ Some (decision l.project name) → v ≡ decided_value l.project l.layout name (decision_of l.number case) → v
-      ≡ name_value l.project l.layout name
-  unfolding name_value
-  of_case name case v e h = h ∙ ap (decided_value l.project l.layout name) (same_Some _ _ e)
-
-  -- the entry symbol
-  no_entry : (o : Option (List ℕ)) → None ≡ option_map (decision l.project) o → Number 0
-      ≡ value_if_named l.project l.layout o
-  no_entry None e = refl
-  no_entry (Some name) e = cc
-
-  pub entry_without : (case : Option (Case ObjectPlace)) (given : Option ℕ) → case ≡ None → IsEntryCase l case given
-      → Number 0
-      ≡ entry_point l.project l.layout
-  unfolding entry_point
-  entry_without case given e h =
-      no_entry (entry_symbol l.project) (sym (ap (option_map (decision_of l.number)) e) ∙ h.decided)
-
-  some_entry : (o : Option (List ℕ)) (case : Case ObjectPlace) (given : Option ℕ) (v : SymbolValue)
-      → Some (decision_of l.number case) ≡ option_map (decision l.project) o
-      → ((name : List ℕ) → o ≡ Some name → given ≡ script_value l.layout name)
-      → ((name : List ℕ) → given ≡ script_value l.layout name → v
-      ≡ decided_value l.project l.layout name (decision_of l.number case))
-      → v ≡ value_if_named l.project l.layout o
-  some_entry None case given v e g h = cc
-  some_entry (Some name) case given v e g h = of_case name case v e (h name (g name refl))
-
-  pub entry_with : (a : Option (Case ObjectPlace)) (case : Case ObjectPlace) (given : Option ℕ) (v : SymbolValue)
-      → a ≡ Some case
-      → IsEntryCase l a given
-      → ((name : List ℕ) → given ≡ script_value l.layout name → v
-      ≡ decided_value l.project l.layout name (decision_of l.number case))
-      → v ≡ entry_point l.project l.layout
-  unfolding entry_point
-  entry_with a case given v e k h =
-      some_entry (entry_symbol l.project) case given v (sym (ap (option_map (decision_of l.number)) e)
-      ∙ k.decided) k.given_is h
-
   -- the value of a name, found under its key
   under : (values : List code.SymbolValue) (k : NameKey) (name : List ℕ) → AreNameValues l values → l.name k.0
       ≡ Some name → value_of (value_under values k) ≡ name_value l.project l.layout name

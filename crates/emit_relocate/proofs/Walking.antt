@@ -1,21 +1,12 @@
 -- Two lists of names in byte order that are merged step by step.
-use Rattle.std.proofs.Common.{◌≡◌, ◌∙◌, ℕ, ◌+◌, ◌<◌, ◌≤◌, zero, suc, List, [], ◌∷◌, ◌++◌, ◌⊎◌, length, take}
-use Rattle.std.proofs.Common.{drop, get_or}
-use Rattle.std.proofs.Common.{ap, append_assoc, append-nil, arith, inl, inr, refl, subst, sym, ⊎_elim, ◌-◌}
-use Rattle.std.proofs.Common.{Bool, cond, false, true}
-use Rattle.std.specs.Prelude.{bytes_eq}
-use Rattle.std.specs.Borrow.{Bor}
-use Rattle.std.specs.Ordering.{is_lt}
-use Rattle.std.proofs.Math.Seq.{drop-cons}
-use Rattle.std.proofs.lemmas.Bool.{false≢true, true≢false}
-use Rattle.std.proofs.lemmas.List.{drop-drop, drop_all, get_or-drop, length-drop, map-append, take-append-drop}
-use Rattle.std.proofs.lemmas.Slice.Eq.{bytes_eq-Decides}
-use Rattle.symres.specs.declared.sorted.NamedKey.{NamedKey}
-use Rattle.ldmodel.specs.OutputSymbols.{is_before}
+use Rattle.emit_relocate.proofs.Common.{AreUp, Bool, Bor, IsPlaceAmong, List, NamedKey, [], ap, append-nil}
+use Rattle.emit_relocate.proofs.Common.{append_assoc, arith, bytes_eq, bytes_eq-Decides, cond, drop, drop-cons}
+use Rattle.emit_relocate.proofs.Common.{drop-drop, drop_all, ends_with, false, false≢true, get_or, get_or-drop, inl}
+use Rattle.emit_relocate.proofs.Common.{inr, is_before, is_lt, keyed_names, length, length-drop, map-append, refl}
+use Rattle.emit_relocate.proofs.Common.{subst, suc, sym, take, take-append-drop, texts, true, true≢false, with_name}
+use Rattle.emit_relocate.proofs.Common.{zero, ℕ, ⊎_elim, ◌++◌, ◌+◌, ◌-◌, ◌<◌, ◌∙◌, ◌∷◌, ◌≡◌, ◌≤◌, ◌⊎◌}
 use Rattle.emit_text.proofs.ByteOrder.{Asc, In, Lt, Name, append_in, below_in, in_append, lt_from_before, lt_trans}
-use Rattle.emit_relocate.specs.ScriptNames.{texts}
-use Rattle.emit_relocate.specs.Symbols.{AreUp, IsPlaceAmong, ends_with, keyed_names, with_name}
-use Rattle.emit_relocate.proofs.Rising.{asc_cross, asc_join, asc_left, asc_right, at_most}
+use Rattle.emit_relocate.proofs.NamesAscending.{asc_cross, asc_join, asc_left, asc_right, at_most}
 
 -- ---- the last name of a list
 

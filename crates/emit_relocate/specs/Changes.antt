@@ -12,7 +12,7 @@ use Rattle.ldmodel.specs.Stayed.{GoodLink}
 use Rattle.ldmodel.specs.declared.fault.Fault as code
 use Rattle.ldmodel.specs.declared.names.ObjectPlace.{ObjectPlace}
 use Rattle.ldmodel.specs.declared.sections.Part.TheVariants.{InTable}
-use Rattle.ldmodel.specs.declared.sections.SectionKey.{SectionKey}
+use Rattle.ldmodel.specs.declared.sections.SectionRef.{SectionRef}
 use Rattle.emit_relocate.specs.PreviousLinkInfo.{HasStayedAt, has_new_value}
 use Rattle.emit_relocate.specs.Fields.{IsCounted, field_at}
 use Rattle.emit_relocate.specs.Filled.{IsRunOf, ObjectSection, ends_of, sections_in}
@@ -59,7 +59,7 @@ pub record HasAllFields (link : KnownLink) (s : ObjectSection) (c : Evaluated) :
 
 -- it stayed, with its bytes in a range of the file, if it has sites: no fields, and patches of the sites whose symbol
 -- has another value
-pub record HasRetargetedFields (old : GoodLink) (link : KnownLink) (key : SectionKey) (r : FileRange)
+pub record HasRetargetedFields (old : GoodLink) (link : KnownLink) (key : SectionRef) (r : FileRange)
     (s : ObjectSection)
     (c : Evaluated) : Type 0 where
   pub stayed : (site : Site) → Contains (own_sites link s) site → HasStayedAt old link key r
@@ -67,19 +67,19 @@ pub record HasRetargetedFields (old : GoodLink) (link : KnownLink) (key : Sectio
   pub patches : c.patches ≡ filter_map (file_patch_at link r) c.sites
   pub sites : c.sites ≡ filter (has_new_value old link) (own_sites link s)
 
-abbrev pub IsEvaluatedAt : GoodLink → KnownLink → SectionKey → Option FileRange → ObjectSection → Evaluated → Type 0
+abbrev pub IsEvaluatedAt : GoodLink → KnownLink → SectionRef → Option FileRange → ObjectSection → Evaluated → Type 0
 IsEvaluatedAt old link key None s c = HasAllFields link s c
 IsEvaluatedAt old link key (Some r) s c = HasRetargetedFields old link key r s c
 
-abbrev pub section_key : ObjectPlace → ObjectSection → SectionKey
-section_key key s = record { object = key; part = InTable s.section.number }
+abbrev pub section_ref : ObjectPlace → ObjectSection → SectionRef
+section_ref key s = record { object = key; part = InTable s.section.number }
 
 -- by what is known to have stayed
-pub record IsEvaluatedOf (old : GoodLink) (link : KnownLink) (range : SectionKey → Option FileRange) (s : ObjectSection)
+pub record IsEvaluatedOf (old : GoodLink) (link : KnownLink) (range : SectionRef → Option FileRange) (s : ObjectSection)
     (c : Evaluated) : Type 0 where
   pub key : ObjectPlace
   pub named : named_object link key ≡ Some s.object
-  pub outcome : IsEvaluatedAt old link (section_key key s) (range (section_key key s)) s c
+  pub outcome : IsEvaluatedAt old link (section_ref key s) (range (section_ref key s)) s c
 
 -- what has been evaluated so far: fields, the places where those of each input section end, patches in the file,
 -- faults, and the counts of work
@@ -116,7 +116,7 @@ pub record Adds (link : KnownLink) (IsDone : Evaluated → Type 0) (before after
   pub counts : IsCounted link evaluated.sites before.faults after.faults before.counts after.counts
 
 -- what was evaluated of these input sections was added, one after another
-pub record AreChanged (old : GoodLink) (link : KnownLink) (range : SectionKey → Option FileRange)
+pub record AreChanged (old : GoodLink) (link : KnownLink) (range : SectionRef → Option FileRange)
     (ss : List ObjectSection)
     (before after : Results) : Type 0 where
   pub sections : List Evaluated

@@ -44,7 +44,3 @@ EndBelow link =
     → section_numbered object section.number ≡ Some section
     → placed_part link.layout object.name (InTable section.number) ≡ Some y
     → y.start + section.size < 2 ^ 64
-
--- these are the places of the objects, in their order
-abbrev pub IsOrder : KnownLink → List ObjectPlace → Type 0
-IsOrder link places = map (named_object link) places ≡ map Some link.project.objects

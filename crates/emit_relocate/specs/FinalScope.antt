@@ -9,16 +9,9 @@ use Rattle.ldmodel.specs.Fault.{Fault, AssertionFailed}
 use Rattle.ldmodel.specs.Value.{Scope, value}
 use Rattle.ldmodel.specs.declared.fault.Fault as code
 use Rattle.ldmodel.specs.declared.fault.Fault.TheVariants as variant
-use Rattle.emit_relocate.specs.Values.{value_of}
 use Rattle.place.specs.terms.Scopes.{region_numbers, section_numbers}
-use Rattle.emit_relocate.specs.declared.values.OutputSymbol.{OutputSymbol}
-use Rattle.emit_relocate.specs.AssertedSymbols.{found_symbol}
-use Rattle.emit_relocate.specs.SymbolRows.{value_in}
+use Rattle.emit_relocate.specs.AssertedSymbols.{found_symbol, value_found}
 use Rattle.emit_relocate.specs.declared.final_scope.FinalScope.{FinalScope}
-
--- the value of a symbol that was found
-abbrev pub number_of : Option OutputSymbol → Option ℕ
-number_of found = option_and_then (λ (symbol : OutputSymbol). number_if_any (value_of (value_in symbol.row))) found
 
 -- the member of a number
 abbrev pub numbered : {A : Type 0} → List A → Option ℕ → Option A
@@ -26,7 +19,7 @@ numbered xs k = option_and_then (λ (i : ℕ). slice_get xs i) k
 
 abbrev pub meaning_of : FinalScope → Scope
 meaning_of f = record {
-  symbol = λ name. number_of (found_symbol f.symbols.list.now name);
+  symbol = λ name. number_if_any (value_found (found_symbol f.symbols.list.now name));
   section = λ name. option_map section_numbers (numbered f.placement.sections.now (section_number f.script.now name));
   region = λ name. option_map region_numbers (numbered f.placement.regions.now (region_number f.script.now name));
 }

@@ -1,21 +1,19 @@
 -- What a linker knows of its link: a project and a layout, and what the keys of objects and of names stand for.
 use Rattle.std.specs.Prelude.{◌≡◌, ℕ, List, Option, Some, slice_get, false, unwrap_or}
 use Rattle.std.specs.Option.{option_map}
-use Rattle.elfobj.specs.Object.{ObjectData}
 use Rattle.elfobj.specs.Symbols.{NamedSymbol}
 use Rattle.elfobj.specs.declared.relocation.SymbolIndex.{SymbolIndex}
-use Rattle.ldmodel.specs.HandedOver.{decision_of}
+use Rattle.ldmodel.specs.CodeValues.{decision_of}
 use Rattle.ldmodel.specs.Layout.{Layout, PlacedPiece, script_value}
 use Rattle.ldmodel.specs.Live.{symbol_at}
 use Rattle.ldmodel.specs.NameFaults.{object_name}
-use Rattle.ldmodel.specs.Names.{Entry, decision, entry_symbol, is_local}
+use Rattle.ldmodel.specs.Names.{decision, is_local}
 use Rattle.ldmodel.specs.Project.{NamedObject, Project}
-use Rattle.ldmodel.specs.SymbolValues.{SymbolValue, address_in, placed_part, name_value, symbol_index}
+use Rattle.ldmodel.specs.SymbolValues.{placed_part, name_value}
 use Rattle.ldmodel.specs.declared.names.Case.{Case}
 use Rattle.ldmodel.specs.declared.names.NameKey.{NameKey}
 use Rattle.ldmodel.specs.declared.names.ObjectPlace.{ObjectPlace}
-use Rattle.ldmodel.specs.declared.sections.Part.TheVariants.{InCommon}
-use Rattle.ldmodel.specs.declared.sections.SectionKey.{SectionKey}
+use Rattle.ldmodel.specs.declared.sections.SectionRef.{SectionRef}
 use Rattle.emit_relocate.specs.Values.{value_of}
 use Rattle.ldmodel.specs.Targets.{Target, Name, Section, Fixed}
 use Rattle.ldmodel.specs.declared.target.Target as code_target
@@ -34,14 +32,11 @@ pub record KnownLink : Type 0 where
 abbrev pub named_object : KnownLink → ObjectPlace → Option NamedObject
 named_object link k = slice_get link.project.objects (link.number k.0)
 
-abbrev pub object_of : KnownLink → ObjectPlace → Option ObjectData
-object_of link k = option_map (λ (object : NamedObject). object.object) (named_object link k)
-
 abbrev pub name_of_object : KnownLink → ObjectPlace → List ℕ
 name_of_object link k = object_name link.project (link.number k.0)
 
 -- where an input section starts, if it is in the output
-abbrev pub start_of : KnownLink → SectionKey → Option ℕ
+abbrev pub start_of : KnownLink → SectionRef → Option ℕ
 start_of link k =
     option_map (λ (placed : PlacedPiece). placed.start) (placed_part link.layout (name_of_object link k.object) k.part)
 
@@ -59,11 +54,6 @@ IsCaseOf link k case =
 
 abbrev pub IsScriptValueOf : KnownLink → NameKey → Option ℕ → Type 0
 IsScriptValueOf link k value = (name : List ℕ) → link.name k.0 ≡ Some name → value ≡ script_value link.layout name
-
--- the address of the common block that an entry owns
-abbrev pub common_value : KnownLink → Entry → SymbolValue
-common_value link owner =
-    address_in (placed_part link.layout (object_name link.project owner.object) (InCommon (symbol_index owner))) 0
 
 -- each name has its value under its key
 abbrev pub AreNameValues : KnownLink → List code.SymbolValue → Type 0
@@ -88,9 +78,3 @@ abbrev pub named_target : KnownLink → code_target.Target → Option Target
 named_target link (of.Name k) = option_map Name (link.name k.0)
 named_target link (of.Section object section) = Some (Section (name_of_object link object) section)
 named_target link of.Fixed = Some Fixed
-
--- what the entry symbol stands for, if there is one, and the value that the script gives it
-pub record IsEntryCase (link : KnownLink) (case : Option (Case ObjectPlace)) (given : Option ℕ) : Type 0 where
-  pub decided : option_map (decision_of link.number) case
-      ≡ option_map (decision link.project) (entry_symbol link.project)
-  pub given_is : (name : List ℕ) → entry_symbol link.project ≡ Some name → given ≡ script_value link.layout name

@@ -1,6 +1,6 @@
 -- What the code has at hand where it goes over the input sections of a link: the link and a previous one, and an input
 -- section, before its place in the output is known, in its place, and beside the previous link.
-use Rattle.std.specs.Prelude.{◌≡◌, IfSome, IsSome, List, Option, None, Some, slice_get}
+use Rattle.std.specs.Prelude.{◌≡◌, List, Option, None, Some, slice_get}
 use Rattle.elfobj.specs.declared.relocation.Relocation.{Relocation}
 use Rattle.ldmodel.specs.Layout.{PlacedPiece}
 use Rattle.ldmodel.specs.Project.{NamedObject}
@@ -9,11 +9,12 @@ use Rattle.ldmodel.specs.Stayed.{GoodLink}
 use Rattle.ldmodel.specs.SymbolValues.{placed_part}
 use Rattle.ldmodel.specs.declared.names.ObjectPlace.{ObjectPlace}
 use Rattle.ldmodel.specs.declared.sections.Part.TheVariants.{InTable}
-use Rattle.ldmodel.specs.declared.sections.SectionKey.{SectionKey}
+use Rattle.ldmodel.specs.declared.sections.SectionRef.{SectionRef}
 use Rattle.emit_relocate.specs.PreviousLinkInfo.{HasSameValues, HasStayedAt, HasSomeStayed, HasWhollyStayed}
 use Rattle.emit_relocate.specs.Fields.{sites_among}
 use Rattle.emit_relocate.specs.Filled.{EndBelow, ObjectSection}
 use Rattle.emit_relocate.specs.KnownLink.{KnownLink, named_object}
+use Rattle.emit_relocate.specs.LinkView.{IsLinkView}
 use Rattle.emit_relocate.specs.Sites.{IsPlaced}
 use Rattle.emit_relocate.specs.SymbolValues.{AreValuesOf, HasSymbolValues, IsRow}
 use Rattle.emit_relocate.specs.declared.changed_fields.Links.{Links}
@@ -22,14 +23,13 @@ use Rattle.emit_relocate.specs.declared.input_section.InputSection.{InputSection
 use Rattle.emit_relocate.specs.declared.retargeted.StayedSection.{StayedSection}
 use Rattle.emit_relocate.specs.declared.site.PlacedInput.{PlacedInput}
 
--- these may be the links at hand, by what the linker knows of them: `knows` of `LinkInfo`, and that of
--- `PreviousLinkInfo`
-pub record AreLinks {L E : Type 0} (knows : L → KnownLink → Type 0) (knows_both : E → GoodLink → KnownLink → Type 0)
-    (m : Links L E) (old : GoodLink) (l : KnownLink) : Type 0 where
+-- these may be the links at hand, by what the linker knows of them: `knows` of `PreviousLinkInfo`
+pub record AreLinks {E : Type 0} (knows : E → GoodLink → KnownLink → Type 0) (m : Links E) (old : GoodLink)
+    (l : KnownLink) : Type 0 where
   -- the link whose relocations are evaluated
-  pub link : knows m.link.now l
+  pub link : IsLinkView l m.link.now
   -- the previous one beside it
-  pub previous : knows_both m.previous.now old l
+  pub previous : knows m.previous.now old l
   -- the values are those of the symbols of the link's objects
   pub symbols : HasSymbolValues l m.symbols.now
   -- its layout has no input section past the end of the address space
@@ -69,8 +69,8 @@ abbrev pub sites_at_hand : PlacedInput → ObjectSection → List Relocation →
 sites_at_hand m s rs = sites_among s.object s.section m.start rs
 
 -- the input section of a key stayed, as is known, with its bytes in this range of the file
-pub record IsFoundStayedAt (old : GoodLink) (link : KnownLink) (range : SectionKey → Option FileRange)
-    (key : SectionKey)
+pub record IsFoundStayedAt (old : GoodLink) (link : KnownLink) (range : SectionRef → Option FileRange)
+    (key : SectionRef)
     (r : FileRange) : Type 0 where
   -- what is known
   pub known : Some r ≡ range key
@@ -79,7 +79,7 @@ pub record IsFoundStayedAt (old : GoodLink) (link : KnownLink) (range : SectionK
 
 -- nothing is to be evaluated of an object: its sections stayed, as is known and is so, or are not in the output, and no
 -- symbol of it has another value, if one stayed
-pub record NeedsNoEvaluation (old : GoodLink) (link : KnownLink) (range : SectionKey → Option FileRange)
+pub record NeedsNoEvaluation (old : GoodLink) (link : KnownLink) (range : SectionRef → Option FileRange)
     (object : NamedObject)
     : Type 0 where
   pub place : ObjectPlace

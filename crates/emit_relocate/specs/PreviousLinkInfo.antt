@@ -8,7 +8,7 @@ use Rattle.ldmodel.specs.SymbolValues.{SymbolValue, Number, NotDefined, NotInOut
 use Rattle.ldmodel.specs.declared.names.ObjectPlace.{ObjectPlace}
 use Rattle.ldmodel.specs.declared.sections.Part.{Part}
 use Rattle.ldmodel.specs.declared.sections.Part.TheVariants.{InTable}
-use Rattle.ldmodel.specs.declared.sections.SectionKey.{SectionKey}
+use Rattle.ldmodel.specs.declared.sections.SectionRef.{SectionRef}
 use Rattle.emit_relocate.specs.KnownLink.{KnownLink, name_of_object, named_object, start_of}
 use Rattle.emit_relocate.specs.declared.previous_link_info.FileRange.{FileRange}
 
@@ -17,7 +17,7 @@ abbrev pub good_link : KnownLink → GoodLink
 good_link link = record { project = link.project; layout = link.layout }
 
 -- an input section in the output, by its key
-pub record IsPieceOf (link : KnownLink) (key : SectionKey) (piece : LinkedPiece) : Type 0 where
+pub record IsPieceOf (link : KnownLink) (key : SectionRef) (piece : LinkedPiece) : Type 0 where
   pub among : Contains (link_pieces (good_link link)) piece
   pub object_is : piece.object ≡ name_of_object link key.object
   pub part_is : piece.part ≡ key.part
@@ -26,12 +26,12 @@ abbrev pub range_of : FileRange → model.FileRange
 range_of r = record { offset = r.offset; length = r.length }
 
 -- the input section of a key stayed, with its bytes in this range of the file
-abbrev pub HasStayedAt : GoodLink → KnownLink → SectionKey → FileRange → Type 0
+abbrev pub HasStayedAt : GoodLink → KnownLink → SectionRef → FileRange → Type 0
 HasStayedAt old link key r =
     (piece : LinkedPiece) → IsPieceOf link key piece → (has_stayed old piece ≡ true) × (piece.range ≡ range_of r)
 
 -- the input section of a key stayed, as is known and is so
-pub record IsFoundStayed (old : GoodLink) (link : KnownLink) (range : SectionKey → Option FileRange) (key : SectionKey)
+pub record IsFoundStayed (old : GoodLink) (link : KnownLink) (range : SectionRef → Option FileRange) (key : SectionRef)
     : Type 0 where
   -- what is known
   pub known : IsSome (range key)
@@ -39,18 +39,18 @@ pub record IsFoundStayed (old : GoodLink) (link : KnownLink) (range : SectionKey
   pub stayed : IfSome (range key) (HasStayedAt old link key)
 
 -- it is not known to have stayed, and is not in the output
-pub record IsAbsentAt (link : KnownLink) (range : SectionKey → Option FileRange) (key : SectionKey) : Type 0 where
+pub record IsAbsentAt (link : KnownLink) (range : SectionRef → Option FileRange) (key : SectionRef) : Type 0 where
   pub unknown : range key ≡ None
   pub absent : start_of link key ≡ None
 
 -- each section of an object stayed, as is known and is so, or is not in the output
-abbrev pub HasWhollyStayed : GoodLink → KnownLink → (SectionKey → Option FileRange) → ObjectPlace → Type 0
+abbrev pub HasWhollyStayed : GoodLink → KnownLink → (SectionRef → Option FileRange) → ObjectPlace → Type 0
 HasWhollyStayed old link range place =
     (number : SectionIndex) → IsFoundStayed old link range (record { object = place; part = InTable number })
     ⊎ IsAbsentAt link range (record { object = place; part = InTable number })
 
 -- some section of an object is known to have stayed
-abbrev pub HasSomeStayed : (SectionKey → Option FileRange) → ObjectPlace → Type 0
+abbrev pub HasSomeStayed : (SectionRef → Option FileRange) → ObjectPlace → Type 0
 HasSomeStayed range key = (part : Part) × IsSome (range (record { object = key; part = part }))
 
 -- no symbol that a relocation of the object could name has another value
@@ -60,9 +60,9 @@ HasSameValues old link key =
     → site_value old.project old.layout site ≡ site_value link.project link.layout site
 
 -- each section that stayed is known to have stayed
-abbrev pub IsComplete : (SectionKey → Option FileRange) → GoodLink → KnownLink → Type 0
+abbrev pub IsComplete : (SectionRef → Option FileRange) → GoodLink → KnownLink → Type 0
 IsComplete range old link =
-    (key : SectionKey) (piece : LinkedPiece) → range key ≡ None → IsPieceOf link key piece → has_stayed old piece
+    (key : SectionRef) (piece : LinkedPiece) → range key ≡ None → IsPieceOf link key piece → has_stayed old piece
     ≡ false
 
 -- values of symbols are the same; they are compared as what they are, since 0 stands for many things

@@ -14,9 +14,8 @@ use crate::final_scope::FinalScope;
 use crate::symbols_by_name::SymbolsByName;
 use crate::values::Values;
 use emit_text::assertion::assertions;
+use growth::{NoMemory, impossible, vec};
 use ldmodel::fault::{AssertionIndex, Fault};
-use ldmodel::impossible::impossible;
-use ldmodel::memory::NoMemory;
 use ldmodel_laws::layout::layout_by_effects;
 use ldmodel_project::view::ProjectView;
 use ldscript::tree::Assertion;
@@ -56,7 +55,7 @@ fn add_unless_holds(
     }
     match u32::try_from(number) {
         Ok(number) => {
-            faults.push(Fault::AssertionFailed(AssertionIndex(number)))?;
+            vec::push(faults, Fault::AssertionFailed(AssertionIndex(number)))?;
             Ok(())
         }
         // no script is long enough for 2^32 ASSERTs, but no contract says so

@@ -3,8 +3,8 @@
 ghost use Rattle.std.specs.Prelude.{◌≡◌, ◌≤◌, ◌<◌, ◌+◌, ◌-◌, ◌^◌, [], None, OnOk, Some, length};
 ghost use Rattle.slab.specs.Slab.{HasRoomFor, Updates, get, slab_len};
 
-use ldmodel::fault::SiteKey;
-use ldmodel::memory::NoMemory;
+use growth::{NoMemory, slabs};
+use ldmodel::fault::SiteRef;
 use slab::Slab;
 use std::alloc::Global;
 
@@ -12,7 +12,7 @@ use std::alloc::Global;
 #[derive(Drop)]
 pub(crate) struct Bucket {
     /// The sites.
-    pub(crate) sites: Slab<SiteKey>,
+    pub(crate) sites: Slab<SiteRef>,
     /// How many sites are to be added: counted while an object is looked through, and without a meaning after that.
     pub(crate) wanted: usize,
 }
@@ -45,11 +45,11 @@ impl Bucket {
         ensures room { OnOk result (HasRoomFor self.new.sites self.new.wanted) }
     {
         self.wanted += 1;
-        self.sites.reserve(self.wanted)
+        slabs::reserve(&mut self.sites, self.wanted)
     }
 
     /// Adds a site, for which there is room; returns its place, which was free.
-    pub(crate) fn add(&mut self, site: SiteKey) -> usize
+    pub(crate) fn add(&mut self, site: SiteRef) -> usize
         requires { HasRoomFor self.old.sites 1 }
         ensures free { get self.old.sites result ≡ None }
         ensures sites { Updates self.old.sites self.new.sites result (Some site) }

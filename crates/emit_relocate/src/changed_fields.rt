@@ -1,29 +1,30 @@
-//! The fields of input sections that did not stay, in one flat list; those that change in sections that stayed; and the
-//! faults of relocations. Without a previous link these are the fields of all objects.
+//! The fields of input sections that did not stay, in one flat list; those that change in sections that stayed; and
+//! the faults of relocations. Without a previous link these are the fields of all objects.
 
 ghost use Rattle.std.specs.Prelude.{◌≡◌, IfOk, OnOk, Some, [], ◌∷◌, true};
 ghost use Rattle.ldmodel.specs.Project.{NamedObject};
 ghost use Rattle.ldmodel.specs.Stayed.{GoodLink};
 ghost use Rattle.emit_relocate.specs.Changes.{Adds, AreChanged, IsEvaluatedOf, HasAllFields, HasRetargetedFields};
 ghost use Rattle.emit_relocate.specs.Changes.{no_results};
-ghost use Rattle.emit_relocate.specs.Changes.{results_of, section_key};
-ghost use Rattle.emit_relocate.specs.Filled.{EndBelow, IsOrder, ObjectSection, sections_in, sections_of};
+ghost use Rattle.emit_relocate.specs.Changes.{results_of, section_ref};
+ghost use Rattle.emit_relocate.specs.Filled.{EndBelow, ObjectSection, sections_in, sections_of};
 ghost use Rattle.emit_relocate.specs.KnownLink.{KnownLink, named_object};
+ghost use Rattle.emit_relocate.specs.LinkView.{IsLinkView};
 ghost use Rattle.emit_relocate.specs.Links.{AreLinks, IsAtHand, IsFoundStayedAt, NeedsNoEvaluation};
 ghost use Rattle.emit_relocate.specs.PreviousLinkInfo.{HasSameValues, IsFoundStayed};
 ghost use Rattle.emit_relocate.specs.SymbolValues.{HasSymbolValues};
 
 use crate::fields::add_fields;
 use crate::input_section::InputSection;
-use crate::link_info::LinkInfo;
+use crate::link_view::LinkView;
 use crate::previous_link_info::{FileRange, PreviousLinkInfo};
 use crate::retargeted::StayedSection;
 use crate::symbol_values::SymbolValues;
 use elfobj::Object;
 use elfobj::section::LinkedIndex;
 use emit_fields::patch::Patch;
+use growth::{NoMemory, vec};
 use ldmodel::fault::Fault;
-use ldmodel::memory::NoMemory;
 use ldmodel::meter::Meter;
 use ldmodel::names::ObjectPlace;
 use std::alloc::Global;
@@ -44,16 +45,16 @@ pub struct ChangedFields {
 
 /// The link whose relocations are evaluated, with the values of its symbols, and the previous link beside it.
 #[derive_where(Clone, Copy)]
-struct Links<'a, L, E> {
+struct Links<'a, 'p, E> {
     /// The link.
-    link: &'a L,
+    link: &'a LinkView<'a, 'p>,
     /// The previous one.
     previous: &'a E,
     /// The values of the symbols of the link's objects.
     symbols: &'a SymbolValues,
 }
 
-impl<'a, L: LinkInfo, E: PreviousLinkInfo> Links<'a, L, E> {
+impl<'a, 'p, E: PreviousLinkInfo> Links<'a, 'p, E> {
     /// Adds the fields of a section that did not stay; there are none if it is not in the output.
     fn add_all_fields(
         &self,
@@ -63,7 +64,7 @@ impl<'a, L: LinkInfo, E: PreviousLinkInfo> Links<'a, L, E> {
         meter: &mut Meter,
     ) -> Result<(), NoMemory>
         ensures { OnOk result ((old : GoodLink) (link : KnownLink) (s : ObjectSection)
-            → AreLinks L.knows E.knows self.now old link → IsAtHand link section.now s
+            → AreLinks E.knows self.now old link → IsAtHand link section.now s
             → Adds link (HasAllFields link s) (results_of fields.old meter.old) (results_of fields.new meter.new)) }
     {
         // for the prover: brings in that the count of fields fits a u64
@@ -92,9 +93,9 @@ impl<'a, L: LinkInfo, E: PreviousLinkInfo> Links<'a, L, E> {
         meter: &mut Meter,
     ) -> Result<(), NoMemory>
         ensures { OnOk result ((old : GoodLink) (link : KnownLink) (s : ObjectSection)
-            → AreLinks L.knows E.knows self.now old link → IsAtHand link section.now s
-            → IsFoundStayedAt old link (E.range self.now.previous.now) (section_key section.now.place s) range
-            → Adds link (HasRetargetedFields old link (section_key section.now.place s) range s)
+            → AreLinks E.knows self.now old link → IsAtHand link section.now s
+            → IsFoundStayedAt old link (E.range self.now.previous.now) (section_ref section.now.place s) range
+            → Adds link (HasRetargetedFields old link (section_ref section.now.place s) range s)
             (results_of fields.old meter.old) (results_of fields.new meter.new)) }
     {
         // for the prover: brings in that the count of fields fits a u64
@@ -117,21 +118,21 @@ impl<'a, L: LinkInfo, E: PreviousLinkInfo> Links<'a, L, E> {
     /// Whether a section is known to have stayed, and no symbol of its object has another value.
     fn has_same_fields(&self, section: &InputSection<'_>) -> bool
         ensures { result ≡ true → (old : GoodLink) (link : KnownLink) (s : ObjectSection)
-            → AreLinks L.knows E.knows self.now old link → IsAtHand link section.now s
-            → IsFoundStayed old link (E.range self.now.previous.now) (section_key section.now.place s)
+            → AreLinks E.knows self.now old link → IsAtHand link section.now s
+            → IsFoundStayed old link (E.range self.now.previous.now) (section_ref section.now.place s)
             × HasSameValues old link section.now.place }
     {
         if self.previous.is_dirty(section.place) {
             return false;
         }
-        self.previous.has_stayed(section.section_key())
+        self.previous.has_stayed(section.section_ref())
     }
 
     /// Whether there is nothing to evaluate of an object: each section of it that is in the output stayed, and none of
     /// its symbols has another value.
     fn needs_no_evaluation(&self, place: ObjectPlace) -> bool
         ensures { result ≡ true → (old : GoodLink) (link : KnownLink) (object : NamedObject)
-            → AreLinks L.knows E.knows self.now old link → named_object link place ≡ Some object
+            → AreLinks E.knows self.now old link → named_object link place ≡ Some object
             → NeedsNoEvaluation old link (E.range self.now.previous.now) object }
     {
         if self.previous.is_dirty(place) {
@@ -152,7 +153,7 @@ impl<'a, L: LinkInfo, E: PreviousLinkInfo> Links<'a, L, E> {
         meter: &mut Meter,
     ) -> Result<(), NoMemory>
         ensures { OnOk result ((old : GoodLink) (link : KnownLink) (s : ObjectSection)
-            → AreLinks L.knows E.knows self.now old link → IsAtHand link section.now s
+            → AreLinks E.knows self.now old link → IsAtHand link section.now s
             → (needs_none ≡ true → NeedsNoEvaluation old link (E.range self.now.previous.now) s.object)
             → Adds link (IsEvaluatedOf old link (E.range self.now.previous.now) s) (results_of fields.old meter.old)
             (results_of fields.new meter.new)) }
@@ -168,7 +169,7 @@ impl<'a, L: LinkInfo, E: PreviousLinkInfo> Links<'a, L, E> {
         if self.has_same_fields(section) {
             return Ok(());
         }
-        match self.previous.stayed(section.section_key()) {
+        match self.previous.stayed_range(section.section_ref()) {
             None => {
                 self.add_all_fields(alloc, section, fields, meter)?;
                 Ok(())
@@ -190,14 +191,14 @@ impl<'a, L: LinkInfo, E: PreviousLinkInfo> Links<'a, L, E> {
         meter: &mut Meter,
     ) -> Result<(), NoMemory>
         ensures { OnOk result ((old : GoodLink) (link : KnownLink) (s : ObjectSection)
-            → AreLinks L.knows E.knows self.now old link → IsAtHand link section.now s
+            → AreLinks E.knows self.now old link → IsAtHand link section.now s
             → (needs_none ≡ true → NeedsNoEvaluation old link (E.range self.now.previous.now) s.object)
             → AreChanged old link (E.range self.now.previous.now) (s ∷ []) (results_of fields.old meter.old)
             (results_of fields.new meter.new)) }
     {
         self.add_evaluated(alloc, section, needs_none, fields, meter)?;
         let end = fields.patches.len();
-        fields.ends.push(end)?;
+        vec::push(&mut fields.ends, end)?;
         Ok(())
     }
 
@@ -211,7 +212,7 @@ impl<'a, L: LinkInfo, E: PreviousLinkInfo> Links<'a, L, E> {
         meter: &mut Meter,
     ) -> Result<(), NoMemory>
         ensures { OnOk result ((old : GoodLink) (link : KnownLink) (o : NamedObject)
-            → AreLinks L.knows E.knows self.now old link → named_object link place ≡ Some o → o.object ≡ object.now
+            → AreLinks E.knows self.now old link → named_object link place ≡ Some o → o.object ≡ object.now
             → AreChanged old link (E.range self.now.previous.now) (sections_of o object.now.sections)
             (results_of fields.old meter.old) (results_of fields.new meter.new)) }
     {
@@ -225,28 +226,6 @@ impl<'a, L: LinkInfo, E: PreviousLinkInfo> Links<'a, L, E> {
         }
         Ok(())
     }
-
-    /// Adds what there is to evaluate of the object at a place.
-    fn add_object_at(
-        &self,
-        alloc: Global,
-        place: ObjectPlace,
-        fields: &mut ChangedFields,
-        meter: &mut Meter,
-    ) -> Result<(), NoMemory>
-        ensures { OnOk result ((old : GoodLink) (link : KnownLink) (object : NamedObject)
-            → AreLinks L.knows E.knows self.now old link → named_object link place ≡ Some object
-            → AreChanged old link (E.range self.now.previous.now) (sections_of object object.object.sections)
-            (results_of fields.old meter.old) (results_of fields.new meter.new)) }
-    {
-        match self.link.object(place) {
-            None => Ok(()),
-            Some(object) => {
-                self.add_object(alloc, place, object, fields, meter)?;
-                Ok(())
-            }
-        }
-    }
 }
 
 /// How many fields there may be, so that memory for them is taken once: as many as relocations.
@@ -258,24 +237,19 @@ struct Expected {
     retargeted: usize,
 }
 
-/// How many fields there may be of these objects. An object of which no symbol has another value is left out: what
-/// moves has symbols that move.
-fn expected_fields<L: LinkInfo, E: PreviousLinkInfo>(
-    link: &L,
-    previous: &E,
-    objects: &[ObjectPlace],
-) -> Expected {
+/// How many fields there may be of a link. An object of which no symbol has another value is left out: what moves has
+/// symbols that move.
+fn expected_fields<E: PreviousLinkInfo>(link: &LinkView<'_, '_>, previous: &E) -> Expected {
     let mut renewed: usize = 0;
     let mut retargeted: usize = 0;
-    for place in objects {
-        if previous.is_dirty(*place) {
-            if let Some(object) = link.object(*place) {
-                let count = object.count_relocations();
-                if previous.has_wholly_stayed(*place) {
-                    retargeted = retargeted.saturating_add(count);
-                } else {
-                    renewed = renewed.saturating_add(count);
-                }
+    for (place, input) in link.project.inputs().iter().enumerate() {
+        let place = ObjectPlace(place);
+        if previous.is_dirty(place) {
+            let count = input.object.count_relocations();
+            if previous.has_wholly_stayed(place) {
+                retargeted = retargeted.saturating_add(count);
+            } else {
+                renewed = renewed.saturating_add(count);
             }
         }
     }
@@ -285,56 +259,52 @@ fn expected_fields<L: LinkInfo, E: PreviousLinkInfo>(
     }
 }
 
-/// An empty list, with memory for this many fields if it is granted: the list can also grow, and most often fewer fields
-/// change.
+/// An empty list, with memory for this many fields if it is granted: the list can also grow, and most often fewer
+/// fields change.
 fn list_for(alloc: Global, count: usize) -> Vec<Patch>
     ensures { result.items ≡ [] }
 {
-    match Vec::with_capacity(alloc, count) {
+    match vec::with_capacity(alloc, count) {
         Ok(list) => list,
         Err(_refused) => Vec::new(alloc),
     }
 }
 
-/// How many sections these objects have.
-fn count_sections<L: LinkInfo>(link: &L, objects: &[ObjectPlace]) -> usize {
+/// How many sections the objects of a link have.
+fn count_sections(link: &LinkView<'_, '_>) -> usize {
     let mut count: usize = 0;
-    for place in objects {
-        if let Some(object) = link.object(*place) {
-            count = count.saturating_add(object.sections().len());
-        }
+    for input in link.project.inputs() {
+        count = count.saturating_add(input.object.sections().len());
     }
     count
 }
 
 /// Evaluates relocations of input sections in the output: of a section that did not stay, all; of one that stayed,
 /// those whose symbol has another value than in the previous link. Each of these counts as one. The other fields are as
-/// they were. `objects` are the places of the objects, in their order, and `symbols` has the values of their symbols.
+/// they were. `symbols` has the values of the symbols of the link's objects.
 ///
 /// # Errors
 ///
 /// If memory runs out; a table of 2^32 relocations or more, which no object has whose length is within the limit,
 /// counts as that.
-pub fn changed_fields<L: LinkInfo, E: PreviousLinkInfo>(
+pub fn changed_fields<E: PreviousLinkInfo>(
     alloc: Global,
-    link: &L,
+    link: &LinkView<'_, '_>,
     previous: &E,
     symbols: &SymbolValues,
-    objects: &[ObjectPlace],
     meter: &mut Meter,
 ) -> Result<ChangedFields, NoMemory>
-    ensures { IfOk result (λ fields. (old : GoodLink) (known : KnownLink) → L.knows link.now known
-        → E.knows previous.now old known
-        → HasSymbolValues known symbols.now → EndBelow known → IsOrder known objects.now
+    ensures { IfOk result (λ fields. (old : GoodLink) (known : KnownLink) → IsLinkView known link.now
+        → E.knows previous.now old known → HasSymbolValues known symbols.now → EndBelow known
         → AreChanged old known (E.range previous.now) (sections_in known.project.objects) (no_results meter.old)
         (results_of fields meter.new)) }
 {
     // for the prover: brings in that the count of fields fits a u64
     let _fields = meter.fields();
-    let expected = expected_fields(link, previous, objects);
+    let expected = expected_fields(link, previous);
     let mut fields = ChangedFields {
         patches: list_for(alloc, expected.renewed),
-        ends: Vec::with_capacity(alloc, count_sections(link, objects))?,
+        ends: vec::with_capacity(alloc, count_sections(link))?,
         retargeted: list_for(alloc, expected.retargeted),
         faults: Vec::new(alloc),
     };
@@ -343,8 +313,9 @@ pub fn changed_fields<L: LinkInfo, E: PreviousLinkInfo>(
         previous,
         symbols,
     };
-    for place in objects {
-        links.add_object_at(alloc, *place, &mut fields, meter)?;
+    let inputs = link.project.inputs();
+    for (place, input) in inputs.iter().enumerate() {
+        links.add_object(alloc, ObjectPlace(place), input.object, &mut fields, meter)?;
     }
     Ok(fields)
 }

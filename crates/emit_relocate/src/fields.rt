@@ -14,9 +14,8 @@ ghost use Rattle.emit_relocate.specs.Sites.{AreEntriesFrom, IsPlaced, fault_with
 use crate::site::{NoField, PlacedInput, evaluate, fault_of, is_evaluated};
 use elfobj::Relocation;
 use emit_fields::patch::{Patch, in_order};
+use growth::{NoMemory, impossible, vec};
 use ldmodel::fault::Fault;
-use ldmodel::impossible::impossible;
-use ldmodel::memory::NoMemory;
 use ldmodel::meter::Meter;
 use std::alloc::Global;
 
@@ -31,7 +30,7 @@ pub(crate) fn add_fault(
 ) -> Result<(), NoMemory>
     ensures { OnOk result (faults.new.items ≡ faults.old.items ++ fault_with section.now entry reason ∷ []) }
 {
-    faults.push(fault_of(section, entry, reason))?;
+    vec::push(faults, fault_of(section, entry, reason))?;
     Ok(())
 }
 
@@ -107,7 +106,7 @@ pub(crate) fn add_sites(
     // for the prover: brings in that the count of fields fits a u64
     let _fields = meter.fields();
     check_numbers(section.relocations)?;
-    fields.reserve(relocations.len())?;
+    vec::reserve(fields, relocations.len())?;
     for entry in 0..relocations.len() {
         let number = (first + entry) as u32;
         add_site(section, number, &relocations[entry], fields, faults, meter)?;
@@ -150,7 +149,7 @@ fn add_unordered(
     let mut own = Vec::new(alloc);
     add_sites(section, 0, section.relocations, &mut own, faults, meter)?;
     let mut own = in_order(own)?;
-    fields.append(&mut own)?;
+    vec::append(fields, &mut own)?;
     Ok(())
 }
 

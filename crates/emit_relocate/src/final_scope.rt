@@ -29,10 +29,7 @@ impl<'a, 'b> Scope for FinalScope<'a, 'b> {
     ghost meaning = { λ f. meaning_of f };
 
     fn symbol(&self, name: &[u8]) -> Option<u64> {
-        match self.symbols.find(name) {
-            Some(symbol) => symbol.row.value().number(),
-            None => None,
-        }
+        self.symbols.value(name).number()
     }
 
     fn section(&self, name: &[u8]) -> Option<Placed> {

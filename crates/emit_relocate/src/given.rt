@@ -4,7 +4,7 @@
 ghost use Rattle.std.specs.Prelude.{IfOk};
 
 use crate::script_values::ScriptValues;
-use ldmodel::memory::NoMemory;
+use growth::NoMemory;
 use ldmodel_project::view::ProjectView;
 use place::LinkLayout;
 use std::alloc::Global;

@@ -5,7 +5,7 @@ ghost use Rattle.emit_relocate.specs.GivenTable.{HasPlaces, IsGivenTable, IsPut}
 ghost use Rattle.emit_relocate.specs.ScriptValues.{value_in};
 
 use crate::script_values::{ScriptValues, given_name};
-use ldmodel::memory::NoMemory;
+use growth::{NoMemory, vec};
 use std::alloc::Global;
 use symres::SymbolTable;
 
@@ -13,7 +13,7 @@ use symres::SymbolTable;
 fn no_values(alloc: Global, count: usize) -> Result<Vec<Option<u64>>, NoMemory>
     ensures { IfOk result (λ v. v.items ≡ replicate count None) }
 {
-    vec![in alloc; None; count]
+    vec::from_elem(alloc, None, count)
 }
 
 /// Puts a value under the key of a name, if the name has one.

@@ -13,8 +13,8 @@ ghost use Rattle.ldmodel.specs.declared.names.ObjectPlace.{ObjectPlace};
 use crate::bucket::Bucket;
 use crate::sites_of_target::Sites;
 use elfobj::section::SectionIndex;
-use ldmodel::fault::SiteKey;
-use ldmodel::memory::NoMemory;
+use growth::{NoMemory, vec};
+use ldmodel::fault::SiteRef;
 use ldmodel::names::ObjectPlace;
 use std::alloc::Global;
 use std::marker::Model;
@@ -96,7 +96,7 @@ fn grow_targets(targets: &mut Vec<Bucket>, alloc: Global, target: usize) -> Resu
     ensures there { OnOk result (target < length targets.new.items) }
 {
     while targets.len() <= target {
-        targets.push(Bucket::new(alloc))?;
+        vec::push(targets, Bucket::new(alloc))?;
     }
     Ok(())
 }
@@ -161,7 +161,7 @@ fn grow_objects(
     ensures there { OnOk result (object < length objects.new.items) }
 {
     while objects.len() <= object {
-        objects.push(Vec::new(alloc))?;
+        vec::push(objects, Vec::new(alloc))?;
     }
     Ok(())
 }
@@ -177,7 +177,7 @@ fn reserve_object(
     ensures room { OnOk result (count ≤ spot_room objects.new.items object) }
 {
     grow_objects(objects, alloc, object)?;
-    objects[object].reserve(count)?;
+    vec::reserve(&mut objects[object], count)?;
     Ok(())
 }
 
@@ -247,7 +247,7 @@ impl Index {
             object.0 + 1 }
     {
         let target = site.target.0;
-        let place = self.targets[target].add(SiteKey {
+        let place = self.targets[target].add(SiteRef {
             object,
             section: site.section,
             entry: site.entry,

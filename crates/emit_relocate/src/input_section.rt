@@ -7,13 +7,13 @@ ghost use Rattle.ldmodel.specs.Project.{NamedObject};
 ghost use Rattle.emit_relocate.specs.KnownLink.{KnownLink, named_object};
 ghost use Rattle.emit_relocate.specs.SymbolValues.{IsRow};
 
-use crate::link_info::LinkInfo;
+use crate::link_view::LinkView;
 use crate::site::PlacedInput;
 use crate::value::SymbolValue;
 use elfobj::Object;
 use elfobj::section::LinkedIndex;
 use ldmodel::names::ObjectPlace;
-use ldmodel::sections::{Part, SectionKey};
+use ldmodel::sections::{Part, SectionRef};
 
 /// A section of an object.
 #[derive(Clone, Copy)]
@@ -30,8 +30,9 @@ pub struct InputSection<'a> {
 }
 
 impl<'a> InputSection<'a> {
-    ghost use Rattle.emit_relocate.specs.Changes.{section_key};
+    ghost use Rattle.emit_relocate.specs.Changes.{section_ref};
     ghost use Rattle.emit_relocate.specs.Filled.{EndBelow, ObjectSection};
+    ghost use Rattle.emit_relocate.specs.LinkView.{IsLinkView};
     ghost use Rattle.emit_relocate.specs.Links.{IsAtHand, IsPlaceOf};
 
     /// A section of an object. `values` are the values of the object's symbols.
@@ -57,29 +58,29 @@ impl<'a> InputSection<'a> {
     }
 
     /// Its key.
-    pub fn section_key(&self) -> SectionKey
+    pub fn section_ref(&self) -> SectionRef
         ensures { (link : KnownLink) (section : ObjectSection) → IsAtHand link self.now section → result
-            ≡ section_key self.now.place section }
+            ≡ section_ref self.now.place section }
     {
         let section = self.object.sections()[self.index.0];
-        SectionKey {
+        SectionRef {
             object: self.place,
             part: Part::InTable(section.number),
         }
     }
 
     /// Where it is in the output, if it is there.
-    pub fn placed<L: LinkInfo>(&self, link: &L) -> Option<PlacedInput<'a>>
+    pub fn placed(&self, link: &LinkView<'_, '_>) -> Option<PlacedInput<'a>>
         ensures object { IfSome result (λ placed. placed.object ≡ self.now.place) }
         ensures apart { IfSome result (λ placed. AreApart placed.relocations.now) }
         ensures below { IfSome result
             (λ placed. All (λ relocation. placed.start + relocation.offset < 2 ^ 64) placed.relocations.now) }
-        ensures place { (known : KnownLink) (section : ObjectSection) → L.knows link.now known → EndBelow known
+        ensures place { (known : KnownLink) (section : ObjectSection) → IsLinkView known link.now → EndBelow known
             → IsAtHand known self.now section
             → IsPlaceOf known section result }
     {
         let section = self.object.sections()[self.index.0];
-        match link.start(self.section_key()) {
+        match link.start(self.section_ref()) {
             None => None,
             Some(start) => {
                 if u64::MAX - start < section.size {

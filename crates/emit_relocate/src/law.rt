@@ -8,7 +8,7 @@ ghost use Rattle.ldmodel_laws.specs.Untouched.{AreRead, IsGood};
 ghost use Rattle.ldmodel.specs.Relocations.{sites};
 ghost use Rattle.ldmodel.specs.Stayed.{GoodLink, retargeted};
 ghost use Rattle.ldmodel.specs.WorkBound.{sites_outside};
-ghost use Rattle.ldmodel.specs.declared.sections.SectionKey.{SectionKey};
+ghost use Rattle.ldmodel.specs.declared.sections.SectionRef.{SectionRef};
 ghost use Rattle.elfobj.specs.declared.meter.Count.TheVariants.{Fields};
 ghost use Rattle.emit_relocate.specs.Changes.{AreChanged, AreFilled, Results};
 ghost use Rattle.emit_relocate.specs.PreviousLinkInfo.{IsComplete, good_link};
@@ -25,14 +25,14 @@ use ldmodel_laws::stayed::{
 
 /// Where nothing is known to have stayed all is evaluated, as without a previous link.
 pub fn all_is_evaluated()
-    ensures { (old : GoodLink) (link : KnownLink) (range : SectionKey → Option FileRange) (before after : Results)
+    ensures { (old : GoodLink) (link : KnownLink) (range : SectionRef → Option FileRange) (before after : Results)
         → AreChanged old link range (sections_in link.project.objects) before after
-        → ((key : SectionKey) → range key ≡ None) → AreFilled link before after }
+        → ((key : SectionRef) → range key ≡ None) → AreFilled link before after }
 {}
 
 /// Beside a good link the faults that are found are those of all sites: what is not evaluated has none.
 pub fn no_fault_is_missed()
-    ensures { (old : GoodLink) (link : KnownLink) (range : SectionKey → Option FileRange) (before after : Results)
+    ensures { (old : GoodLink) (link : KnownLink) (range : SectionRef → Option FileRange) (before after : Results)
         → AreChanged old link range (sections_in link.project.objects) before after → IsGood old → AreRead link.project
         → IsPlacedOnce link.project link.layout
         → faults_of link after.faults ≡ faults_of link before.faults
@@ -46,7 +46,7 @@ pub fn no_fault_is_missed()
 /// Between good links, if each section that stayed is known to have stayed, exactly those sites count, each once, that
 /// lie outside of what stayed or whose symbol has another value.
 pub fn due_sites_count()
-    ensures { (old : GoodLink) (link : KnownLink) (range : SectionKey → Option FileRange) (before after : Results)
+    ensures { (old : GoodLink) (link : KnownLink) (range : SectionRef → Option FileRange) (before after : Results)
         → AreChanged old link range (sections_in link.project.objects) before after → IsComplete range old link
         → IsGood old
         → IsGood (good_link link) → IsPlacedOnce link.project link.layout
@@ -60,7 +60,7 @@ pub fn due_sites_count()
 
 /// Each patch is the field of a site of an input section that stayed, in its place in the file.
 pub fn patches_are_fields()
-    ensures { (old : GoodLink) (link : KnownLink) (range : SectionKey → Option FileRange) (before after : Results)
+    ensures { (old : GoodLink) (link : KnownLink) (range : SectionRef → Option FileRange) (before after : Results)
         → AreChanged old link range (sections_in link.project.objects) before after → before.patches ≡ []
         → AreOfProfile link.project
         → IsPlacedOnce link.project link.layout → All (IsPatchOfSite old (good_link link)) after.patches }
@@ -72,12 +72,12 @@ pub fn patches_are_fields()
 /// If each section that stayed is known to have stayed, each site in one of them has a patch if its symbol has another
 /// value. It has exactly one if both links are good, and each section with sites has its bytes in the file.
 pub fn patches_are_those_retargeted()
-    ensures all { (old : GoodLink) (link : KnownLink) (range : SectionKey → Option FileRange) (before after : Results)
+    ensures all { (old : GoodLink) (link : KnownLink) (range : SectionRef → Option FileRange) (before after : Results)
         → AreChanged old link range (sections_in link.project.objects) before after → before.patches ≡ []
         → IsComplete range old link
         → AreOfProfile link.project → AreSized (good_link link) → IsPlacedOnce link.project link.layout
         → AreAllPatched old (good_link link) after.patches }
-    ensures exact { (old : GoodLink) (link : KnownLink) (range : SectionKey → Option FileRange) (before after : Results)
+    ensures exact { (old : GoodLink) (link : KnownLink) (range : SectionRef → Option FileRange) (before after : Results)
         → AreChanged old link range (sections_in link.project.objects) before after → before.patches ≡ []
         → IsComplete range old link
         → AreOfProfile link.project → AreInFile (good_link link) → IsGood old → IsGood (good_link link)

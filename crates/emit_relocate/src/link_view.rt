@@ -7,13 +7,14 @@ ghost use Rattle.place.specs.IndexedLayout.{IsIndexedLayout};
 
 use crate::given::GivenValues;
 use crate::given_table::given_table;
-use ldmodel::memory::NoMemory;
+use growth::NoMemory;
 use ldmodel_project::view::ProjectView;
 use place::indexed_layout::IndexedLayout;
 use std::alloc::Global;
 use symres::SymbolTable;
 
-/// A link whose names are resolved and whose parts are placed: what the evaluation of relocations asks (`LinkInfo`).
+/// A link whose names are resolved and whose parts are placed: what the evaluation of relocations asks of it is in
+/// `known`.
 #[derive(Drop)]
 pub struct LinkView<'a, 'p> {
     pub(crate) project: &'a ProjectView<'p>,

@@ -3,13 +3,13 @@
 ghost use Rattle.std.specs.Prelude.{◌≡◌, ◌+◌, ℕ, IfOk, List, Some};
 ghost use Rattle.std.specs.Option.{option_map};
 ghost use Rattle.elfobj.specs.file.declared.constants.TheConstants.{SHN_ABS};
-ghost use Rattle.ldmodel.specs.HandedOver.{decision_of, entry_of};
+ghost use Rattle.ldmodel.specs.CodeValues.{decision_of, entry_of};
 ghost use Rattle.ldmodel.specs.Layout.{Layout, PlacedPiece};
 ghost use Rattle.ldmodel.specs.NameFaults.{object_name};
 ghost use Rattle.ldmodel.specs.Project.{Project};
 ghost use Rattle.ldmodel.specs.SymbolValues.{placed_part, value_or_undefined};
 ghost use Rattle.ldmodel.specs.Tail.{header_of_part};
-ghost use Rattle.ldmodel.specs.declared.sections.SectionKey.{SectionKey as SectionKeyOf};
+ghost use Rattle.ldmodel.specs.declared.sections.SectionRef.{SectionRef as SectionKeyOf};
 ghost use Rattle.place.specs.IndexedLayout.{IsIndexedLayout, IsSectionAddress};
 ghost use Rattle.place.specs.declared.indexed_layout.IndexedLayout.{IndexedLayout as IndexedLayoutOf};
 ghost use Rattle.emit_relocate.specs.KnownLink.{KnownLink};
@@ -22,7 +22,6 @@ ghost use Rattle.emit_relocate.specs.NameRows.{IsPlaceIn, IsPlaceOf};
 ghost use Rattle.emit_relocate.specs.ObjectParts.{AreAddresses, AreSymbols};
 ghost use Rattle.emit_relocate.specs.ObjectTable.{IsObjectTable};
 
-use crate::link_info::LinkInfo;
 use crate::link_view::LinkView;
 use crate::object_parts::ObjectParts;
 use crate::object_table::ObjectTable;
@@ -32,12 +31,11 @@ use elfobj::file::constants::SHN_ABS;
 use elfobj::relocation::SymbolIndex;
 use elfobj::symbol::{Symbol, SymbolKind, SymbolPlace};
 use emit_text::definer::Definer;
-use ldmodel::memory::NoMemory;
+use growth::{NoMemory, impossible};
 use ldmodel::names::{Case, Entry, NameKey, ObjectPlace};
 use ldmodel::placed::OutputIndex;
-use ldmodel::sections::{Part, SectionKey};
+use ldmodel::sections::{Part, SectionRef};
 use place::indexed_layout::{IndexedLayout, SectionAddress};
-use std::alloc::AllocError;
 
 /// What the symbol table says of a symbol of the output, beside its name, its binding and its value.
 #[derive(Clone, Copy, Debug)]
@@ -80,7 +78,7 @@ pub(crate) const OF_SCRIPT: SymbolFacts = SymbolFacts {
 fn header_of(section: OutputIndex) -> Result<u32, NoMemory>
     ensures { IfOk result (λ n. n ≡ section.0 + 1) }
 {
-    section.0.checked_add(1).ok_or(AllocError)
+    section.0.checked_add(1).ok_or(impossible())
 }
 
 /// The number of the header of the output section that holds this place of an input section. Fails if there are 2^32
@@ -193,7 +191,7 @@ fn block_row(
 {
     let object = owner.object;
     let part = Part::InCommon(owner.symbol);
-    let standing = standing_at(indexed_layout.find(SectionKey { object, part }), 0)?;
+    let standing = standing_at(indexed_layout.find(SectionRef { object, part }), 0)?;
     Ok(NameRow {
         value: standing.value,
         facts: SymbolFacts {

@@ -5,13 +5,12 @@ ghost use Rattle.emit_relocate.specs.KnownLink.{AreNameValues, KnownLink};
 ghost use Rattle.emit_relocate.specs.LinkView.{IsLinkView};
 ghost use Rattle.emit_relocate.specs.NameRows.{AreResolved, IsCaseUnder};
 
-use crate::link_info::LinkInfo;
 use crate::link_view::LinkView;
 use crate::name_row::name_row;
 use crate::object_table::ObjectTable;
 use crate::symbol_row::SymbolRow;
 use crate::value::SymbolValue;
-use ldmodel::memory::NoMemory;
+use growth::{NoMemory, vec};
 use ldmodel::names::{Case, NameKey, ObjectPlace};
 use std::alloc::Global;
 
@@ -45,8 +44,8 @@ pub(crate) fn name_rows(alloc: Global, link: &LinkView<'_, '_>) -> Result<NameRo
 {
     let objects = ObjectTable::of(alloc, link)?;
     let limit = link.name_limit();
-    let mut values = Vec::with_capacity(alloc, limit)?;
-    let mut rows = Vec::with_capacity(alloc, limit)?;
+    let mut values = vec::with_capacity(alloc, limit)?;
+    let mut rows = vec::with_capacity(alloc, limit)?;
     for key in 0..limit {
         let case = case_under(link, NameKey(key));
         let row = name_row(link, &objects, case, NameKey(key))?;

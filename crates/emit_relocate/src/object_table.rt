@@ -6,7 +6,7 @@ ghost use Rattle.emit_relocate.specs.ObjectTable.{IsObjectTable};
 
 use crate::link_view::LinkView;
 use crate::object_parts::ObjectParts;
-use ldmodel::memory::NoMemory;
+use growth::{NoMemory, vec};
 use ldmodel::names::ObjectPlace;
 use std::alloc::Global;
 
@@ -28,7 +28,7 @@ impl<'a> ObjectTable<'a> {
         ensures { IfOk result (λ x. IsObjectTable link.now.project.now link.now.indexed_layout.now x) }
     {
         let count = link.project.inputs().len();
-        let mut objects = Vec::with_capacity(alloc, count)?;
+        let mut objects = vec::with_capacity(alloc, count)?;
         for place in 0..count {
             let parts = ObjectParts::of(link.project, link.indexed_layout, ObjectPlace(place));
             objects.push_reserved(parts);

@@ -3,7 +3,7 @@
 ghost use Rattle.std.specs.Prelude.{◌≡◌, Option, IfSome, Some, false, is_some, length, true};
 ghost use Rattle.ldmodel.specs.Project.{NamedObject};
 ghost use Rattle.ldmodel.specs.Stayed.{GoodLink};
-ghost use Rattle.ldmodel.specs.declared.sections.SectionKey.{SectionKey};
+ghost use Rattle.ldmodel.specs.declared.sections.SectionRef.{SectionRef};
 ghost use Rattle.emit_relocate.specs.PreviousLinkInfo.{HasSameValues, HasStayedAt, HasSomeStayed, HasWhollyStayed};
 ghost use Rattle.emit_relocate.specs.KnownLink.{KnownLink, named_object};
 ghost use Rattle.emit_relocate.specs.SymbolValues.{AreValuesOf};
@@ -11,7 +11,7 @@ ghost use Rattle.emit_relocate.specs.declared.previous_link_info.FileRange.{File
 
 use crate::value::SymbolValue;
 use ldmodel::names::ObjectPlace;
-use ldmodel::sections::SectionKey;
+use ldmodel::sections::SectionRef;
 
 /// Bytes of a file.
 #[derive(Clone, Copy, Debug, PartialEq, Eq)]
@@ -29,17 +29,17 @@ pub trait PreviousLinkInfo {
     ghost knows: { Self → GoodLink → KnownLink → Type 0 };
 
     /// Which input sections stayed, as far as is known, and where their bytes stand in the file.
-    ghost range: { Self → SectionKey → Option FileRange };
+    ghost range: { Self → SectionRef → Option FileRange };
 
     /// The bytes in the file of an input section that stayed; an empty range if its output section has no file bytes.
     /// Nothing is said of a section that is not in the output.
-    fn stayed(&self, section: SectionKey) -> Option<FileRange>
+    fn stayed_range(&self, section: SectionRef) -> Option<FileRange>
         ensures range { result ≡ range self.now section }
         ensures stayed { (old : GoodLink) (link : KnownLink) → knows self.now old link
             → IfSome result (HasStayedAt old link section) };
 
-    /// Whether an input section stayed, as far as is known. It costs less than `stayed`.
-    fn has_stayed(&self, section: SectionKey) -> bool
+    /// Whether an input section stayed, as far as is known. It costs less than `stayed_range`.
+    fn has_stayed(&self, section: SectionRef) -> bool
         ensures is { result ≡ is_some (range self.now section) }
         ensures sound { (old : GoodLink) (link : KnownLink) → knows self.now old link
             → IfSome (range self.now section) (HasStayedAt old link section) };

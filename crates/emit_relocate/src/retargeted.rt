@@ -22,9 +22,8 @@ use crate::site::{PlacedInput, evaluate, is_evaluated, site_value};
 use crate::value::SymbolValue;
 use elfobj::relocation::{Relocation, SymbolIndex};
 use emit_fields::patch::Patch;
+use growth::{NoMemory, impossible, vec};
 use ldmodel::fault::Fault;
-use ldmodel::impossible::impossible;
-use ldmodel::memory::NoMemory;
 use ldmodel::meter::Meter;
 
 /// Whether two values are the same. A number is never the same as a missing value.
@@ -60,10 +59,13 @@ fn add_in_file(range: FileRange, field: Patch, patches: &mut Vec<Patch>) -> Resu
         // No file is longer than 2^64 bytes
         return Err(impossible());
     };
-    patches.push(Patch {
-        offset: offset as usize,
-        field: field.field,
-    })?;
+    vec::push(
+        patches,
+        Patch {
+            offset: offset as usize,
+            field: field.field,
+        },
+    )?;
     Ok(())
 }
 

@@ -5,7 +5,7 @@ ghost use Rattle.ldscript.specs.statements.Numbered.{shown_directives};
 ghost use Rattle.emit_relocate.specs.ScriptNames.{all_given, distinct_first, is_repeat, names_given, texts};
 ghost use Rattle.emit_relocate.specs.ScriptNames.{AreScriptNames};
 
-use ldmodel::memory::NoMemory;
+use growth::{NoMemory, vec};
 use ldscript::Script;
 use ldscript::tree::{Directive, DirectiveAt};
 use std::alloc::Global;
@@ -16,7 +16,7 @@ fn add_given<'a>(list: &mut Vec<&'a [u8]>, command: &'a Directive) -> Result<(),
 {
     match command {
         Directive::Assign(assignment) | Directive::Provide(assignment) => {
-            list.push(assignment.name.as_bytes())?;
+            vec::push(list, assignment.name.as_bytes())?;
             Ok(())
         }
         Directive::Assert(_) => Ok(()),
@@ -49,10 +49,10 @@ fn is_repeat(names: &[&[u8]], place: usize) -> bool
 fn distinct<'a>(alloc: Global, names: &[&'a [u8]]) -> Result<Vec<&'a [u8]>, NoMemory>
     ensures { IfOk result (λ list. texts list.items ≡ distinct_first (texts names.now) (length names.now)) }
 {
-    let mut list = Vec::with_capacity(alloc, names.len())?;
+    let mut list = vec::with_capacity(alloc, names.len())?;
     for place in 0..names.len() {
         if !is_repeat(names, place) {
-            list.push(names[place])?;
+            vec::push(&mut list, names[place])?;
         }
     }
     Ok(list)
@@ -67,8 +67,8 @@ pub(crate) fn script_names<'a>(alloc: Global, script: &'a Script) -> Result<Vec<
     ensures { IfOk result (λ list. AreScriptNames script.now (texts list.items)) }
 {
     let commands = script.all_directives(alloc)?;
-    let mut given = Vec::with_capacity(alloc, commands.len())?;
+    let mut given = vec::with_capacity(alloc, commands.len())?;
     add_all_given(&mut given, &commands)?;
-    given.sort_by(|x, y| x.cmp(y))?;
+    vec::sort_by(&mut given, |x, y| x.cmp(y))?;
     distinct(alloc, &given)
 }

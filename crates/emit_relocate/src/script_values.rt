@@ -9,7 +9,7 @@ ghost use Rattle.place.specs.sections.Places.{AreOf};
 ghost use Rattle.place.specs.terms.LayoutSymbols.{AreValuesOf, IsFound};
 ghost use Rattle.emit_relocate.specs.ScriptValues.{AreScriptValues, value_in};
 
-use ldmodel::memory::NoMemory;
+use growth::{NoMemory, vec};
 use ldmodel::script_symbol::ScriptSymbol;
 use ldscript::Script;
 use ldscript::tree::Directive;
@@ -64,7 +64,7 @@ impl<'a> ScriptValues<'a> {
             → AreScriptValues placed values) }
     {
         let commands = script.all_directives(alloc)?;
-        let mut values = vec![in alloc; None; commands.len()]?;
+        let mut values = vec::from_elem(alloc, None, commands.len())?;
         for symbol in placement.symbols() {
             note_value(*symbol, &mut values);
         }

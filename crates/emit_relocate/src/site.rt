@@ -21,7 +21,7 @@ use elfobj::section::{LinkedIndex, SectionIndex};
 use elfobj::{Object, Symbol};
 use emit_fields::field::evaluate::field;
 use emit_fields::patch::Patch;
-use ldmodel::fault::{Fault, SiteKey};
+use ldmodel::fault::{Fault, SiteRef};
 use ldmodel::meter::Meter;
 use ldmodel::names::ObjectPlace;
 
@@ -106,7 +106,7 @@ pub enum NoField {
 pub fn fault_of(section: &PlacedInput<'_>, entry: u32, reason: NoField) -> Fault
     ensures { result ≡ fault_with section.now entry reason }
 {
-    let site = SiteKey {
+    let site = SiteRef {
         object: section.object,
         section: section.section,
         entry,

@@ -5,22 +5,22 @@ ghost use Rattle.std.specs.Iterator.{YieldsFirst, item_count};
 ghost use Rattle.slab.specs.Slab.{values};
 
 use crate::bucket::Bucket;
-use ldmodel::fault::SiteKey;
+use ldmodel::fault::SiteRef;
 use std::iter::FusedIterator;
 use std::marker::Model;
 
 /// The sites of a target that are left, in any order.
 #[derive(Drop)]
 pub struct Sites<'a> {
-    left: Option<slab::Iter<'a, SiteKey>>,
+    left: Option<slab::Iter<'a, SiteRef>>,
 }
 
 impl<'a> Model for Sites<'a> {
     ghost use Rattle.std.specs.Prelude.{List, [], map};
     ghost use Rattle.std.specs.Option.{option_map_or};
-    ghost use Rattle.ldmodel.specs.declared.fault.SiteKey.{SiteKey};
+    ghost use Rattle.ldmodel.specs.declared.fault.SiteRef.{SiteRef};
 
-    ghost Value = { List SiteKey };
+    ghost Value = { List SiteRef };
 
     ghost view = { λ s. option_map_or (map (λ e. e.1)) s.left [] };
 }
@@ -44,13 +44,13 @@ impl<'a> Sites<'a> {
 }
 
 impl<'a> Iterator for Sites<'a> {
-    type Item = SiteKey;
+    type Item = SiteRef;
 
     ghost next_gives = { YieldsFirst (λ left. left) };
 
     ghost remaining = { item_count (λ left. left) };
 
-    fn next(&mut self) -> Option<SiteKey> {
+    fn next(&mut self) -> Option<SiteRef> {
         match &mut self.left {
             None => None,
             Some(left) => match left.next() {

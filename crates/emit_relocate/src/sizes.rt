@@ -5,8 +5,7 @@ ghost use Rattle.emit_relocate.specs.Sizes.{plus_symbol, plus_symbols};
 
 use crate::value::SymbolValue;
 use crate::values::OutputSymbol;
-use ldmodel::memory::NoMemory;
-use std::alloc::AllocError;
+use growth::{NoMemory, impossible};
 
 /// The number of symbols that have a value, and of bytes of their names, each with a zero byte after it.
 #[derive(Clone, Copy, Debug)]
@@ -28,7 +27,7 @@ pub(crate) const NO_SYMBOLS: SymbolSizes = SymbolSizes { count: 0, names: 0 };
 pub fn plus(size: u64, more: u64) -> Result<u64, NoMemory>
     ensures { IfOk result (λ n. n ≡ size + more) }
 {
-    size.checked_add(more).ok_or(AllocError)
+    size.checked_add(more).ok_or(impossible())
 }
 
 /// One more symbol.

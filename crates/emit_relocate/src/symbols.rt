@@ -2,7 +2,7 @@
 
 ghost use Rattle.std.specs.Prelude.{◌≡◌, ◌<◌, ◌≤◌, ◌++◌, ◌∷◌, [], ℕ, All, IfOk, IfSome, List, OnOk, length};
 ghost use Rattle.std.specs.Prelude.{vec_capacity, vec_len};
-ghost use Rattle.ldmodel.specs.HandedOver.{decision_of};
+ghost use Rattle.ldmodel.specs.CodeValues.{decision_of};
 ghost use Rattle.ldmodel.specs.Layout.{Layout, script_value};
 ghost use Rattle.ldmodel.specs.OutputSymbols.{output_symbols};
 ghost use Rattle.ldmodel.specs.Project.{Project};
@@ -26,8 +26,7 @@ use crate::symbol_row::SymbolRow;
 use crate::value::SymbolValue;
 use crate::values::OutputSymbol;
 use emit_text::definer::Definer;
-use ldmodel::impossible::impossible;
-use ldmodel::memory::NoMemory;
+use growth::{NoMemory, impossible, vec};
 use ldmodel::names::{Case, NameKey, ObjectPlace};
 use ldscript::Script;
 use symres::SymbolTable;
@@ -163,7 +162,7 @@ fn add_keyed<'a>(
     ensures sizes { IfOk result (λ t. (project : Project) (layout : Layout) → AreSources project layout sources.now
         → KeepsCount counted t list.old.items list.new.items) }
 {
-    list.reserve(names.len())?;
+    vec::reserve(list, names.len())?;
     let mut sizes = counted;
     for named in names {
         let count = list.len();
@@ -188,7 +187,7 @@ fn add_given<'a>(
     ensures sizes { IfOk result (λ t. (project : Project) (layout : Layout) → AreSources project layout sources.now
         → KeepsCount counted t list.old.items list.new.items) }
 {
-    list.reserve(1)?;
+    vec::reserve(list, 1)?;
     let count = list.len();
     add_unnamed(sources, name, list)?;
     plus_last(counted, list, count)

@@ -1,8 +1,10 @@
 //! The symbols of the output, found by their names.
 
 ghost use Rattle.std.specs.Prelude.{◌≡◌, option_copied};
-ghost use Rattle.emit_relocate.specs.AssertedSymbols.{AreInOrder, found_symbol};
+ghost use Rattle.emit_relocate.specs.AssertedSymbols.{AreInOrder, found_symbol, value_found};
+ghost use Rattle.emit_relocate.specs.Values.{value_of};
 
+use crate::value::SymbolValue;
 use crate::values::OutputSymbol;
 
 /// The symbols of the output, in byte order of their names.
@@ -32,6 +34,16 @@ impl<'a, 'b> SymbolsByName<'a, 'b> {
             Some(symbol)
         } else {
             None
+        }
+    }
+
+    /// The value of a name: one without a symbol has none.
+    pub fn value(&self, name: &[u8]) -> SymbolValue
+        ensures { value_of result ≡ value_found (found_symbol self.now.list.now name.now) }
+    {
+        match self.find(name) {
+            Some(symbol) => symbol.row.value(),
+            None => SymbolValue::NotDefined,
         }
     }
 }

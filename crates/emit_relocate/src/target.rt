@@ -11,12 +11,13 @@ ghost use Rattle.ldmodel.specs.Targets.{target_number, target_of};
 ghost use Rattle.ldmodel.specs.Targets as model;
 ghost use Rattle.emit_relocate.specs.KnownLink.{AreNameValues, IsNameOf, IsSymbolOf, KnownLink, named_target};
 ghost use Rattle.emit_relocate.specs.KnownLink.{value_under};
+ghost use Rattle.emit_relocate.specs.LinkView.{IsLinkView};
 
-use crate::link_info::LinkInfo;
+use crate::link_view::LinkView;
 use crate::value::SymbolValue;
 use elfobj::symbol::{Binding, Symbol, SymbolPlace};
 use ldmodel::names::{NameKey, ObjectPlace};
-use ldmodel::sections::{Part, SectionKey};
+use ldmodel::sections::{Part, SectionRef};
 use ldmodel::target::Target;
 
 /// Whether a symbol is seen in its own object alone.
@@ -56,8 +57,8 @@ fn value_under(values: &[SymbolValue], name: NameKey) -> SymbolValue
 /// The number of a target: the value of a name, which is 0 if it has no number, or the address of a section.
 /// `values` are the values of all names. While the number of a target stays the same, so do the fields of all
 /// relocations against it.
-pub fn target_number<L: LinkInfo>(link: &L, values: &[SymbolValue], target: Target) -> u64
-    ensures { (known : KnownLink) → L.knows link.now known → AreNameValues known values.now
+pub fn target_number(link: &LinkView<'_, '_>, values: &[SymbolValue], target: Target) -> u64
+    ensures { (known : KnownLink) → IsLinkView known link.now → AreNameValues known values.now
         → (referenced : model.Target)
         → named_target known target ≡ Some referenced → result ≡ target_number known.project known.layout referenced }
 {
@@ -65,7 +66,7 @@ pub fn target_number<L: LinkInfo>(link: &L, values: &[SymbolValue], target: Targ
         Target::Name(name) => value_under(values, name).number_or_0(),
         Target::Section(object, section) => {
             let part = Part::InTable(section);
-            link.start(SectionKey { object, part }).unwrap_or(0)
+            link.start(SectionRef { object, part }).unwrap_or(0)
         }
         Target::Fixed => 0,
     }

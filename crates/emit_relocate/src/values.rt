@@ -14,13 +14,12 @@ use crate::given::GivenValues;
 use crate::link_view::LinkView;
 use crate::name_rows::{NameRows, name_rows};
 use crate::script_names::script_names;
-use crate::script_values::ScriptValues;
 use crate::sizes::SymbolSizes;
-use crate::symbol::entry_point;
 use crate::symbol_row::SymbolRow;
 use crate::symbols::{Sources, add_symbols};
+use crate::symbols_by_name::SymbolsByName;
 use crate::value::SymbolValue;
-use ldmodel::memory::NoMemory;
+use growth::{NoMemory, vec};
 use ldmodel_project::view::ProjectView;
 use std::alloc::Global;
 use symres::SymbolTable;
@@ -48,28 +47,22 @@ pub struct Values<'a> {
     ghost ordered: { AreInOrder symbols.items },
 }
 
-/// The value of the entry symbol, which is looked up.
-fn entry_value(
-    project: &ProjectView<'_>,
-    symbol_table: &SymbolTable,
-    given: &ScriptValues<'_>,
-    link: &LinkView<'_, '_>,
-) -> SymbolValue
-    ensures { (layout : Layout) → IsSymbolTable project.now symbol_table.now → AreScriptValues layout given.now
-        → IsLinkView (known_link project.now layout symbol_table.now) link.now
-        → value_of result ≡ entry_point project.now layout }
-{
-    match project.entry_symbol() {
-        None => entry_point(link, None, None),
-        Some(name) => {
-            let case = symbol_table.case_named(project.script(), name);
-            entry_point(link, Some(case), given.value(name))
+impl<'a> Values<'a> {
+    ghost use Rattle.std.specs.Prelude.{map};
+    ghost use Rattle.ldmodel.specs.OutputSymbols.{output_symbols};
+    ghost use Rattle.emit_relocate.specs.LinkValues.{AreValues, shown_symbol};
+
+    /// The value of the entry symbol among the symbols of the output; 0 if there is none.
+    fn entry_value(project: &ProjectView<'_>, symbols: SymbolsByName<'_, '_>) -> SymbolValue
+        ensures { (layout : Layout)
+            → map (shown_symbol project.now) symbols.entry.list.now ≡ output_symbols project.now layout
+            → value_of result ≡ entry_point project.now layout }
+    {
+        match project.entry_symbol() {
+            None => SymbolValue::Number(0),
+            Some(name) => symbols.value(name),
         }
     }
-}
-
-impl<'a> Values<'a> {
-    ghost use Rattle.emit_relocate.specs.LinkValues.{AreValues};
 
     /// The values of the symbols of a link. The names that the script alone gives, and the entry symbol, are looked up.
     ///
@@ -93,9 +86,8 @@ impl<'a> Values<'a> {
         let names = script_names(alloc, script)?;
         // allocated before the rows: the symbols are kept, and the rows are freed
         let count = given.sorted.len().saturating_add(names.len());
-        let mut symbols = Vec::with_capacity(alloc, count)?;
+        let mut symbols = vec::with_capacity(alloc, count)?;
         let NameRows { rows, values } = name_rows(alloc, link)?;
-        let entry = entry_value(project, symbol_table, &given.values, link);
         let sources = Sources {
             script,
             symbol_table,
@@ -103,6 +95,7 @@ impl<'a> Values<'a> {
             given: &given.values,
         };
         let sizes = add_symbols(&sources, &given.sorted, &names, &mut symbols)?;
+        let entry = Values::entry_value(project, SymbolsByName::of(&symbols));
         Ok(Values {
             names: values,
             entry,

@@ -1,5 +1,5 @@
 -- Bytes written one part after another.
-use Rattle.std.proofs.Common.{◌≡◌, ◌∙◌, List, ℕ, [], ◌++◌, ap, append-nil, append_assoc, sym}
+use Rattle.emit_text.proofs.Common.{List, [], ap, append-nil, append_assoc, sym, ℕ, ◌++◌, ◌∙◌, ◌≡◌}
 
 -- what was written is the front of what was still to be written
 pub written_step : (d e x rest whole end : List ℕ) → e ≡ d ++ x → whole ≡ x ++ rest → d ++ whole ≡ end

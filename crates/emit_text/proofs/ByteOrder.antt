@@ -1,7 +1,7 @@
 -- Lists of names in byte order, each name once: such a list is known by its members.
-use Rattle.std.proofs.Common.{◌≡◌, ◌≢◌, ◌<◌, ◌⊎◌, ℕ, zero, suc, Bool, true, false, cond, not, List, [], ◌∷◌, ◌++◌}
-use Rattle.std.proofs.Common.{length, filter, get_or, refl, ap, sym, ◌∙◌, subst, inl, inr, ⊎_elim, arith}
-use Rattle.std.specs.Prelude.{bytes_eq, Contains}
+use Rattle.emit_text.proofs.Common.{Bool, Contains, List, [], ap, arith, bytes_eq, cond, false, filter, get_or, inl}
+use Rattle.emit_text.proofs.Common.{inr, is_before, length, not, refl, subst, suc, sym, true, zero, ℕ, ⊎_elim, ◌++◌}
+use Rattle.emit_text.proofs.Common.{◌<◌, ◌∙◌, ◌∷◌, ◌≡◌, ◌≢◌, ◌⊎◌}
 use Rattle.std.specs.Cmp.Lexicographic.{slice_cmp, nat_list_cmp_total}
 use Rattle.std.specs.Ordering.{is_lt, is_eq, nat_cmp, ordering_reverse}
 use Rattle.std.specs.declared.cmp.Ordering.{Ordering}
@@ -10,7 +10,6 @@ use Rattle.std.proofs.lemmas.Map.Text.{is_eq-slice_cmp}
 use Rattle.std.proofs.lemmas.Slice.Eq.{bytes_eq-Decides}
 use Rattle.std.proofs.lemmas.Bool.{false≢true, true≢false}
 use Rattle.ldmodel.specs.Names.{distinct}
-use Rattle.ldmodel.specs.OutputSymbols.{is_before}
 use Rattle.ldmodel.specs.Sorting.{insert_by, sort_by}
 
 abbrev pub Name : Type 0

@@ -1,8 +1,6 @@
 -- What defines a name says the same of it as how it is resolved.
-use Rattle.std.proofs.Common.{◌≡◌, refl}
+use Rattle.emit_text.proofs.Common.{Project, is_defined, owner, refl, ◌≡◌}
 use Rattle.ldmodel.specs.Names.{Decision, Strong, Script, Common, Weak, Provided, Undefined, Duplicate}
-use Rattle.ldmodel.specs.OutputSymbols.{is_defined, owner}
-use Rattle.ldmodel.specs.Project.{Project}
 use Rattle.emit_text.specs.Definer.{definer_of, defines, owner_in}
 
 pub defines_as : (d : Decision) → defines (definer_of d) ≡ is_defined d

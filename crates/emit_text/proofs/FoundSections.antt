@@ -1,14 +1,11 @@
 -- Where sections stand in the order of their numbers, the one of a number is the first of that number.
-use Rattle.std.proofs.Common.{◌≡◌, ◌≢◌, ◌<◌, ℕ, zero, suc, List, [], ◌∷◌, length, map, get_or, refl, ap, sym}
-use Rattle.std.proofs.Common.{◌∙◌, subst, arith, true, false, cond, ◌==◌, slice_get, Option, Some, None}
-use Rattle.std.specs.Prelude.{AllPairs, All, IfNone, IfSome, MatchOption}
-use Rattle.std.proofs.lemmas.List.{get_or_default}
+use Rattle.emit_text.proofs.Common.{All, AllPairs, IfNone, IfSome, List, MatchOption, None, Option, Section, Some, []}
+use Rattle.emit_text.proofs.Common.{ap, arith, cond, false, get_or, get_or_default, length, map, numbered, refl}
+use Rattle.emit_text.proofs.Common.{slice_get, subst, suc, sym, true, zero, ℕ, ◌<◌, ◌==◌, ◌∙◌, ◌∷◌, ◌≡◌, ◌≢◌}
 use Rattle.elfobj.specs.Numbering.{IsNumberedAt}
 use Rattle.elfobj.specs.declared.section.LinkedIndex.{LinkedIndex}
 use Rattle.elfobj.specs.Sections.{LinkedSection, section_of}
-use Rattle.elfobj.specs.declared.section.Section.{Section}
 use Rattle.elfobj.specs.declared.section.SectionIndex.{SectionIndex}
-use Rattle.emit_text.specs.Naming.{numbered}
 
 abbrev Ascend : List LinkedSection → Type 0
 Ascend xs = AllPairs (λ (s t : Section). s.number.0 < t.number.0) (map section_of xs)

@@ -1,6 +1,6 @@
 -- The 16 hex digits of a number, each made up by four of its bits.
-use Rattle.std.proofs.Common.{◌≡◌, ◌∙◌, ◌<◌, ◌+◌, ◌*◌, ◌/◌, ◌%◌, ◌^◌, ◌++◌, ℕ, zero, suc, List, [], ◌∷◌}
-use Rattle.std.proofs.Common.{Bool, true, false, ap, arith, cond, get_or, map, nat_lt, refl, sym}
+use Rattle.emit_text.proofs.Common.{Bool, List, [], ap, arith, cond, false, get_or, hex, map, nat_lt, refl, suc, sym}
+use Rattle.emit_text.proofs.Common.{true, zero, ℕ, ◌%◌, ◌*◌, ◌++◌, ◌+◌, ◌/◌, ◌<◌, ◌^◌, ◌∙◌, ◌∷◌, ◌≡◌}
 use Rattle.std.proofs.Math.Nat.{div-div-eq-div-mul, mod-mod_of_dvd, mul_comm}
 use Rattle.std.proofs.lemmas.Nat.{and_mask, be_bytes_8}
 use Rattle.std.proofs.lemmas.Nat.Gcd.{dvd_of_mod-eq-zero}
@@ -8,7 +8,7 @@ use Rattle.std.proofs.lemmas.Simd.{get_or_narrower}
 use Rattle.std.specs.Int.{swap_bytes, to_be_bytes, to_le_bytes, w64}
 use lib.Bits.{bit_and}
 use lib.Lanes.{Each1, digits_l, number_l, top}
-use Rattle.ldmodel.specs.Lines.{hex, hex_digit}
+use Rattle.ldmodel.specs.Lines.{hex_digit}
 
 -- what is made of these bits: their number after `0`, and 39 more from ten on, so after what comes ten before `a`
 abbrev made : ℕ → ℕ

@@ -1,4 +1,5 @@
 -- Lemmas of the crate.
+pub mod Common
 pub mod Appending
 pub mod Ends
 pub mod HexDigits

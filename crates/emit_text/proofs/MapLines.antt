@@ -1,9 +1,6 @@
 -- How the map's lines of two names are spelled.
-use Rattle.std.proofs.Common.{◌≡◌, ◌∙◌, ◌∷◌, [], ◌++◌, ap, ℕ, List}
-use Rattle.std.proofs.Common.{append_assoc, append-nil, codes, sym}
-use Rattle.std.specs.Prelude.{Option, Some, None}
-use Rattle.ldmodel.specs.Lines.{hex, line_of}
-use Rattle.emit_text.specs.ShownMap.{value_text}
+use Rattle.emit_text.proofs.Common.{List, None, Option, Some, [], ap, append-nil, append_assoc, codes, hex, line_of}
+use Rattle.emit_text.proofs.Common.{sym, value_text, ℕ, ◌++◌, ◌∙◌, ◌∷◌, ◌≡◌}
 
 abbrev names : (xs ys : List ℕ) → List ℕ
 names xs ys = xs ++ 32 ∷ [] ++ ys ++ 10 ∷ []

@@ -1,10 +1,7 @@
 -- The names of a map's symbols, and what holds of each symbol.
-use Rattle.std.proofs.Common.{◌≡◌, ◌<◌, ℕ, suc, true, List, [], ◌∷◌, length, get_or, sym, subst, inl, inr, arith}
-use Rattle.std.specs.Prelude.{All, AllPairs}
-use Rattle.ldmodel.specs.Each.{Each}
-use Rattle.ldmodel.specs.OutputSymbols.{is_before}
+use Rattle.emit_text.proofs.Common.{All, AllPairs, Each, List, MapSymbol, [], arith, get_or, inl, inr, is_before}
+use Rattle.emit_text.proofs.Common.{length, subst, suc, sym, true, ℕ, ◌<◌, ◌∷◌, ◌≡◌}
 use Rattle.emit_text.specs.MapOf.{symbol_names}
-use Rattle.emit_text.specs.declared.symbols.MapSymbol.{MapSymbol}
 use Rattle.emit_text.proofs.ByteOrder.{Name, lt_from_before, Below, Asc, In}
 
 abbrev n : MapSymbol → Name

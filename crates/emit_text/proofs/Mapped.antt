@@ -1,32 +1,21 @@
 -- The map by the code's values is the map of the link.
-use Rattle.std.proofs.Common.{◌≡◌, ℕ, List, [], ◌∷◌, ◌++◌, drop, filter, flat_map, length, map, refl, ap, sym}
-use Rattle.std.proofs.Common.{◌∙◌, Bool, true, false, cond, Option, codes}
-use Rattle.std.proofs.Common.{append_assoc}
-use Rattle.std.specs.Prelude.{Contains}
-use Rattle.std.specs.Vec.{vec_items}
-use Rattle.ldscript.specs.Numbering.{OutputSectionAt, output_sections}
-use Rattle.ldscript.specs.Numbered.{shown_sections}
-use Rattle.ldmodel.specs.Each.{Each}
+use Rattle.emit_text.proofs.Common.{Bool, Contains, Each, List, MapSymbol, Option, OutputSectionAt, Piece, Project, []}
+use Rattle.emit_text.proofs.Common.{ap, append_assoc, codes, cond, drop, false, filter, flat_map, hex, is_defined}
+use Rattle.emit_text.proofs.Common.{length, line_of, map, output_sections, owner, piece_in, piece_text, pieces_text}
+use Rattle.emit_text.proofs.Common.{refl, section_text, sections_text, shown_map, shown_sections, sym, symbols_text}
+use Rattle.emit_text.proofs.Common.{true, value_text, vec_items, ℕ, ◌++◌, ◌∙◌, ◌∷◌, ◌≡◌}
 use Rattle.ldmodel.specs.Layout.{Layout, PlacedPiece, PlacedOutput}
 use Rattle.ldmodel.specs.PlacementView.{placed_of, starts_of}
-use Rattle.ldmodel.specs.Lines.{line_of, hex}
 use Rattle.ldmodel.specs.MapText.{map_text, entry_line, section_lines, piece_line, symbol_line, value_word}
 use Rattle.ldmodel.specs.Names.{Decision, decision, declared_names}
-use Rattle.ldmodel.specs.OutputSymbols.{OutputSymbol, in_byte_order, is_defined, output_symbol}
-use Rattle.ldmodel.specs.OutputSymbols.{output_symbols, owner}
-use Rattle.ldmodel.specs.Project.{Project}
+use Rattle.ldmodel.specs.OutputSymbols.{OutputSymbol, in_byte_order, output_symbol, output_symbols}
 use Rattle.ldmodel.specs.Rows as model
 use Rattle.ldmodel.specs.SymbolValues.{SymbolValue, Number, NotDefined, NotInOutput, name_value}
-use Rattle.ldmodel.specs.declared.rows.Piece.{Piece}
-use Rattle.ldmodel_project.specs.ByPlace.{piece_in}
 use Rattle.emit_text.specs.Definer.{definer_of, defines, owner_in}
-use Rattle.emit_text.specs.MapOf.{IsMapOf, IsSymbolOf, AreSymbolsOf, IsValue, name_of, name_in, row_of}
-use Rattle.emit_text.specs.MapOf.{symbol_names}
-use Rattle.emit_text.specs.ShownMap.{piece_text, pieces_text, section_text, sections_text, shown_map}
-use Rattle.emit_text.specs.ShownMap.{symbol_text, symbols_text, value_text}
+use Rattle.emit_text.specs.MapOf.{IsMapOf, IsSymbolOf, AreSymbolsOf, IsValue, name_of, name_in, row_of, symbol_names}
+use Rattle.emit_text.specs.ShownMap.{symbol_text}
 use Rattle.emit_text.specs.declared.maps.MapParts.{MapParts}
 use Rattle.emit_text.specs.declared.definer.Definer.{Definer}
-use Rattle.emit_text.specs.declared.symbols.MapSymbol.{MapSymbol}
 use Rattle.emit_text.proofs.Definers.{defines_as, owner_as}
 use Rattle.emit_text.proofs.ByteOrder.{Name, In, Once, contained_in, distinct_once, filtered_asc}
 use Rattle.emit_text.proofs.ByteOrder.{filtered_in, in_contained, in_filtered, in_sorted}

@@ -1,8 +1,6 @@
 -- What is left of a table, entry by entry.
-use Rattle.std.proofs.Common.{◌≡◌, ◌<◌, ◌≤◌, ◌+◌, ℕ, zero, suc, List, [], ◌∷◌, length, map, drop, get_or, refl, ap, sym}
-use Rattle.std.proofs.Common.{◌∙◌, arith, slice_get}
-use Rattle.std.proofs.lemmas.List.{drop_more}
-use Rattle.std.specs.Prelude.{Some}
+use Rattle.emit_text.proofs.Common.{List, Some, [], ap, arith, drop, drop_more, get_or, length, map, refl, slice_get}
+use Rattle.emit_text.proofs.Common.{suc, sym, zero, ℕ, ◌+◌, ◌<◌, ◌∙◌, ◌∷◌, ◌≡◌, ◌≤◌}
 use Rattle.std.proofs.lemmas.Option.{get_or_from_slice_get, slice_get_within}
 
 pub some_left : {X Y : Type 0} (f : X → Y) (xs : List X) (k : ℕ) (x : X) → k < length xs → x ≡ get_or xs k x

@@ -1,7 +1,5 @@
 -- How a line is spelled, word by word.
-use Rattle.std.proofs.Common.{◌≡◌, List, [], ◌∷◌, ◌++◌, map, flat_map, refl, ap}
-use Rattle.ldmodel.specs.Lines.{line_of}
-use Rattle.emit_text.specs.LineWords.{shown, spaced_words}
+use Rattle.emit_text.proofs.Common.{List, [], ap, flat_map, line_of, map, refl, shown, spaced_words, ◌++◌, ◌∷◌, ◌≡◌}
 use Rattle.emit_text.specs.declared.line.Word.{Word}
 
 after_spaces : (ws : List Word) → spaced_words ws ≡ flat_map (λ v. 32 ∷ v) (map shown ws)

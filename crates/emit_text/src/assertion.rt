@@ -5,7 +5,7 @@ ghost use Rattle.ldscript.specs.Numbering.{asserted_by, asserted_in};
 ghost use Rattle.ldscript.specs.Numbered.{shown_directives};
 ghost use Rattle.emit_text.specs.Naming.{shown_assertions};
 
-use ldmodel::memory::NoMemory;
+use growth::{NoMemory, vec};
 use ldscript::tree::{Assertion, Directive, DirectiveAt};
 use std::alloc::Global;
 
@@ -29,7 +29,7 @@ fn add_assertion<'a>(
     match command.command {
         Directive::Assert(assertion) => {
             let line = command.line;
-            list.push(AssertionAt { line, assertion })?;
+            vec::push(list, AssertionAt { line, assertion })?;
             Ok(())
         }
         Directive::Assign(_) | Directive::Provide(_) => Ok(()),

@@ -1,7 +1,7 @@
 //! What defines a name in the output: all that the map and the symbol table need of how the name is resolved.
 
 ghost use Rattle.std.specs.Prelude.{◌≡◌};
-ghost use Rattle.ldmodel.specs.HandedOver.{decision_of};
+ghost use Rattle.ldmodel.specs.CodeValues.{decision_of};
 ghost use Rattle.emit_text.specs.Definer.{defines, definer_of, is_weak};
 
 use ldmodel::names::{Case, ObjectPlace};

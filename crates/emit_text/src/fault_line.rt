@@ -1,4 +1,4 @@
-//! The line of a fault.
+//! How the line of each kind of fault is spelled.
 
 ghost use Rattle.std.specs.Prelude.{◌≡◌, ◌++◌, OnOk, [], ◌∷◌, codes, decimal};
 ghost use Rattle.ldmodel.specs.FaultCode.{definer_of, kind_of, missing_at, name_of_symbol, offset_of, overflow_at};
@@ -12,13 +12,13 @@ use crate::line::{Word, put_line};
 use crate::named::{part_name, relocation, section_name, symbol_name};
 use crate::script_names::ScriptNames;
 use elfobj::relocation::{Relocation, RelocationKind, SymbolIndex};
-use ldmodel::fault::{Definer, Fault, SiteKey};
+use growth::NoMemory;
+use ldmodel::fault::{Definer, Fault, SiteRef};
 use ldmodel::names::{Entry, ObjectPlace};
 use ldmodel_project::view::ProjectView;
-use std::alloc::AllocError;
 
 /// A line of a code and a line of the script.
-fn put_numbered(text: &mut Vec<u8>, code: &[u8], line: u32) -> Result<(), AllocError>
+fn put_numbered(text: &mut Vec<u8>, code: &[u8], line: u32) -> Result<(), NoMemory>
     ensures { OnOk result (text.new.items ≡ text.old.items ++ line_of (code.now ∷ decimal line ∷ [])) }
 {
     put_line(text, &[Word::Bytes(code), Word::Decimal(u128::from(line))])
@@ -30,7 +30,7 @@ fn put_message<'a>(
     code: &'a [u8],
     line: u32,
     message: &'a [u8],
-) -> Result<(), AllocError>
+) -> Result<(), NoMemory>
     ensures { OnOk result (text.new.items ≡ text.old.items ++ line_of (code.now ∷ decimal line ∷ message.now ∷ [])) }
 {
     put_line(
@@ -44,7 +44,7 @@ fn put_message<'a>(
 }
 
 /// A line of a code and two names.
-fn put_names(text: &mut Vec<u8>, code: &[u8], first: &[u8], second: &[u8]) -> Result<(), AllocError>
+fn put_names(text: &mut Vec<u8>, code: &[u8], first: &[u8], second: &[u8]) -> Result<(), NoMemory>
     ensures { OnOk result (text.new.items ≡ text.old.items ++ line_of (code.now ∷ first.now ∷ second.now ∷ [])) }
 {
     put_line(
@@ -71,7 +71,7 @@ fn type_number(kind: RelocationKind) -> u32
 }
 
 /// The relocation of a site; one that does nothing if there is none.
-fn relocation_or_none(project: &ProjectView<'_>, site: SiteKey) -> Relocation
+fn relocation_or_none(project: &ProjectView<'_>, site: SiteRef) -> Relocation
     ensures offset { result.offset ≡ offset_of project.now (place_of (λ key. key) site) }
     ensures symbol { result.symbol.0 ≡ symbol_of project.now (place_of (λ key. key) site) }
     ensures kind { result.kind ≡ kind_of project.now (place_of (λ key. key) site) }
@@ -93,7 +93,7 @@ fn put_duplicate(
     project: &ProjectView<'_>,
     entry: Entry<ObjectPlace>,
     first: Definer,
-) -> Result<(), AllocError>
+) -> Result<(), NoMemory>
     ensures { OnOk result (text.new.items ≡ text.old.items ++ line_of
         (codes "F1" ∷ name_of_symbol project.now entry.object.0 entry.symbol.0 ∷ object_name project.now entry.object.0
         ∷ definer_word (definer_of project.now (λ key. key) first) ∷ [])) }
@@ -115,8 +115,8 @@ fn put_duplicate(
 fn put_undefined(
     text: &mut Vec<u8>,
     project: &ProjectView<'_>,
-    site: SiteKey,
-) -> Result<(), AllocError>
+    site: SiteRef,
+) -> Result<(), NoMemory>
     ensures { OnOk result (text.new.items ≡ text.old.items ++ line_of
         (fault_words (undefined_at project.now (place_of (λ key. key) site)))) }
 {
@@ -135,11 +135,7 @@ fn put_undefined(
 }
 
 /// `F13 OBJECT SECTION OFFSET INDEX`
-fn put_missing(
-    text: &mut Vec<u8>,
-    project: &ProjectView<'_>,
-    site: SiteKey,
-) -> Result<(), AllocError>
+fn put_missing(text: &mut Vec<u8>, project: &ProjectView<'_>, site: SiteRef) -> Result<(), NoMemory>
     ensures { OnOk result (text.new.items ≡ text.old.items ++ line_of
         (fault_words (missing_at project.now (place_of (λ key. key) site)))) }
 {
@@ -160,9 +156,9 @@ fn put_missing(
 fn put_overflow(
     text: &mut Vec<u8>,
     project: &ProjectView<'_>,
-    site: SiteKey,
+    site: SiteRef,
     value: u64,
-) -> Result<(), AllocError>
+) -> Result<(), NoMemory>
     ensures { OnOk result (text.new.items ≡ text.old.items ++ line_of
         (fault_words (overflow_at project.now (place_of (λ key. key) site) value))) }
 {
@@ -187,7 +183,7 @@ pub fn put_fault(
     names: &ScriptNames<'_>,
     project: &ProjectView<'_>,
     fault: Fault,
-) -> Result<(), AllocError>
+) -> Result<(), NoMemory>
     requires { AreNamesOf project.now names.now }
     ensures { OnOk result (text.new.items
         ≡ text.old.items ++ line_of_fault project.now fault) }
@@ -206,10 +202,10 @@ pub fn put_fault(
             put_names(text, b"F7", names.section(section), names.region(region))
         }
         Fault::PastAddressSpace { line } => put_numbered(text, b"F8", line),
-        Fault::AddressesMeet { section, earlier } => {
+        Fault::AddressesOverlap { section, earlier } => {
             put_names(text, b"F9", names.section(section), names.section(earlier))
         }
-        Fault::LoadAddressesMeet { section, earlier } => {
+        Fault::LoadAddressesOverlap { section, earlier } => {
             put_names(text, b"F10", names.section(section), names.section(earlier))
         }
         Fault::ImageTooLong { length } => put_line(

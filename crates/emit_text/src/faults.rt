@@ -1,4 +1,4 @@
-//! The lines of faults.
+//! The text of many faults, with its room; `fault_line` spells each.
 
 ghost use Rattle.std.specs.Prelude.{◌≡◌, ◌++◌, IfOk, OnOk};
 ghost use Rattle.ldmodel.specs.FaultText.{fault_text};
@@ -7,10 +7,10 @@ ghost use Rattle.emit_text.specs.Naming.{AreNamesOf};
 
 use crate::fault_line::put_fault;
 use crate::script_names::ScriptNames;
+use growth::{NoMemory, vec};
 use ldmodel::fault::Fault;
-use ldmodel::memory::NoMemory;
 use ldmodel_project::view::ProjectView;
-use std::alloc::{AllocError, Global};
+use std::alloc::Global;
 
 /// The lines of these faults.
 fn put_faults(
@@ -18,7 +18,7 @@ fn put_faults(
     names: &ScriptNames<'_>,
     project: &ProjectView<'_>,
     faults: &[Fault],
-) -> Result<(), AllocError>
+) -> Result<(), NoMemory>
     requires { AreNamesOf project.now names.now }
     ensures { OnOk result (text.new.items ≡ text.old.items ++ fault_text (faults_in project.now faults.now)) }
 {
@@ -45,7 +45,7 @@ pub fn render_faults(
     requires { AreNamesOf project.now names.now }
     ensures { IfOk result (λ text. text.items ≡ fault_text (faults_in project.now faults.now)) }
 {
-    let mut text = Vec::with_capacity(alloc, faults.len().saturating_mul(FAULT_ROOM))?;
+    let mut text = vec::with_capacity(alloc, faults.len().saturating_mul(FAULT_ROOM))?;
     put_faults(&mut text, names, project, faults)?;
     Ok(text)
 }

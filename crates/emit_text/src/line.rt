@@ -5,8 +5,8 @@ ghost use Rattle.ldmodel.specs.Lines.{line_of};
 ghost use Rattle.emit_text.specs.LineWords.{shown, spaced_words};
 
 use crate::hex::hex_digits;
+use growth::{NoMemory, vec};
 use itoa::Buffer;
-use std::alloc::AllocError;
 
 /// A word of a line.
 #[derive(Clone, Copy, Debug)]
@@ -20,25 +20,25 @@ pub enum Word<'a> {
 }
 
 /// Adds a word of a line.
-fn put_word(text: &mut Vec<u8>, word: Word<'_>) -> Result<(), AllocError>
+fn put_word(text: &mut Vec<u8>, word: Word<'_>) -> Result<(), NoMemory>
     ensures { OnOk result (text.new.items ≡ text.old.items ++ shown word.entry) }
 {
     match word {
-        Word::Bytes(bytes) => text.extend_from_slice(bytes),
+        Word::Bytes(bytes) => vec::extend_from_slice(text, bytes),
         Word::Decimal(number) => {
             let mut buffer = Buffer::new();
-            text.extend_from_slice(buffer.format(number).as_bytes())
+            vec::extend_from_slice(text, buffer.format(number).as_bytes())
         }
-        Word::Hex(number) => text.extend_from_slice(&hex_digits(number)),
+        Word::Hex(number) => vec::extend_from_slice(text, &hex_digits(number)),
     }
 }
 
 /// Each word after a space.
-fn put_others(text: &mut Vec<u8>, words: &[Word<'_>]) -> Result<(), AllocError>
+fn put_others(text: &mut Vec<u8>, words: &[Word<'_>]) -> Result<(), NoMemory>
     ensures { OnOk result (text.new.items ≡ text.old.items ++ spaced_words words.now) }
 {
     for word in words {
-        text.push(b' ')?;
+        vec::push(text, b' ')?;
         put_word(text, *word)?;
     }
     Ok(())
@@ -46,15 +46,15 @@ fn put_others(text: &mut Vec<u8>, words: &[Word<'_>]) -> Result<(), AllocError>
 
 /// A line of these words.
 #[tactic(auto, unfolding(ldmodel::specs::Lines::line_of))]
-pub fn put_line(text: &mut Vec<u8>, words: &[Word<'_>]) -> Result<(), AllocError>
+pub fn put_line(text: &mut Vec<u8>, words: &[Word<'_>]) -> Result<(), NoMemory>
     ensures { OnOk result (text.new.items ≡ text.old.items ++ line_of (map shown words.now)) }
 {
     let Some((first, others)) = words.split_first() else {
-        text.push(b'\n')?;
+        vec::push(text, b'\n')?;
         return Ok(());
     };
     put_word(text, *first)?;
     put_others(text, others)?;
-    text.push(b'\n')?;
+    vec::push(text, b'\n')?;
     Ok(())
 }

@@ -2,7 +2,7 @@
 
 ghost use Rattle.std.specs.Prelude.{◌≡◌, ◌≤◌, ◌++◌, ◌+◌, [], IfOk, OnOk, cond, length, true};
 
-use std::alloc::AllocError;
+use growth::{NoMemory, vec};
 use std::marker::Model;
 
 /// How many bytes are put together at most.
@@ -85,11 +85,11 @@ impl LineBuffer {
     }
 
     /// Adds the bytes to a text, and begins anew. Fails if memory runs out.
-    pub(crate) fn move_to(&mut self, text: &mut Vec<u8>) -> Result<(), AllocError>
+    pub(crate) fn move_to(&mut self, text: &mut Vec<u8>) -> Result<(), NoMemory>
         ensures text { OnOk result (text.new.items ≡ text.old.items ++ self.old) }
         ensures empty { OnOk result (self.new ≡ []) }
     {
-        text.extend_from_slice(&self.bytes[..self.used])?;
+        vec::extend_from_slice(text, &self.bytes[..self.used])?;
         self.used = 0;
         Ok(())
     }
@@ -97,7 +97,7 @@ impl LineBuffer {
     /// Whether there is room for this many bytes more; where there is less, the bytes are first added to a text. Fails
     /// if memory runs out.
     #[inline(always)]
-    pub(crate) fn make_room(&mut self, text: &mut Vec<u8>, count: usize) -> Result<bool, AllocError>
+    pub(crate) fn make_room(&mut self, text: &mut Vec<u8>, count: usize) -> Result<bool, NoMemory>
         ensures same { OnOk result (text.new.items ++ self.new ≡ text.old.items ++ self.old) }
         ensures room { IfOk result (λ has. has ≡ true → length self.new + count ≤ 1024) }
     {
@@ -110,7 +110,7 @@ impl LineBuffer {
 
     /// Adds a part: where there is no room for it, the bytes before it are added to a text, and so is a part that is
     /// longer than any room. Fails if memory runs out.
-    pub(crate) fn append(&mut self, text: &mut Vec<u8>, part: &[u8]) -> Result<(), AllocError>
+    pub(crate) fn append(&mut self, text: &mut Vec<u8>, part: &[u8]) -> Result<(), NoMemory>
         ensures { OnOk result (text.new.items ++ self.new ≡ (text.old.items ++ self.old) ++ part.now) }
     {
         if self.make_room(text, part.len())? {
@@ -118,6 +118,6 @@ impl LineBuffer {
             return Ok(());
         }
         self.move_to(text)?;
-        text.extend_from_slice(part)
+        vec::extend_from_slice(text, part)
     }
 }

@@ -6,15 +6,15 @@ ghost use Rattle.emit_text.specs.ShownMap.{piece_parts, symbol_parts, value_text
 
 use crate::hex::hex_digits;
 use crate::line_buffer::LineBuffer;
-use std::alloc::AllocError;
+use growth::{NoMemory, vec};
 
 /// `entry ADDRESS`
-pub(crate) fn put_entry_line(text: &mut Vec<u8>, entry: u64) -> Result<(), AllocError>
+pub(crate) fn put_entry_line(text: &mut Vec<u8>, entry: u64) -> Result<(), NoMemory>
     ensures { OnOk result (text.new.items ≡ text.old.items ++ line_of (codes "entry" ∷ hex entry ∷ [])) }
 {
-    text.extend_from_slice(b"entry ")?;
-    text.extend_from_slice(&hex_digits(entry))?;
-    text.push(b'\n')?;
+    vec::extend_from_slice(text, b"entry ")?;
+    vec::extend_from_slice(text, &hex_digits(entry))?;
+    vec::push(text, b'\n')?;
     Ok(())
 }
 
@@ -53,15 +53,15 @@ pub(crate) fn put_section_line(
     name: &[u8],
     numbers: SectionNumbers,
     flags: &[u8],
-) -> Result<(), AllocError>
+) -> Result<(), NoMemory>
     ensures { OnOk result (text.new.items ≡ text.old.items ++ line_of
         (codes "section" ∷ name.now ∷ hex numbers.start ∷ hex numbers.load ∷ hex numbers.size ∷ flags.now ∷ [])) }
 {
-    text.extend_from_slice(b"section ")?;
-    text.extend_from_slice(name)?;
-    text.extend_from_slice(&section_numbers(numbers))?;
-    text.extend_from_slice(flags)?;
-    text.push(b'\n')?;
+    vec::extend_from_slice(text, b"section ")?;
+    vec::extend_from_slice(text, name)?;
+    vec::extend_from_slice(text, &section_numbers(numbers))?;
+    vec::extend_from_slice(text, flags)?;
+    vec::push(text, b'\n')?;
     Ok(())
 }
 
@@ -88,7 +88,7 @@ fn put_long_names(
     lines: &mut LineBuffer,
     first: &[u8],
     second: &[u8],
-) -> Result<(), AllocError>
+) -> Result<(), NoMemory>
     ensures { OnOk result (text.new.items ++ lines.new
         ≡ (text.old.items ++ lines.old) ++ (first.now ++ 32 ∷ [] ++ second.now ++ 10 ∷ [])) }
 {
@@ -106,7 +106,7 @@ fn put_long_piece_line(
     size: u64,
     object: &[u8],
     section: &[u8],
-) -> Result<(), AllocError>
+) -> Result<(), NoMemory>
     ensures { OnOk result (text.new.items ++ lines.new
         ≡ (text.old.items ++ lines.old) ++ piece_parts start size object.now section.now) }
 {
@@ -127,7 +127,7 @@ pub(crate) fn put_piece_line(
     size: u64,
     object: &[u8],
     section: &[u8],
-) -> Result<(), AllocError>
+) -> Result<(), NoMemory>
     ensures { OnOk result (text.new.items ++ lines.new
         ≡ (text.old.items ++ lines.old) ++ piece_parts start size object.now section.now) }
 {
@@ -166,7 +166,7 @@ fn put_long_symbol_line(
     value: Option<u64>,
     name: &[u8],
     owner: &[u8],
-) -> Result<(), AllocError>
+) -> Result<(), NoMemory>
     ensures { OnOk result (text.new.items ++ lines.new
         ≡ (text.old.items ++ lines.old) ++ symbol_parts value name.now owner.now) }
 {
@@ -184,7 +184,7 @@ pub(crate) fn put_symbol_line(
     value: Option<u64>,
     name: &[u8],
     owner: &[u8],
-) -> Result<(), AllocError>
+) -> Result<(), NoMemory>
     ensures { OnOk result (text.new.items ++ lines.new
         ≡ (text.old.items ++ lines.old) ++ symbol_parts value name.now owner.now) }
 {

@@ -1,4 +1,4 @@
-//! The map.
+//! The text of the map, from parts that are ready; `emit::map` gathers these parts.
 
 ghost use Rattle.std.specs.Prelude.{◌≡◌, ◌++◌, IfOk, OnOk, map};
 ghost use Rattle.std.specs.Vec.{vec_items};
@@ -12,12 +12,12 @@ use crate::line_buffer::LineBuffer;
 use crate::map_line::{SectionNumbers, put_entry_line, put_piece_line, put_section_line};
 use crate::named::next_part_name;
 use crate::symbols::{MapSymbols, put_symbols};
-use ldmodel::memory::NoMemory;
+use growth::{NoMemory, vec};
 use ldmodel::placed::{Placed, PlacementView};
 use ldmodel::rows::Piece;
 use ldmodel_project::view::ProjectView;
 use ldscript::tree::OutputSectionAt;
-use std::alloc::{AllocError, Global};
+use std::alloc::Global;
 
 /// What the map shows of a link.
 #[derive(Clone, Copy)]
@@ -45,7 +45,7 @@ fn flags(placed: &Placed) -> &'static [u8]
 }
 
 /// `section NAME START LOAD SIZE FLAGS`
-fn put_section(text: &mut Vec<u8>, name: &[u8], placed: &Placed) -> Result<(), AllocError>
+fn put_section(text: &mut Vec<u8>, name: &[u8], placed: &Placed) -> Result<(), NoMemory>
     ensures { OnOk result (text.new.items ≡ text.old.items ++ section_text name.now placed.now) }
 {
     let numbers = SectionNumbers {
@@ -66,7 +66,7 @@ fn put_piece(
     piece: &Piece,
     start: u64,
     likely: usize,
-) -> Result<usize, AllocError>
+) -> Result<usize, NoMemory>
     ensures { OnOk result (text.new.items ++ lines.new
         ≡ (text.old.items ++ lines.old) ++ piece_text project.now piece.now start) }
 {
@@ -82,7 +82,7 @@ fn put_pieces(
     project: &ProjectView<'_>,
     row: &[Piece],
     starts: &[u64],
-) -> Result<(), AllocError>
+) -> Result<(), NoMemory>
     ensures { OnOk result (text.new.items ≡ text.old.items ++ pieces_text project.now row.now starts.now) }
 {
     let mut lines = LineBuffer::new();
@@ -99,7 +99,7 @@ fn put_sections(
     text: &mut Vec<u8>,
     project: &ProjectView<'_>,
     parts: &MapParts<'_>,
-) -> Result<(), AllocError>
+) -> Result<(), NoMemory>
     ensures { OnOk result (text.new.items
         ≡ text.old.items ++ sections_text project.now parts.now.placement.sections.now
         (shown_sections parts.now.sections.now) (map vec_items parts.now.rows.now) parts.now.placement.starts.now) }
@@ -127,7 +127,7 @@ fn put_map<S: MapSymbols>(
     project: &ProjectView<'_>,
     parts: &MapParts<'_>,
     symbols: &S,
-) -> Result<(), AllocError>
+) -> Result<(), NoMemory>
     ensures { OnOk result (text.new.items ≡ text.old.items ++ shown_map project.now parts.now (S.list symbols.now)) }
 {
     put_entry_line(text, parts.entry)?;
@@ -169,7 +169,7 @@ pub fn render_map<S: MapSymbols>(
     ensures { (layout : Layout) → IsMapOf project.now layout parts.now (S.list symbols.now)
         → IfOk result (λ text. text.items ≡ map_text project.now layout) }
 {
-    let mut text = Vec::with_capacity(alloc, likely_size(parts, symbols.count()))?;
+    let mut text = vec::with_capacity(alloc, likely_size(parts, symbols.count()))?;
     put_map(&mut text, project, parts, symbols)?;
     Ok(text)
 }

@@ -7,9 +7,9 @@ ghost use Rattle.emit_text.specs.Naming.{numbered};
 use elfobj::Object;
 use elfobj::relocation::{Relocation, SymbolIndex};
 use elfobj::section::{LinkedIndex, SectionIndex};
-use ldmodel::fault::SiteKey;
+use ldmodel::fault::SiteRef;
 use ldmodel::names::ObjectPlace;
-use ldmodel::sections::{Part, SectionKey};
+use ldmodel::sections::{Part, SectionRef};
 use ldmodel_project::view::ProjectView;
 
 /// The place of a section among those of an object.
@@ -56,7 +56,7 @@ pub fn section_name<'a>(
 }
 
 /// The name of a part of an object; that of a common block is `COMMON`.
-pub fn part_name<'a>(project: &ProjectView<'a>, section: SectionKey) -> &'a [u8]
+pub fn part_name<'a>(project: &ProjectView<'a>, section: SectionRef) -> &'a [u8]
     ensures { result.now ≡ name_of_part project.now section.object.0 section.part }
 {
     match section.part {
@@ -69,7 +69,7 @@ pub fn part_name<'a>(project: &ProjectView<'a>, section: SectionKey) -> &'a [u8]
 /// before it, where the sections of most rows are.
 pub fn next_part_name<'a>(
     project: &ProjectView<'a>,
-    section: SectionKey,
+    section: SectionRef,
     last: usize,
 ) -> (&'a [u8], usize)
     ensures { result.0.now ≡ name_of_part project.now section.object.0 section.part }
@@ -105,7 +105,7 @@ pub fn symbol_name<'a>(
 }
 
 /// The relocation of a site.
-pub fn relocation(project: &ProjectView<'_>, site: SiteKey) -> Option<Relocation>
+pub fn relocation(project: &ProjectView<'_>, site: SiteRef) -> Option<Relocation>
     ensures { result ≡ relocation_at project.now (place_of (λ key. key) site) }
 {
     let Some(object) = project.object(site.object) else {

@@ -7,8 +7,8 @@ ghost use Rattle.emit_text.specs.ShownMap.{symbol_text, symbols_text};
 use crate::definer::Definer;
 use crate::line_buffer::LineBuffer;
 use crate::map_line::put_symbol_line;
+use growth::NoMemory;
 use ldmodel_project::view::ProjectView;
-use std::alloc::AllocError;
 
 /// A name, what defines it, and its value.
 #[derive(Clone, Copy, Debug)]
@@ -57,7 +57,7 @@ fn put_symbol(
     lines: &mut LineBuffer,
     project: &ProjectView<'_>,
     symbol: &MapSymbol<'_>,
-) -> Result<(), AllocError>
+) -> Result<(), NoMemory>
     ensures { OnOk result (text.new.items ++ lines.new ≡ (text.old.items ++ lines.old)
         ++ symbol_text project.now symbol.now) }
 {
@@ -75,7 +75,7 @@ pub(crate) fn put_symbols<S: MapSymbols>(
     text: &mut Vec<u8>,
     project: &ProjectView<'_>,
     symbols: &S,
-) -> Result<(), AllocError>
+) -> Result<(), NoMemory>
     ensures { OnOk result (text.new.items ≡ text.old.items ++ symbols_text project.now (S.list symbols.now)) }
 {
     let mut lines = LineBuffer::new();

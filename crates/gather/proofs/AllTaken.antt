@@ -1,39 +1,20 @@
 -- Sections of which nothing is collected, taken one after the other.
-use Rattle.std.proofs.Common.{◌≡◌, ◌∙◌, ◌<◌, ◌+◌, ◌++◌, ◌∷◌, ℕ, Bool, true, false, not, cond, List, [], append-nil}
-use Rattle.std.proofs.Common.{append_assoc, ap, arith, drop, filter, get_or, length, map, refl, sym, subst, take, ◌≤◌}
-use Rattle.std.proofs.Common.{Option, Some, None}
-use Rattle.std.specs.List.{cons_option, filter_map}
-use Rattle.std.specs.Prelude.{slice_get}
-use Rattle.std.proofs.lemmas.List.{drop_more, map-append, take_more}
-use Rattle.std.proofs.lemmas.List.Elements.{filter-append, filter_map-append}
-use Rattle.ldscript.specs.statements.Numbering.{InputStatementAt, input_statements}
-use Rattle.ldmodel.specs.InputSections.{input_sections, object_inputs}
-use Rattle.ldmodel.specs.Live.{live}
-use Rattle.ldmodel.specs.Gathering.{is_discard, is_discarded}
-use Rattle.ldmodel.specs.Project.{NamedObject, Project}
-use Rattle.ldmodel.specs.declared.names.ObjectPlace.{ObjectPlace}
-use Rattle.ldmodel.specs.declared.options.Orphans.{Orphans}
-use Rattle.ldmodel.specs.declared.rows.InputIndex.{InputIndex}
+use Rattle.gather.proofs.Common.{AreBlocksOf, AreBuckets, AreGathered, Bool, CommonBlock, Facts, GatheredSection}
+use Rattle.gather.proofs.Common.{InputIndex, InputStatementAt, IsAscending, IsMatched, IsTaken, List, Matches}
+use Rattle.gather.proofs.Common.{NamedObject, None, ObjectPlace, Option, Orphans, Project, Some, TakenRun, Takes}
+use Rattle.gather.proofs.Common.{TakesFacts, [], ap, append-nil, append_assoc, arith, block_facts, cond, cons_option}
+use Rattle.gather.proofs.Common.{drop, drop_more, facts, false, filter, filter-append, filter_map, filter_map-append}
+use Rattle.gather.proofs.Common.{gathered, gathered_by, get_or, input_sections, input_statements, is_discarded}
+use Rattle.gather.proofs.Common.{is_out_by, is_out_of, kept_of, length, linked_piece, live, map, map-append, marked}
+use Rattle.gather.proofs.Common.{not, object_inputs, option_map, own_piece, refl, section_of, shown_facts, slice_get}
+use Rattle.gather.proofs.Common.{subst, sym, take, take_more, true, untaken, ℕ, ◌++◌, ◌+◌, ◌<◌, ◌∙◌, ◌∷◌, ◌≡◌, ◌≤◌}
+use Rattle.ldmodel.specs.Gathering.{is_discard}
 use Rattle.ldmodel.specs.declared.rows.Piece as code
-use Rattle.elfobj.specs.Sections.{section_of}
 use Rattle.elfobj.specs.declared.section.Section.{Section}
-use Rattle.gather.specs.Apart.{IsAscending}
-use Rattle.gather.specs.Blocks.{AreBlocksOf}
-use Rattle.gather.specs.GatheredSections.{AreGathered, Facts, as_piece, block_facts, facts}
-use Rattle.gather.specs.GatheredSections.{own_piece, shown_facts, untaken, untaken_by_none}
-use Rattle.gather.specs.LeftOut.{is_out_by, is_out_of, is_placed_by, is_placed_in}
-use Rattle.gather.specs.LiveMarks.{marked}
+use Rattle.gather.specs.GatheredSections.{as_piece, untaken_by_none}
+use Rattle.gather.specs.LeftOut.{is_placed_by, is_placed_in}
 use Rattle.gather.specs.Matches.{number_of}
-use Rattle.gather.specs.ProjectMatches.{IsMatched}
-use Rattle.gather.specs.RowPieces.{AreBuckets}
-use Rattle.gather.specs.Runs.{gathered, gathered_by, linked_piece}
-use Rattle.gather.specs.Taking.{IsTaken, Takes, TakesFacts, kept_of}
-use Rattle.gather.specs.declared.blocks.CommonBlock.{CommonBlock}
-use Rattle.gather.specs.declared.gathered_section.GatheredSection.{GatheredSection}
-use Rattle.gather.specs.declared.matches.Matches.{Matches}
-use Rattle.gather.specs.declared.runs.TakenRun.{TakenRun}
 use Rattle.gather.specs.declared.taking.Taken.{Taken}
-use Rattle.std.specs.Option.{option_map}
 use Rattle.gather.proofs.GatheredLists.{out_are}
 use Rattle.gather.proofs.LivePaths.{kept_are}
 use Rattle.gather.proofs.ObjectFacts.{object_added}

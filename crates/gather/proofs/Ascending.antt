@@ -1,24 +1,15 @@
 -- Input sections ascend: by object, in an object sections before common blocks, and these by their numbers.
-use Rattle.std.proofs.Common.{◌≡◌, ◌<◌, ◌≤◌, ◌+◌, ◌⊎◌, ℕ, zero, suc, Bool, true, false, cond, eqb, List, [], ◌∷◌, ◌++◌}
-use Rattle.std.proofs.Common.{map, refl, ap, sym, ◌∙◌, subst, inl, inr, ⊎_elim, arith, Option, Some, None}
-use Rattle.std.specs.Prelude.{slice_get, flat_map}
-use Rattle.std.specs.List.{All, AllPairs, enumerate_from, filter_map, cons_option}
-use Rattle.std.proofs.lemmas.Bool.{and_parts, eqb-true}
-use Rattle.std.proofs.lemmas.List.{map-append}
-use Rattle.std.proofs.lemmas.List.Concat.{flat_map-cons}
-use Rattle.std.proofs.lemmas.List.Elements.{All-head, All-tail}
-use Rattle.elfobj.specs.Sections.{LinkedSection, section_of}
-use Rattle.elfobj.specs.Symbols.{NamedSymbol}
+use Rattle.gather.proofs.Common.{All, All-head, All-tail, AllPairs, AscendingSections, Bool, Common, Decision}
+use Rattle.gather.proofs.Common.{Duplicate, Entry, InCommon, InTable, InputSection, IsSectionAt, LinkedSection, List}
+use Rattle.gather.proofs.Common.{NamedObject, NamedSymbol, None, Option, Project, Provided, Script, SectionId, Some}
+use Rattle.gather.proofs.Common.{Strong, Undefined, Weak, [], and_parts, ap, arith, block_at, common_blocks, cond}
+use Rattle.gather.proofs.Common.{cons_option, decision, enumerate_from, eqb, eqb-true, false, filter_map, flat_map}
+use Rattle.gather.proofs.Common.{flat_map-cons, inl, input_sections, inr, linked_input, map, map-append, object_inputs}
+use Rattle.gather.proofs.Common.{refl, section_of, slice_get, subst, suc, sym, true, zero, ℕ, ⊎_elim, ◌++◌, ◌+◌, ◌<◌}
+use Rattle.gather.proofs.Common.{◌∙◌, ◌∷◌, ◌≡◌, ◌≤◌, ◌⊎◌}
 use Rattle.elfobj.specs.file.declared.section.Section.{Section}
-use Rattle.ldmodel.specs.InputSections.{block_at, block_of, common_block, common_blocks, input_sections, is_same_entry}
-use Rattle.ldmodel.specs.InputSections.{linked_input, object_inputs}
-use Rattle.ldmodel.specs.Names.{Decision, Entry, Strong, Script, Common, Weak, Provided, Undefined, Duplicate, decision}
-use Rattle.ldmodel.specs.Project.{NamedObject, Project}
-use Rattle.ldmodel.specs.Sections.{InputSection, SectionId}
+use Rattle.ldmodel.specs.InputSections.{block_of, common_block, is_same_entry}
 use Rattle.ldmodel.specs.declared.sections.Part.{Part}
-use Rattle.ldmodel.specs.declared.sections.Part.TheVariants.{InTable, InCommon}
-use Rattle.gather.specs.Apart.{AscendingSections}
-use Rattle.gather.specs.LiveMarks.{IsSectionAt}
 use Rattle.ldmodel_laws.proofs.EachOf.{each_append, each_imply}
 
 -- as a number, sections before blocks

@@ -1,23 +1,15 @@
 -- A section of an object by its header number, and what is asked of it.
-use Rattle.std.proofs.Common.{◌≡◌, ◌∙◌, ◌<◌, ℕ, zero, suc, List, [], ◌∷◌, length, map, find, get_or, ap, sym, subst}
-use Rattle.std.proofs.Common.{arith, refl, Option, Some, None, nat_eq}
-use Rattle.std.specs.Prelude.{slice_get, option_and_then}
-use Rattle.std.specs.List.{All, AllPairs}
-use Rattle.std.specs.Option.{option_map, option_map_or}
-use Rattle.std.proofs.lemmas.Bool.{eq-eqb, ne_eqb}
-use Rattle.std.proofs.lemmas.List.{length-map}
-use Rattle.std.proofs.lemmas.List.Elements.{All-head, All-tail}
-use Rattle.std.proofs.lemmas.Option.{get_or_from_slice_get, same_Some, slice_get-map, slice_get_within}
+use Rattle.gather.proofs.Common.{All, All-head, All-tail, AllPairs, AscendingSections, IsAscending, IsObjectAt}
+use Rattle.gather.proofs.Common.{LinkedSection, List, NamedObject, None, ObjectData, Option, Project, Some, [], ap}
+use Rattle.gather.proofs.Common.{arith, eq-eqb, find, get_or, get_or_from_slice_get, length, length-map, map, nat_eq}
+use Rattle.gather.proofs.Common.{ne_eqb, option_and_then, option_map, option_map_or, refl, same_Some, section_of}
+use Rattle.gather.proofs.Common.{slice_get, slice_get-map, slice_get_within, subst, suc, sym, zero, ℕ, ◌<◌, ◌∙◌, ◌∷◌}
+use Rattle.gather.proofs.Common.{◌≡◌}
 use Rattle.elfobj.specs.Numbering.{IsNumberedAt}
-use Rattle.elfobj.specs.Object.{ObjectData}
-use Rattle.elfobj.specs.Sections.{LinkedSection, section_of}
 use Rattle.elfobj.specs.declared.section.Section.{Section}
 use Rattle.elfobj.specs.declared.section.SectionIndex.{SectionIndex}
-use Rattle.gather.specs.Apart.{AscendingSections, IsAscending}
-use Rattle.gather.specs.Symbols.{IsObjectAt}
 use Rattle.ldmodel.specs.FaultCode.{section_at}
 use Rattle.ldmodel.specs.Image.{section_numbered}
-use Rattle.ldmodel.specs.Project.{NamedObject, Project}
 use Rattle.gather.proofs.InLists.{there}
 
 abbrev Ascend : List LinkedSection → Type 0

@@ -1,28 +1,15 @@
 -- The linked sections of an object by runs.
-use Rattle.std.proofs.Common.{◌≡◌, ◌∙◌, ◌+◌, ◌<◌, ◌≤◌, ℕ, zero, suc, List, [], ◌∷◌, ◌++◌, Option, map, take}
-use Rattle.std.proofs.Common.{drop, length, get_or, set, eqb, cond, ap, sym, refl, arith, subst, ⊎_elim}
-use Rattle.std.proofs.Common.{append_assoc, append-nil, get_or-set_same, get_or-set_other, replicate, Vec, Global}
-use Rattle.std.proofs.Math.ListN.{length-set}
-use Rattle.std.proofs.lemmas.Bool.{cases_eq, eq-eqb, ne_eqb}
-use Rattle.std.proofs.lemmas.List.{drop_all, drop_more, get_or_default, map-append}
-use Rattle.std.proofs.lemmas.List.{replicate-append-replicate, take_more}
-use Rattle.std.proofs.lemmas.List.Concat.{flat_map-cons}
-use Rattle.std.proofs.lemmas.List.Elements.{filter-append}
-use Rattle.elfobj.specs.Sections.{LinkedSection, section_of}
+use Rattle.gather.proofs.Common.{AreBuckets, Facts, GatheredSection, Global, InTable, InputIndex, LinkedSection, List}
+use Rattle.gather.proofs.Common.{NamedObject, ObjectPlace, Option, Project, TakenRun, Vec, [], ap, append-nil}
+use Rattle.gather.proofs.Common.{append_assoc, arith, cases_eq, cond, drop, drop_all, drop_more, eq-eqb, eqb, facts}
+use Rattle.gather.proofs.Common.{filter-append, first_match, flat_map-cons, gathered, gathered_by, get_or}
+use Rattle.gather.proofs.Common.{get_or-set_other, get_or-set_same, get_or_default, length, length-set, linked_input}
+use Rattle.gather.proofs.Common.{linked_piece, map, map-append, ne_eqb, numbers_in, numbers_of, of_statement, refl}
+use Rattle.gather.proofs.Common.{replicate, replicate-append-replicate, section_of, set, shown_facts, subst, suc, sym}
+use Rattle.gather.proofs.Common.{take, take_more, zero, ℕ, ⊎_elim, ◌++◌, ◌+◌, ◌<◌, ◌∙◌, ◌∷◌, ◌≡◌, ◌≤◌}
 use Rattle.elfobj.specs.declared.section.Section.{Section}
-use Rattle.ldmodel.specs.FirstMatch.{first_match}
-use Rattle.ldmodel.specs.InputSections.{linked_input}
-use Rattle.ldmodel.specs.Project.{NamedObject, Project}
-use Rattle.ldmodel.specs.declared.names.ObjectPlace.{ObjectPlace}
-use Rattle.ldmodel.specs.declared.rows.InputIndex.{InputIndex}
 use Rattle.ldmodel.specs.declared.rows.Piece as code
-use Rattle.ldmodel.specs.declared.sections.Part.TheVariants.{InTable}
-use Rattle.gather.specs.GatheredSections.{Facts, facts, shown_facts}
 use Rattle.gather.specs.Matches.{matches_of, number_of}
-use Rattle.gather.specs.RowPieces.{AreBuckets, of_statement}
-use Rattle.gather.specs.Runs.{gathered, gathered_by, linked_piece, numbers_in, numbers_of}
-use Rattle.gather.specs.declared.gathered_section.GatheredSection.{GatheredSection}
-use Rattle.gather.specs.declared.runs.TakenRun.{TakenRun}
 
 -- ---- runs of statements
 

@@ -1,23 +1,11 @@
 -- Common symbols, and the blocks of those between the first and the last.
-use Rattle.std.proofs.Common.{◌≡◌, ◌∙◌, ◌+◌, ◌-◌, ◌<◌, ◌≤◌, ◌⊎◌, inl, inr, ℕ, zero, suc, Bool, true, false}
-use Rattle.std.proofs.Common.{List, [], ◌∷◌, ◌++◌}
-use Rattle.std.proofs.Common.{Option, None, length, get_or, take, ap, sym, refl, arith, add-one, append-nil, ⊎_elim}
-use Rattle.std.specs.Prelude.{option_to_list}
-use Rattle.std.specs.List.{enumerate_from, filter_map}
-use Rattle.std.proofs.Math.Seq.{take-suc}
-use Rattle.std.proofs.lemmas.Bool.{cases_eq, cases_lt}
-use Rattle.std.proofs.lemmas.List.Elements.{filter_map-append}
-use Rattle.std.proofs.lemmas.List.FromFn.{length-enumerate_from}
-use Rattle.std.proofs.lemmas.List.{take_all}
-use Rattle.std.proofs.lemmas.Option.{get_or_from_slice_get}
-use Rattle.elfobj.specs.Object.{ObjectData}
-use Rattle.elfobj.specs.Symbols.{NamedSymbol}
-use Rattle.gather.specs.Commons.{AreCommonsIn}
-use Rattle.gather.specs.Symbols.{IsObjectAt}
+use Rattle.gather.proofs.Common.{AreCommonsIn, Bool, InputSection, IsObjectAt, List, NamedSymbol, None, ObjectData}
+use Rattle.gather.proofs.Common.{Option, Project, [], add-one, ap, append-nil, arith, cases_eq, cases_lt}
+use Rattle.gather.proofs.Common.{enumerate_from, false, filter_map, filter_map-append, get_or, get_or_from_slice_get}
+use Rattle.gather.proofs.Common.{inl, inr, is_common_place, length, length-enumerate_from, option_to_list, refl, suc}
+use Rattle.gather.proofs.Common.{sym, take, take-suc, take_all, true, zero, ℕ, ⊎_elim, ◌++◌, ◌+◌, ◌-◌, ◌<◌, ◌∙◌, ◌∷◌}
+use Rattle.gather.proofs.Common.{◌≡◌, ◌≤◌, ◌⊎◌}
 use Rattle.ldmodel.specs.InputSections as model
-use Rattle.ldmodel.specs.Names.{is_common_place}
-use Rattle.ldmodel.specs.Project.{Project}
-use Rattle.ldmodel.specs.Sections.{InputSection}
 use Rattle.gather.proofs.InLists.{there}
 use Rattle.gather.proofs.Lists.{filter_map_one, numbered}
 use Rattle.gather.proofs.Owning.{owns_none}

@@ -1,21 +1,14 @@
 -- The header numbers of objects, one object after another.
-use Rattle.std.proofs.Common.{◌≡◌, ◌<◌, ◌≤◌, ◌+◌, ◌-◌, ◌⊎◌, inl, inr, ℕ, zero, suc, refl, sym, ap, subst, ◌∙◌, arith}
-use Rattle.std.proofs.Common.{List, [], ◌∷◌, ◌++◌, length, get_or, map, take, Option, Some, None}
-use Rattle.std.proofs.lemmas.Bool.{cases_lt}
-use Rattle.std.proofs.lemmas.List.{get_or-map, get_or_append_left, get_or_past, get_or_push, length-append, length-map}
-use Rattle.std.proofs.lemmas.List.{take_more}
-use Rattle.std.proofs.lemmas.List.Sums.{sum_by_push}
-use Rattle.std.proofs.lemmas.Option.{get_or_from_slice_get, same_Some, slice_get-get_or, slice_get-map}
-use Rattle.std.proofs.lemmas.Option.{slice_get_within}
-use Rattle.std.specs.List.{All, AllPairs, slice_get}
-use Rattle.std.specs.Option.{option_map}
+use Rattle.gather.proofs.Common.{All, AllPairs, LinkedSection, List, NamedObject, None, Option, Project, Slots, Some}
+use Rattle.gather.proofs.Common.{[], ap, arith, cases_lt, get_or, get_or-map, get_or_append_left, get_or_from_slice_get}
+use Rattle.gather.proofs.Common.{get_or_past, get_or_push, inl, inr, length, length-append, length-map, map, option_map}
+use Rattle.gather.proofs.Common.{refl, same_Some, section_of, shown_input, slice_get, slice_get-get_or, slice_get-map}
+use Rattle.gather.proofs.Common.{slice_get_within, subst, suc, sum_by_push, sym, take, take_more, zero, ℕ, ◌++◌, ◌+◌}
+use Rattle.gather.proofs.Common.{◌-◌, ◌<◌, ◌∙◌, ◌∷◌, ◌≡◌, ◌≤◌, ◌⊎◌}
 use Rattle.elfobj.specs.declared.section.Section.{Section}
-use Rattle.elfobj.specs.Sections.{LinkedSection, section_of}
-use Rattle.ldmodel.specs.Project.{NamedObject, Project}
-use Rattle.ldmodel_project.specs.Inputs.{shown_input, shown_inputs}
+use Rattle.ldmodel_project.specs.Inputs.{shown_inputs}
 use Rattle.ldmodel_project.specs.declared.input.InputObject.{InputObject}
 use Rattle.gather.specs.Slots.{AreLaid, AreLinkedBefore, AreLinkedCounted, linked_in, slots_of, no_slots}
-use Rattle.gather.specs.declared.slots.Slots.{Slots}
 
 -- an object whose header numbers are counted is there
 pub inside : (hs : List Slots) (n k : ℕ) → k < (slots_of hs n).count → n < length hs

@@ -1,29 +1,16 @@
 -- Where each word that takes a section passes one of two tests, the first statement that takes it is the lesser of the
 -- first ones by the words of each.
-use Rattle.std.proofs.Common.{◌≡◌, ◌≤◌, ◌+◌, ℕ, Bool, true, false, cond, ◌&&◌, ◌||◌, List, [], ◌∷◌, ◌++◌, filter, min}
-use Rattle.std.proofs.Common.{refl, ap, sym, ◌∙◌, subst, arith, Option, Some, None, eqb}
-use Rattle.std.specs.Prelude.{bytes_eq}
-use Rattle.std.specs.List.{list_any, position_from}
-use Rattle.std.specs.Option.{IfSome, option_map, option_map_or, is_none}
-use Rattle.std.proofs.lemmas.Bool.{false≢true, and_parts, eqb-true}
-use Rattle.std.proofs.lemmas.Slice.Eq.{bytes_eq-Decides}
+use Rattle.gather.proofs.Common.{AreTablesOf, Bool, FileTables, IfSome, Input, InputStatementAt, LinkedSection, List}
+use Rattle.gather.proofs.Common.{None, Option, SectionWord, Some, Statement, WordAt, [], and_parts, ap, arith, bytes_eq}
+use Rattle.gather.proofs.Common.{bytes_eq-Decides, cond, eqb, eqb-true, exact_name, false, false≢true, filter, first_in}
+use Rattle.gather.proofs.Common.{first_match, first_taker, input_statements, is_for, is_for_more, is_named, is_none}
+use Rattle.gather.proofs.Common.{is_wild, lesser, list_any, matches_by, min, option_map, option_map_or, own_wild}
+use Rattle.gather.proofs.Common.{position_from, refl, shown_listed, shown_words, subst, sym, takes, takes_by, true}
+use Rattle.gather.proofs.Common.{word_takes, words_from, words_of, ℕ, ◌&&◌, ◌++◌, ◌+◌, ◌||◌, ◌∙◌, ◌∷◌, ◌≡◌, ◌≤◌}
 use Rattle.std.proofs.lemmas.Iterator.Adapters.{position_from-zero}
 use Rattle.ldscript.specs.terms.Parts.{Part, AnyRun, AnyByte, Byte, OneOf}
 use Rattle.ldscript.specs.terms.Matching.{is_match}
-use Rattle.ldscript.specs.terms.CodeTerms.{exact_name}
-use Rattle.ldscript.specs.statements.Numbering.{InputStatementAt, input_statements}
-use Rattle.ldscript.specs.statements.declared.input.Input.{Input}
-use Rattle.ldscript.specs.statements.declared.input.SectionWord.{SectionWord}
-use Rattle.ldscript.specs.statements.declared.statement.Statement.{Statement}
-use Rattle.ldmodel.specs.FirstMatch.{first_match, word_takes, takes}
-use Rattle.elfobj.specs.Sections.{LinkedSection}
-use Rattle.gather.specs.FileSearches.{matches_by}
-use Rattle.gather.specs.FileTables.{AreTablesOf, first_in, own_wild}
 use Rattle.gather.specs.Matches.{matches_of}
-use Rattle.gather.specs.Words.{WordAt, takes_by, first_taker, is_for, is_for_more, is_named, is_wild, lesser}
-use Rattle.gather.specs.Words.{shown_words, words_of, words_from}
-use Rattle.gather.specs.WordTables.{shown_listed}
-use Rattle.gather.specs.declared.file_tables.FileTables.{FileTables}
 
 -- a pattern of bytes alone matches its name alone
 exact_only : (ps : List Part) (name q : List ℕ) → exact_name ps ≡ Some q → is_match ps name ≡ true → name ≡ q

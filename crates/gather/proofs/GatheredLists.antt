@@ -1,38 +1,19 @@
 -- What holds of gathered sections, as of the input sections that they stand for.
-use Rattle.std.proofs.Common.{◌≡◌, ◌<◌, ◌+◌, ℕ, Bool, true, false, cond, List, [], ◌∷◌, ◌++◌, length, filter, map}
-use Rattle.std.proofs.Common.{get_or, drop, ltb, refl, ap, sym, ◌∙◌, subst, arith, Option, Some, None, ◌≤◌, zero, suc}
-use Rattle.std.proofs.Common.{append_assoc, append-nil, ⊎_elim, Vec, Global}
-use Rattle.std.specs.Prelude.{Err, Ok, OnOk, Result, slice_get, option_and_then}
-use Rattle.std.specs.List.{All, filter_map, cons_option, position, position_or_len}
-use Rattle.std.specs.Option.{option_map, is_none}
-use Rattle.std.proofs.lemmas.Bool.{cases_lt, ltb-true}
-use Rattle.std.proofs.lemmas.List.{drop_more, drop_all, get_or_default, get_or_past}
-use Rattle.std.proofs.lemmas.List.Elements.{All-head, All-tail, filter_map-append}
-use Rattle.ldscript.specs.statements.Numbering.{InputStatementAt, input_statements}
-use Rattle.ldscript.specs.statements.declared.statement.Statement.{Statement}
-use Rattle.ldmodel.specs.FaultCode.{name_of_part}
-use Rattle.ldmodel.specs.FirstMatch.{first_match, takes}
-use Rattle.ldmodel.specs.Gathering.{is_discarded, is_out_under, taken_by}
-use Rattle.ldmodel.specs.HandedOver.{section_id}
-use Rattle.ldmodel.specs.InputSections.{input_sections}
-use Rattle.ldmodel.specs.Live.{live, orphans}
-use Rattle.ldmodel.specs.NameFaults.{object_name}
-use Rattle.ldmodel.specs.Project.{Project}
+use Rattle.gather.proofs.Common.{All, All-head, All-tail, AreBuckets, AreGathered, Bool, Err, Facts, GatheredSection}
+use Rattle.gather.proofs.Common.{Global, InputIndex, InputSection, InputStatementAt, IsFound, List, None, Ok, OnOk}
+use Rattle.gather.proofs.Common.{Option, Project, Result, SectionRef, Some, Statement, Vec, [], ap, append-nil}
+use Rattle.gather.proofs.Common.{append_assoc, arith, cases_lt, cond, cons_option, drop, drop_all, drop_more, facts}
+use Rattle.gather.proofs.Common.{false, filter, filter_map, filter_map-append, first_match, get_or, get_or_default}
+use Rattle.gather.proofs.Common.{get_or_past, input_sections, input_statements, is_discarded, is_none, is_out_by}
+use Rattle.gather.proofs.Common.{is_out_of, length, live, ltb, ltb-true, map, marked, name_of_part, object_name}
+use Rattle.gather.proofs.Common.{option_and_then, option_map, orphans, own_piece, piece_in, position, position_or_len}
+use Rattle.gather.proofs.Common.{refl, section_id, shown_facts, slice_get, subst, suc, sym, taken_by, taken_in}
+use Rattle.gather.proofs.Common.{taken_piece, takes, true, untaken, zero, ℕ, ⊎_elim, ◌++◌, ◌+◌, ◌<◌, ◌∙◌, ◌∷◌, ◌≡◌, ◌≤◌}
+use Rattle.ldmodel.specs.Gathering.{is_out_under}
 use Rattle.ldmodel.specs.Rows.{Piece, piece_of}
-use Rattle.ldmodel.specs.Sections.{InputSection}
-use Rattle.ldmodel.specs.declared.rows.InputIndex.{InputIndex}
 use Rattle.ldmodel.specs.declared.rows.Piece as code
-use Rattle.ldmodel.specs.declared.sections.SectionKey.{SectionKey}
-use Rattle.ldmodel_project.specs.ByPlace.{piece_in}
-use Rattle.gather.specs.Found.{IsFound}
-use Rattle.gather.specs.GatheredSections.{AreGathered, Facts, as_piece, facts, own_piece, shown_facts, taken_in}
-use Rattle.gather.specs.GatheredSections.{untaken}
-use Rattle.gather.specs.GatheredSections.{untaken_by_none}
-use Rattle.gather.specs.LeftOut.{is_out_by, is_out_of}
-use Rattle.gather.specs.LiveMarks.{marked}
+use Rattle.gather.specs.GatheredSections.{as_piece, untaken_by_none}
 use Rattle.gather.specs.Matches.{number_of}
-use Rattle.gather.specs.RowPieces.{AreBuckets, taken_piece}
-use Rattle.gather.specs.declared.gathered_section.GatheredSection.{GatheredSection}
 use Rattle.gather.proofs.Named.{all_found}
 
 map_again : {X Y Z : Type 0} (g : Y → Z) (f : X → Y) (xs : List X) → map (λ x. g (f x)) xs ≡ map g (map f xs)
@@ -237,7 +218,7 @@ orphans_in p (b ∷ bs) (x ∷ xs) (s ∷ ss) e =
         ∙ sym (within_or_none p.script s.object s.name)) (ap (λ (f : Facts). f.id) h) rest
         ∙ ap (λ q. map (λ (s : InputSection). s.id) (cond (is_none (taken_by p s)) (s ∷ q) q)) is
 
-pub orphans_are : (p : Project) (marks : List Bool) (xs : List GatheredSection) (found : List SectionKey)
+pub orphans_are : (p : Project) (marks : List Bool) (xs : List GatheredSection) (found : List SectionRef)
     → found ≡ filter_map untaken (marked marks xs) → AreGathered p xs → marked marks (input_sections p) ≡ live p
     → map (section_id (λ key. key)) found ≡ map (λ (s : InputSection). s.id) (orphans p)
 unfolding orphans

@@ -1,8 +1,6 @@
 -- Members of lists and of filtered lists, and marks beside a list.
-use Rattle.std.proofs.Common.{◌≡◌, ◌<◌, ℕ, zero, suc, Bool, true, false, cond, ◌&&◌, List, [], ◌∷◌, length, filter}
-use Rattle.std.proofs.Common.{refl, ap, ◌∙◌, arith, Some}
-use Rattle.std.specs.Prelude.{slice_get, slice_index_or}
-use Rattle.gather.specs.LiveMarks.{marked}
+use Rattle.gather.proofs.Common.{Bool, List, Some, [], ap, arith, cond, false, filter, length, marked, refl, slice_get}
+use Rattle.gather.proofs.Common.{slice_index_or, suc, true, zero, ℕ, ◌&&◌, ◌<◌, ◌∙◌, ◌∷◌, ◌≡◌}
 
 -- what stands at a place of a list
 pub there : {X : Type 0} (xs : List X) (i : ℕ) → i < length xs → (x : X) × (slice_get xs i ≡ Some x)

@@ -1,22 +1,11 @@
 -- The numbers of the sections that are kept.
-use Rattle.std.proofs.Common.{◌≡◌, ◌+◌, ◌⊎◌, ◌↔◌, ℕ, zero, suc, Bool, true, false, cond, List, [], ◌∷◌, ◌++◌}
-use Rattle.std.proofs.Common.{map, refl, ap, sym, ◌∙◌, subst, inl, inr, ⊎_elim, arith, Option}
-use Rattle.std.proofs.Common.{Some, None, append-nil}
-use Rattle.std.specs.Prelude.{slice_get, IsTrue, option_to_list}
-use Rattle.std.specs.List.{Contains}
-use Rattle.std.proofs.lemmas.List.Elements.{Contains-push, Contains-push_cases, Contains-append_left}
-use Rattle.ldscript.specs.statements.Numbering.{InputStatementAt, input_statements}
-use Rattle.ldmodel.specs.FirstMatch.{first_match}
-use Rattle.ldmodel.specs.Gathering.{taken_by}
-use Rattle.ldmodel.specs.InputSections.{input_sections}
-use Rattle.ldmodel.specs.Live.{is_kept}
-use Rattle.ldmodel.specs.Project.{Project}
-use Rattle.ldmodel.specs.Sections.{InputSection}
-use Rattle.gather.specs.GatheredSections.{AreGathered, Facts, facts, shown_facts}
-use Rattle.gather.specs.LiveMarks.{IsSectionAt}
+use Rattle.gather.proofs.Common.{AreGathered, Bool, Contains, Contains-append_left, Contains-push, Contains-push_cases}
+use Rattle.gather.proofs.Common.{Facts, GatheredSection, InputSection, InputStatementAt, IsSectionAt, IsTrue, List}
+use Rattle.gather.proofs.Common.{None, Option, Project, Some, [], ap, append-nil, arith, cond, facts, false}
+use Rattle.gather.proofs.Common.{first_match, inl, input_sections, input_statements, inr, is_kept, is_kept_by}
+use Rattle.gather.proofs.Common.{kept_numbers, map, option_to_list, refl, shown_facts, slice_get, subst, suc, sym}
+use Rattle.gather.proofs.Common.{taken_by, true, zero, ℕ, ⊎_elim, ◌++◌, ◌+◌, ◌↔◌, ◌∙◌, ◌∷◌, ◌≡◌, ◌⊎◌}
 use Rattle.gather.specs.Matches.{number_of}
-use Rattle.gather.specs.Roots.{is_kept_by, kept_numbers}
-use Rattle.gather.specs.declared.gathered_section.GatheredSection.{GatheredSection}
 use Rattle.ldmodel_laws.proofs.Members.{here, later, first_or_later, none_in_nil}
 
 module _ (statements : List InputStatementAt) where

@@ -1,25 +1,12 @@
 -- Columns of places under the keys of names.
-use Rattle.std.proofs.Common.{◌≡◌, ◌∙◌, ◌<◌, ◌≤◌, ◌+◌, ◌++◌, ◌∷◌, [], ℕ, List, length, get_or, ap, sym, subst}
-use Rattle.std.proofs.Common.{arith, Bool, false, cond, Option, Some, None, ⊎_elim}
-use Rattle.std.specs.Prelude.{option_and_then}
-use Rattle.std.specs.Option.{option_map}
-use Rattle.std.proofs.lemmas.Bool.{cases_lt}
-use Rattle.std.proofs.lemmas.List.{get_or_append_left, get_or_past, get_or-append-add}
-use Rattle.std.proofs.lemmas.List.{length-append}
-use Rattle.elfobj.specs.Object.{ObjectData}
-use Rattle.elfobj.specs.Symbols.{NamedSymbol}
-use Rattle.ldmodel.specs.HandedOver.{decision_of, section_id}
-use Rattle.ldmodel.specs.Live.{section_of_decision, section_of_place, section_of_symbol}
-use Rattle.ldmodel.specs.Names.{decision, is_local}
-use Rattle.ldmodel.specs.Project.{Project}
-use Rattle.ldmodel.specs.Sections.{SectionId}
-use Rattle.ldmodel.specs.declared.names.Case.{Case}
-use Rattle.ldmodel.specs.declared.names.ObjectPlace.{ObjectPlace}
-use Rattle.ldmodel.specs.declared.sections.SectionKey.{SectionKey}
-use Rattle.symres.specs.Decided.{HasCase, case_at}
+use Rattle.gather.proofs.Common.{AreKeyPlaces, AreProjectPlaces, Bool, Case, HasCase, IsCaseOf, IsObjectAt, IsPlaceOf}
+use Rattle.gather.proofs.Common.{List, NamedSymbol, None, ObjectData, ObjectPlace, Option, Project, SectionId}
+use Rattle.gather.proofs.Common.{SectionRef, Some, [], ap, arith, case_at, cases_lt, cond, decision, decision_of, false}
+use Rattle.gather.proofs.Common.{get_or, get_or-append-add, get_or_append_left, get_or_past, is_local, length}
+use Rattle.gather.proofs.Common.{length-append, option_and_then, option_map, place_at, section_id, section_of_decision}
+use Rattle.gather.proofs.Common.{section_of_place, section_of_symbol, subst, sym, ℕ, ⊎_elim, ◌++◌, ◌+◌, ◌<◌, ◌∙◌, ◌∷◌}
+use Rattle.gather.proofs.Common.{◌≡◌, ◌≤◌}
 use Rattle.symres.specs.SymbolTable.{IsNameAt, IsSymbolTable, SymbolTableState}
-use Rattle.gather.specs.SectionPlaces.{AreKeyPlaces, AreProjectPlaces, IsPlaceOf, place_at}
-use Rattle.gather.specs.Symbols.{IsCaseOf, IsObjectAt}
 use Rattle.gather.proofs.Keyed.{place_of_key}
 use Rattle.gather.proofs.Seen.{case_is}
 
@@ -38,8 +25,8 @@ pub none_below : (p : Project) (a : SymbolTableState) (column : List (Option ℕ
 none_below p a column empty = record { long = ap length empty; are = λ k c low. absurd (omega (arith, low)) }
 
 -- one key more
-module _ (p : Project) (a : SymbolTableState) (n : ℕ) (column new : List (Option ℕ)) (place : SectionKey → Option ℕ)
-    (key : Option SectionKey) (number : Option ℕ) (are : AreProjectPlaces p place)
+module _ (p : Project) (a : SymbolTableState) (n : ℕ) (column new : List (Option ℕ)) (place : SectionRef → Option ℕ)
+    (key : Option SectionRef) (number : Option ℕ) (are : AreProjectPlaces p place)
     (same : option_map (section_id (λ key. key)) key
     ≡ option_and_then (section_of_decision p) (option_map (decision_of (λ key. key)) (case_at a.cases n)))
     (is : number ≡ option_and_then place key) (pushed : new ≡ column ++ number ∷ [])

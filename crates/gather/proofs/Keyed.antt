@@ -1,26 +1,15 @@
 -- Input sections of a project under their keys.
-use Rattle.std.proofs.Common.{◌≡◌, ◌∙◌, ◌<◌, ℕ, true, eqb, List, length, get_or, map, ap, sym}
-use Rattle.std.proofs.Common.{subst, arith, refl, Option, Some, None}
-use Rattle.std.specs.Prelude.{Contains, IsSome, option_and_then}
-use Rattle.std.specs.Option.{option_map}
-use Rattle.std.proofs.lemmas.Bool.{and_parts, and_from, eqb-true, eq-eqb}
-use Rattle.std.proofs.lemmas.List.{length-map, get_or-map, get_or_default}
-use Rattle.std.proofs.lemmas.Option.{slice_get_within, get_or_from_slice_get}
-use Rattle.gather.specs.GatheredSections.{AreGathered, Facts, facts, shown_facts}
-use Rattle.gather.specs.LiveMarks.{IsSectionAt}
-use Rattle.gather.specs.declared.gathered_section.GatheredSection.{GatheredSection}
-use Rattle.ldmodel.specs.HandedOver.{section_id}
-use Rattle.ldmodel.specs.InputSections.{input_sections}
-use Rattle.ldmodel.specs.Project.{Project}
-use Rattle.ldmodel.specs.Sections.{InputSection, SectionId, is_same, is_same_part}
-use Rattle.ldmodel.specs.declared.sections.SectionKey.{SectionKey}
-use Rattle.gather.specs.SectionPlaces.{ArePlaces, AreProjectPlaces, IsPlaceOf}
+use Rattle.gather.proofs.Common.{AreGathered, ArePlaces, AreProjectPlaces, Contains, Facts, GatheredSection}
+use Rattle.gather.proofs.Common.{InputSection, InputSectionTable, IsPlaceOf, IsSectionAt, IsSome, List, None, Option}
+use Rattle.gather.proofs.Common.{Project, SectionId, SectionRef, Some, and_from, and_parts, ap, arith, eq-eqb, eqb}
+use Rattle.gather.proofs.Common.{eqb-true, facts, get_or, get_or-map, get_or_default, get_or_from_slice_get}
+use Rattle.gather.proofs.Common.{input_sections, is_same, is_same_part, length, length-map, map, option_and_then}
+use Rattle.gather.proofs.Common.{option_map, own_part, refl, same_part, section_id, shown_facts, slice_get_within}
+use Rattle.gather.proofs.Common.{subst, sym, true, ℕ, ◌<◌, ◌∙◌, ◌≡◌}
 use Rattle.gather.specs.SectionTable.{IsTableOf, number_of}
-use Rattle.gather.specs.declared.input_section_table.InputSectionTable.{InputSectionTable}
 use Rattle.gather.proofs.InLists.{there}
-use Rattle.ldmodel_laws.proofs.SameParts.{same_part, own_part}
 
-abbrev pub id_in : SectionKey → SectionId
+abbrev pub id_in : SectionRef → SectionId
 id_in k = section_id (λ key. key) k
 
 same_id : (a b : SectionId) → is_same a b ≡ true → a ≡ b
@@ -33,10 +22,10 @@ id_itself : (a : SectionId) → is_same a a ≡ true
 id_itself a =
     and_from (eqb a.object a.object) (is_same_part a.part a.part) (eq-eqb a.object a.object refl) (own_part a.part)
 
-key_of : SectionId → SectionKey
+key_of : SectionId → SectionRef
 key_of i = record { object = record { 0 = i.object }; part = i.part }
 
-key_is : (a b : SectionKey) → id_in a ≡ id_in b → a ≡ b
+key_is : (a b : SectionRef) → id_in a ≡ id_in b → a ≡ b
 unfolding key_of
 key_is a b h = ap key_of h
 
@@ -79,10 +68,10 @@ module _ (p : Project) (xs : List GatheredSection) (are : AreGathered p xs) wher
       subst (λ (i : SectionId). IsSome (number_of t i.object i.part))
       (sym (id_at b s.0 y s.1 (get_or_default xs b y x low))) (table.all s.0 inside)
 
-  module _ (place : SectionKey → Option ℕ) (places : ArePlaces xs (length xs) place)
+  module _ (place : SectionRef → Option ℕ) (places : ArePlaces xs (length xs) place)
       (apart : (a b : ℕ) (s u : InputSection) → IsSectionAt p a s → IsSectionAt p b u → s.id ≡ u.id → a ≡ b) where
     -- the number m that the key has, at which x and section u of the project stand, is that of section s
-    one_place : (k : SectionKey) (b m : ℕ) (s u : InputSection) (x : GatheredSection) → IsSectionAt p b s → id_in k
+    one_place : (k : SectionRef) (b m : ℕ) (s u : InputSection) (x : GatheredSection) → IsSectionAt p b s → id_in k
         ≡ s.id
         → place k ≡ Some m → get_or xs m x ≡ x → IsSectionAt p m u → m ≡ b
     one_place k b m s u x at same is here stands =
@@ -90,7 +79,7 @@ module _ (p : Project) (xs : List GatheredSection) (are : AreGathered p xs) wher
         let alike : u.id ≡ s.id = sym (id_at m u x stands here) ∙ (ap id_in its ∙ same) in
         apart m b u s stands at alike
 
-    with_place : (k : SectionKey) (b m : ℕ) (s : InputSection) → IsSectionAt p b s → id_in k ≡ s.id
+    with_place : (k : SectionRef) (b m : ℕ) (s : InputSection) → IsSectionAt p b s → id_in k ≡ s.id
         → place k ≡ Some m → place k ≡ Some b
     with_place k b m s at same is =
         let low : m < length xs = places.below k m is in
@@ -99,27 +88,27 @@ module _ (p : Project) (xs : List GatheredSection) (are : AreGathered p xs) wher
         is ∙ ap (λ i. Some i)
         (one_place k b m s u.0 x.0 at same is (get_or_from_slice_get xs m x.0 x.0 x.1) u.1)
 
-    has_place : (k : SectionKey) (b : ℕ) (s : InputSection) (x : GatheredSection) → IsSectionAt p b s → id_in k ≡ s.id
+    has_place : (k : SectionRef) (b : ℕ) (s : InputSection) (x : GatheredSection) → IsSectionAt p b s → id_in k ≡ s.id
         → get_or xs b x ≡ x → IsSome (place k)
     has_place k b s x at same here =
         let key : x.section ≡ k = key_is x.section k (id_at b s x at here ∙ sym same) in
         let own : (get_or xs b x).section ≡ k = ap (λ (y : GatheredSection). y.section) here ∙ key in
-        subst (λ (q : SectionKey). IsSome (place q)) own (places.all b x (within_gathered b s at))
+        subst (λ (q : SectionRef). IsSome (place q)) own (places.all b x (within_gathered b s at))
 
-    at_once : (k : SectionKey) (b : ℕ) (s : InputSection) → IsSectionAt p b s → id_in k ≡ s.id → place k ≡ Some b
+    at_once : (k : SectionRef) (b : ℕ) (s : InputSection) → IsSectionAt p b s → id_in k ≡ s.id → place k ≡ Some b
     at_once k b s at same =
         let x = there xs b (within_gathered b s at) in
         let m = the_some (place k)
         (has_place k b s x.0 at same (get_or_from_slice_get xs b x.0 x.0 x.1)) in
         with_place k b m.0 s at same m.1
 
-    at_its_place : (k : SectionKey) (b : ℕ) (s : InputSection) (x : GatheredSection) → IsSectionAt p b s
+    at_its_place : (k : SectionRef) (b : ℕ) (s : InputSection) (x : GatheredSection) → IsSectionAt p b s
         → place k ≡ Some b → get_or xs b x ≡ x → s.id ≡ id_in k
     at_its_place k b s x at h here =
         let its : x.section ≡ k = ap (λ (z : GatheredSection). z.section) (sym here) ∙ places.is k b x h in
         sym (id_at b s x at here) ∙ ap id_in its
 
-    from_place : (k : SectionKey) (b : ℕ) (s : InputSection) → IsSectionAt p b s → place k ≡ Some b
+    from_place : (k : SectionRef) (b : ℕ) (s : InputSection) → IsSectionAt p b s → place k ≡ Some b
         → s.id ≡ id_in k
     from_place k b s at h =
         let x = there xs b (within_gathered b s at) in
@@ -132,7 +121,7 @@ module _ (p : Project) (xs : List GatheredSection) (are : AreGathered p xs) wher
     )
 
 -- of a key, if there is one
-pub place_of_key : (p : Project) (place : SectionKey → Option ℕ) (key : Option SectionKey) (id : Option SectionId)
+pub place_of_key : (p : Project) (place : SectionRef → Option ℕ) (key : Option SectionRef) (id : Option SectionId)
     (number : Option ℕ)
     → AreProjectPlaces p place → option_map (section_id (λ key. key)) key ≡ id
     → number ≡ option_and_then (place) key → IsPlaceOf p id number
@@ -140,7 +129,7 @@ place_of_key p place key id number are same is =
     subst (λ (i : Option SectionId). IsPlaceOf p i number) same
     (subst (λ (n : Option ℕ). IsPlaceOf p (option_map (section_id (λ key. key)) key) n) (sym is) (go key))
   where
-    go : (key : Option SectionKey) → IsPlaceOf p (option_map (section_id (λ key. key)) key)
+    go : (key : Option SectionRef) → IsPlaceOf p (option_map (section_id (λ key. key)) key)
         (option_and_then (place) key)
     go None b s at = (λ h. absurd (cc), λ h. absurd (cc))
     go (Some k) b s at = are k b s at

@@ -1,12 +1,9 @@
 -- What is known of words and a file, once one more is known; which word is the first that takes a section.
-use Rattle.std.proofs.Common.{◌≡◌, ◌∙◌, ◌+◌, ◌<◌, ◌⊎◌, inl, inr, zero, suc, [], ◌∷◌, ℕ, List, Bool, true, false, Option}
-use Rattle.std.proofs.Common.{Some, None, ap, arith, cond, drop, get_or, length, refl, set, subst, sym, replicate}
-use Rattle.std.proofs.Math.Seq.{drop-cons}
-use Rattle.std.specs.Prelude.{slice_get}
-use Rattle.std.specs.Option.{option_map}
-use Rattle.std.proofs.lemmas.Option.{same_Some, slice_get-map, slice_get_read}
+use Rattle.gather.proofs.Common.{Bool, List, None, Option, Some, WordAt, [], ap, arith, cond, drop, drop-cons, false}
+use Rattle.gather.proofs.Common.{first_taker, get_or, inl, inr, length, option_map, refl, replicate, same_Some, set}
+use Rattle.gather.proofs.Common.{shown_word, shown_words, slice_get, slice_get-map, slice_get_read, subst, suc, sym}
+use Rattle.gather.proofs.Common.{takes_by, takes_from, true, zero, ℕ, ◌+◌, ◌<◌, ◌∙◌, ◌∷◌, ◌≡◌, ◌⊎◌}
 use Rattle.gather.specs.Known.{AreKnown, SaysFrom, SaysTaken}
-use Rattle.gather.specs.Words.{WordAt, first_taker, shown_word, shown_words, takes_by, takes_from}
 use Rattle.gather.specs.declared.word.WordAt as code
 
 -- what stands in a list after a change at one place

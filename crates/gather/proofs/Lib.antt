@@ -1,3 +1,4 @@
+pub mod Common
 pub mod FirstTakers
 pub mod Marks
 pub mod NamedLists

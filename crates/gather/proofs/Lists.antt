@@ -1,13 +1,9 @@
 -- Lists of objects and of symbols with their numbers.
-use Rattle.std.proofs.Common.{◌≡◌, ◌∙◌, ℕ, zero, suc, ◌+◌, ◌<◌, List, [], ◌∷◌, ◌++◌, length, get_or, take, ap}
-use Rattle.std.proofs.Common.{sym, subst, arith, refl}
-use Rattle.std.specs.Prelude.{Option, Some, None, slice_get, flat_map, option_to_list}
-use Rattle.std.specs.List.{All, AllZip, cons_option, enumerate_from, filter_map}
-use Rattle.std.proofs.Math.Seq.{take-suc}
-use Rattle.std.proofs.lemmas.List.Concat.{flat_map-cons}
-use Rattle.std.proofs.lemmas.List.Elements.{All-append, All-cons, All-head, All-nil, All-tail}
-use Rattle.std.proofs.lemmas.List.FromFn.{length-enumerate_from, get_or-enumerate_from}
-use Rattle.std.proofs.lemmas.Option.{slice_get-get_or, slice_get_within, get_or_from_slice_get}
+use Rattle.gather.proofs.Common.{All, All-append, All-cons, All-head, All-nil, All-tail, AllZip, List, None, Option}
+use Rattle.gather.proofs.Common.{Some, [], ap, arith, cons_option, enumerate_from, filter_map, flat_map, flat_map-cons}
+use Rattle.gather.proofs.Common.{get_or, get_or-enumerate_from, get_or_from_slice_get, length, length-enumerate_from}
+use Rattle.gather.proofs.Common.{option_to_list, refl, slice_get, slice_get-get_or, slice_get_within, subst, suc, sym}
+use Rattle.gather.proofs.Common.{take, take-suc, zero, ℕ, ◌++◌, ◌+◌, ◌<◌, ◌∙◌, ◌∷◌, ◌≡◌}
 use Rattle.std.proofs.lemmas.Slice.Zip.{all_zipped_more}
 
 -- one more member, and what belongs to it

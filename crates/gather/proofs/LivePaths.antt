@@ -1,19 +1,11 @@
 -- The sections that are reached in the graph of a project are the live ones.
-use Rattle.std.proofs.Common.{◌≡◌, ◌<◌, ◌↔◌, ℕ, Bool, true, false, not, ◌&&◌, List, length, filter, get_or, refl, ap}
-use Rattle.std.proofs.Common.{sym, ◌∙◌, subst, arith, Some, Result, Ok, Err, IfOk, cond, map, [], ◌∷◌}
-use Rattle.std.specs.Prelude.{slice_index_or}
-use Rattle.std.specs.List.{Contains}
-use Rattle.std.proofs.lemmas.Bool.{and_parts, and_from, not-true}
-use Rattle.std.proofs.lemmas.List.{get_or-map, length-map}
-use Rattle.std.proofs.lemmas.Option.{slice_get_within, slice_get-get_or, get_or_from_slice_get}
-use Rattle.ldmodel.specs.Gathering.{is_discarded, candidates}
-use Rattle.ldmodel.specs.InputSections.{input_sections}
-use Rattle.ldmodel.specs.Live.{is_root, live, refers_to}
-use Rattle.ldmodel.specs.Project.{Project}
+use Rattle.gather.proofs.Common.{Bool, Contains, Err, Graph, IfOk, InputSection, IsGraphOf, IsIn, IsLive, IsMarked}
+use Rattle.gather.proofs.Common.{IsSectionAt, List, Ok, Project, Result, Some, [], and_from, and_parts, ap, arith}
+use Rattle.gather.proofs.Common.{candidates, cond, false, filter, from_live, from_root, get_or, get_or-map}
+use Rattle.gather.proofs.Common.{get_or_from_slice_get, input_sections, is_discarded, is_root, length, length-map, live}
+use Rattle.gather.proofs.Common.{map, marked, not, not-true, refers_to, refl, slice_get-get_or, slice_get_within}
+use Rattle.gather.proofs.Common.{slice_index_or, subst, sym, true, ℕ, ◌&&◌, ◌<◌, ◌↔◌, ◌∙◌, ◌∷◌, ◌≡◌}
 use Rattle.ldmodel.specs.Reach.{Path, start, step}
-use Rattle.ldmodel.specs.Sections.{InputSection}
-use Rattle.gather.specs.Graphs.{Graph, IsIn, IsLive, IsMarked, from_root, from_live}
-use Rattle.gather.specs.LiveMarks.{IsGraphOf, IsSectionAt, marked}
 use Rattle.gather.proofs.InLists.{filter_twice, marked_filter}
 use Rattle.ldmodel_laws.proofs.Members.{in_filter, filter_in, same_tests}
 

@@ -1,15 +1,11 @@
 -- What a search from the roots has marked so far, and how a step keeps that.
-use Rattle.std.proofs.Common.{◌≡◌, ℕ, ◌+◌, ◌<◌, Bool, true, false, cond, not, ◌||◌, List, [], ◌∷◌, ◌++◌, length, get_or}
-use Rattle.std.proofs.Common.{set, refl, sym, ◌∙◌, ◌⊎◌, inl, inr, ⊎_elim, arith, subst, get_or-set_same}
-use Rattle.std.proofs.Common.{get_or-set_other, length-append, ◌↔◌}
-use Rattle.std.specs.List.{Contains, count_by}
-use Rattle.std.proofs.Math.ListN.{length-set}
-use Rattle.std.proofs.lemmas.Bool.{false≢true, cases_lt, cases_eq}
-use Rattle.std.proofs.lemmas.List.{get_or_past}
-use Rattle.std.proofs.lemmas.List.Elements.{Contains-push, Contains-push_cases, Contains-append_left, Contains-get_or}
-use Rattle.std.proofs.lemmas.List.Sums.{sum_by-set}
+use Rattle.gather.proofs.Common.{Bool, Contains, Contains-append_left, Contains-get_or, Contains-push}
+use Rattle.gather.proofs.Common.{Contains-push_cases, Graph, IsIn, IsLive, IsMarked, IsVisit, LeadsTo, List, [], arith}
+use Rattle.gather.proofs.Common.{cases_eq, cases_lt, cond, count_by, false, false≢true, from_live, from_root, get_or}
+use Rattle.gather.proofs.Common.{get_or-set_other, get_or-set_same, get_or_past, inl, inr, length, length-append}
+use Rattle.gather.proofs.Common.{length-set, not, refl, set, subst, sum_by-set, sym, true, ℕ, ⊎_elim, ◌++◌, ◌+◌, ◌<◌}
+use Rattle.gather.proofs.Common.{◌||◌, ◌↔◌, ◌∙◌, ◌∷◌, ◌≡◌, ◌⊎◌}
 use Rattle.std.proofs.lemmas.Grind.{get_or_default_zero}
-use Rattle.gather.specs.Graphs.{Graph, IsIn, IsLive, LeadsTo, IsMarked, IsVisit, from_root, from_live}
 use Rattle.ldmodel_laws.proofs.Members.{none_in_nil}
 
 -- where the search stands: `at` is the section that is being expanded, or no section

@@ -1,30 +1,17 @@
 -- Input sections by their keys: their names and relocations, and the faults of orphans.
-use Rattle.std.proofs.Common.{◌≡◌, ◌∙◌, ℕ, List, [], ◌∷◌, map, get_or, ap, sym, subst, refl}
-use Rattle.std.proofs.Common.{Some, None, Bool, true, false, cond, eqb, filter}
-use Rattle.std.specs.Prelude.{slice_get}
-use Rattle.std.specs.List.{All, Contains, enumerate_from}
-use Rattle.std.specs.Option.{option_map_or}
-use Rattle.std.proofs.lemmas.Bool.{and_parts, eqb-true}
-use Rattle.std.proofs.lemmas.List.Elements.{All-append, All-filter, All-head, All-map, All-tail}
-use Rattle.std.proofs.lemmas.Option.{slice_get-get_or}
-use Rattle.elfobj.specs.Sections.{LinkedSection}
-use Rattle.gather.specs.Apart.{AscendingSections}
+use Rattle.gather.proofs.Common.{All, All-append, All-filter, All-head, All-map, All-tail, AscendingSections, Bool}
+use Rattle.gather.proofs.Common.{Common, Contains, Decision, Duplicate, Entry, InputSection, IsFound, LinkedSection}
+use Rattle.gather.proofs.Common.{List, NamedObject, None, Project, Provided, Script, SectionId, SectionRef, Some}
+use Rattle.gather.proofs.Common.{Strong, Undefined, Weak, [], and_parts, ap, block_at, candidates, common_blocks, cond}
+use Rattle.gather.proofs.Common.{enumerate_from, eqb, eqb-true, false, filter, get_or, input_sections, linked_input}
+use Rattle.gather.proofs.Common.{live, map, name_of_part, object_inputs, object_name, option_map_or, orphans, refl}
+use Rattle.gather.proofs.Common.{section_id, slice_get, slice_get-get_or, subst, sym, true, ℕ, ◌∙◌, ◌∷◌, ◌≡◌}
 use Rattle.ldmodel.specs.Fault as fault
 use Rattle.ldmodel.specs.Fault.{Fault}
-use Rattle.ldmodel.specs.FaultCode.{fault_of, name_of_part, section_at}
-use Rattle.ldmodel.specs.Gathering.{candidates}
-use Rattle.ldmodel.specs.HandedOver.{section_id}
-use Rattle.ldmodel.specs.InputSections.{block_at, block_of, common_block, common_blocks, input_sections, is_same_entry}
-use Rattle.ldmodel.specs.InputSections.{linked_input, object_inputs}
+use Rattle.ldmodel.specs.FaultCode.{fault_of, section_at}
+use Rattle.ldmodel.specs.InputSections.{block_of, common_block, is_same_entry}
 use Rattle.ldmodel.specs.Link.{gathering_faults}
-use Rattle.ldmodel.specs.Live.{live, orphans}
-use Rattle.ldmodel.specs.NameFaults.{object_name}
-use Rattle.ldmodel.specs.Names.{Decision, Duplicate, Entry, Strong, Script, Common, Weak, Provided, Undefined}
-use Rattle.ldmodel.specs.Project.{NamedObject, Project}
-use Rattle.ldmodel.specs.Sections.{InputSection, SectionId}
 use Rattle.ldmodel.specs.declared.fault.Fault.TheVariants.{Orphan}
-use Rattle.ldmodel.specs.declared.sections.SectionKey.{SectionKey}
-use Rattle.gather.specs.Found.{IsFound}
 use Rattle.gather.proofs.Lists.{all_filter_map, all_flat_map, all_numbered}
 use Rattle.gather.proofs.ByNumber.{section_found}
 
@@ -97,7 +84,7 @@ module _ (p : Project) (up : AscendingSections p) where
   fault_by : SectionId → Fault
   fault_by x = fault.Orphan (object_name p x.object) (name_of_part p x.object x.part)
 
-  by_keys : (ks : List SectionKey) → map (λ k. fault_of p (λ key. key) (Orphan k)) ks
+  by_keys : (ks : List SectionRef) → map (λ k. fault_of p (λ key. key) (Orphan k)) ks
       ≡ map fault_by (map (section_id (λ key. key)) ks)
   unfolding fault_of fault_by
   by_keys [] = refl
@@ -115,7 +102,7 @@ module _ (p : Project) (up : AscendingSections p) where
       ∙ ap (λ l. fault.Orphan s.object s.name ∷ l) (by_ids ss (All-tail (IsFound p) s ss h)))
 
   -- the orphans as faults, where the live sections are some of all
-  pub orphan_faults : (test : InputSection → Bool) (ks : List SectionKey) → live p ≡ filter test (candidates p)
+  pub orphan_faults : (test : InputSection → Bool) (ks : List SectionRef) → live p ≡ filter test (candidates p)
       → map (section_id (λ key. key)) ks ≡ map (λ (s : InputSection). s.id) (orphans p)
       → map (λ k. fault_of p (λ key. key) (Orphan k)) ks ≡ gathering_faults p
   unfolding gathering_faults orphans

@@ -1,11 +1,9 @@
 -- Lists under names, and lists of what stands at names.
-use Rattle.std.proofs.Common.{◌≡◌, ◌+◌, ◌++◌, ◌∷◌, [], ℕ, List, Bool, true, false, cond, map, take, get_or, refl, ap}
-use Rattle.std.proofs.Common.{sym, ◌∙◌, ◌<◌, ◌≢◌, arith, length, Option, Some, Result, Ok, Err, OnErr, OnOk}
-use Rattle.std.specs.Prelude.{bytes_eq, is_some, slice_get}
-use Rattle.std.specs.Option.{option_map, option_map_or}
-use Rattle.std.proofs.lemmas.List.{get_or-map, get_or-take, length-map, length-take-le, map-append, take_more}
-use Rattle.std.proofs.lemmas.Option.{get_or_from_slice_get, slice_get-get_or, slice_get-map, slice_get_within}
-use Rattle.std.proofs.lemmas.Slice.Eq.{bytes_eq-Decides}
+use Rattle.gather.proofs.Common.{Bool, Err, List, Ok, OnErr, OnOk, Option, Result, Some, [], ap, arith, bytes_eq}
+use Rattle.gather.proofs.Common.{bytes_eq-Decides, cond, false, get_or, get_or-map, get_or-take, get_or_from_slice_get}
+use Rattle.gather.proofs.Common.{is_some, length, length-map, length-take-le, map, map-append, option_map}
+use Rattle.gather.proofs.Common.{option_map_or, refl, slice_get, slice_get-get_or, slice_get-map, slice_get_within, sym}
+use Rattle.gather.proofs.Common.{take, take_more, true, ℕ, ◌++◌, ◌+◌, ◌<◌, ◌∙◌, ◌∷◌, ◌≡◌, ◌≢◌}
 
 equal_names : (a b : List ℕ) → bytes_eq a b ≡ true → a ≡ b
 equal_names a b h = grind (arith, bytes_eq-Decides)

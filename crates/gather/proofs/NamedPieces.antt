@@ -1,11 +1,8 @@
 -- Places of pieces with the names of their sections, after what all names begin with.
-use Rattle.std.proofs.Common.{◌≡◌, ◌<◌, ◌∙◌, ℕ, List, [], ap, arith, Bor, get_or, length, subst, sym}
-use Rattle.std.proofs.lemmas.List.{ext_get_or, get_or-map, length-map}
-use Rattle.ldmodel.specs.Project.{Project}
+use Rattle.gather.proofs.Common.{Bor, List, NamedPlace, Project, [], ap, arith, ext_get_or, get_or, get_or-map, length}
+use Rattle.gather.proofs.Common.{length-map, name_of_section, subst, sym, ℕ, ◌<◌, ◌∙◌, ◌≡◌}
 use Rattle.ldmodel.specs.declared.rows.Piece as code
-use Rattle.ldmodel_project.specs.ByPlace.{name_of_section}
 use Rattle.gather.specs.NamedPieces.{AreNamed, AreNames, AreOfNames, no_piece, piece_at, pieces_at}
-use Rattle.gather.specs.declared.sorting.NamedPlace.{NamedPlace}
 
 name_of : (p : Project) (xs : List code.Piece) (names : List (Bor (List ℕ))) (k : ℕ) (d : code.Piece)
     (e : Bor (List ℕ)) → AreNames p xs names → k < length xs → k < length names

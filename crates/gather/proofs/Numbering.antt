@@ -1,28 +1,16 @@
 -- The numbers of input sections: each part has one number at most, and no two have the same one.
-use Rattle.std.proofs.Common.{◌≡◌, ◌<◌, ◌≤◌, ◌+◌, ◌⊎◌, inl, inr, ℕ, suc, refl, sym, ap, subst, arith, ◌∙◌}
-use Rattle.std.proofs.Common.{List, [], ◌∷◌, length, get_or, map, take, cond, Bool, true, false, Option, Some, None}
-use Rattle.std.proofs.lemmas.Bool.{cases_lt, lt-ltb, ltb-false, ltb-true, true≢false}
-use Rattle.std.proofs.lemmas.List.Elements.{All-append, All-cons, All-nil}
+use Rattle.gather.proofs.Common.{All, All-append, All-cons, All-nil, Bool, Contains, Contains-permutation, InCommon}
+use Rattle.gather.proofs.Common.{InTable, InputSection, InputSectionTable, IsSome, LinkedSection, List, NamedObject}
+use Rattle.gather.proofs.Common.{None, Option, Project, Slots, Some, [], ap, arith, cases_lt, common_blocks, cond}
+use Rattle.gather.proofs.Common.{fails_before_first, false, get_or, inl, inr, is_ranked, length, linked_input, lt-ltb}
+use Rattle.gather.proofs.Common.{ltb-false, ltb-true, map, nat_lt, object_inputs, option_map, position, position_or_len}
+use Rattle.gather.proofs.Common.{refl, same_Some, slice_get, subst, suc, sym, take, true, true≢false, ℕ, ◌+◌, ◌<◌, ◌∙◌}
+use Rattle.gather.proofs.Common.{◌∷◌, ◌≡◌, ◌≤◌, ◌⊎◌}
 use Rattle.std.proofs.lemmas.List.Quantifiers.{position-Some}
-use Rattle.std.proofs.lemmas.List.Sorted.{Contains-permutation}
-use Rattle.std.proofs.lemmas.List.Sums.{fails_before_first}
-use Rattle.std.proofs.lemmas.Option.{same_Some}
-use Rattle.std.specs.List.{All, Contains, position, position_or_len, slice_get}
 use Rattle.std.specs.List.Sorted.{IsPermutation}
-use Rattle.std.specs.Option.{option_map}
-use Rattle.std.specs.Prelude.{IsSome, nat_lt}
-use Rattle.elfobj.specs.Sections.{LinkedSection}
-use Rattle.ldmodel.specs.InputSections.{common_blocks, linked_input, object_inputs}
-use Rattle.ldmodel.specs.Project.{NamedObject, Project}
-use Rattle.ldmodel.specs.Sections.{InputSection}
 use Rattle.ldmodel.specs.declared.sections.Part.{Part}
-use Rattle.ldmodel.specs.declared.sections.Part.TheVariants.{InTable, InCommon}
-use Rattle.gather.specs.Ranks.{is_ranked}
 use Rattle.gather.specs.Slots.{AreLaid, AreLinkedBefore, AreLinkedCounted, linked_in, slots_of}
-use Rattle.gather.specs.SectionTable.{AreBlockRanks, IsBlockAmong, IsTableOf, block_of, len_of, number_of}
-use Rattle.gather.specs.SectionTable.{slot_of}
-use Rattle.gather.specs.declared.input_section_table.InputSectionTable.{InputSectionTable}
-use Rattle.gather.specs.declared.slots.Slots.{Slots}
+use Rattle.gather.specs.SectionTable.{AreBlockRanks, IsBlockAmong, IsTableOf, block_of, len_of, number_of, slot_of}
 use Rattle.gather.proofs.Counting.{inside}
 use Rattle.gather.proofs.OfObjects.{one_section}
 use Rattle.gather.proofs.Ranks.{alike, one}
@@ -71,7 +59,8 @@ module _ (hs : List Slots) (total : ℕ) (laid : AreLaid hs total) where
 
 -- ---- common blocks
 
-some_of : {X Y : Type 0} (f : X → Y) (o : Option X) (y : Y) → option_map f o ≡ Some y → (x : X) × (o ≡ Some x) × (f x ≡ y)
+some_of : {X Y : Type 0} (f : X → Y) (o : Option X) (y : Y) → option_map f o ≡ Some y → (x : X) × (o ≡ Some x) ×
+    (f x ≡ y)
 some_of f None y e = absurd (let none : ⊥ = cc in none)
 some_of f (Some x) y e = (x, refl, same_Some _ _ e)
 

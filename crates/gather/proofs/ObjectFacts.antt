@@ -1,20 +1,10 @@
 -- The sections of an object: its linked ones, and then its blocks.
-use Rattle.std.proofs.Common.{◌≡◌, ◌∙◌, List, [], ◌∷◌, ◌++◌, map, refl, ap, sym, append_assoc}
-use Rattle.std.specs.Prelude.{codes}
-use Rattle.std.proofs.lemmas.List.{map-append}
-use Rattle.elfobj.specs.Sections.{section_of}
-use Rattle.gather.specs.Blocks.{AreBlocksOf, block_of}
-use Rattle.gather.specs.GatheredSections.{AddsFacts, block_facts, facts, shown_facts}
+use Rattle.gather.proofs.Common.{AddsFacts, AreBlocksOf, CommonBlock, GatheredSection, IsMatched, List, Matches}
+use Rattle.gather.proofs.Common.{NamedObject, ObjectPlace, Project, [], ap, append_assoc, block_facts, codes}
+use Rattle.gather.proofs.Common.{common_blocks, facts, first_match, gathered_by, linked_input, map, map-append}
+use Rattle.gather.proofs.Common.{object_inputs, refl, section_of, shown_facts, sym, ◌++◌, ◌∙◌, ◌∷◌, ◌≡◌}
+use Rattle.gather.specs.Blocks.{block_of}
 use Rattle.gather.specs.Matches.{number_of}
-use Rattle.gather.specs.ProjectMatches.{IsMatched}
-use Rattle.gather.specs.Runs.{gathered_by}
-use Rattle.gather.specs.declared.blocks.CommonBlock.{CommonBlock}
-use Rattle.gather.specs.declared.gathered_section.GatheredSection.{GatheredSection}
-use Rattle.gather.specs.declared.matches.Matches.{Matches}
-use Rattle.ldmodel.specs.FirstMatch.{first_match}
-use Rattle.ldmodel.specs.InputSections.{common_blocks, linked_input, object_inputs}
-use Rattle.ldmodel.specs.Project.{NamedObject, Project}
-use Rattle.ldmodel.specs.declared.names.ObjectPlace.{ObjectPlace}
 use Rattle.gather.proofs.ByRuns.{gathered_are}
 
 module _ (p : Project) (key : ObjectPlace) (o : NamedObject) where

@@ -1,15 +1,11 @@
 -- The input sections of a project, object by object.
-use Rattle.std.proofs.Common.{◌≡◌, ◌+◌, ℕ, suc, refl, sym, ap, subst, arith, ◌∙◌}
-use Rattle.std.proofs.Common.{List, [], ◌∷◌, map, flat_map, cond, eqb, Bool, true, false, Option, Some, None}
-use Rattle.std.proofs.lemmas.Bool.{and_parts, eqb-true}
-use Rattle.std.proofs.lemmas.List.Elements.{All-append, All-cons, All-head, All-map, All-nil}
-use Rattle.std.specs.List.{All, Contains, cons_option, enumerate_from, filter_map, slice_get}
-use Rattle.elfobj.specs.Symbols.{NamedSymbol}
-use Rattle.ldmodel.specs.InputSections.{block_at, block_of, common_block, common_blocks, input_sections, is_same_entry}
-use Rattle.ldmodel.specs.InputSections.{linked_input, object_inputs}
-use Rattle.ldmodel.specs.Names.{Decision, Duplicate, Entry, Strong, Script, Common, Weak, Provided, Undefined, decision}
-use Rattle.ldmodel.specs.Project.{NamedObject, Project}
-use Rattle.ldmodel.specs.Sections.{InputSection}
+use Rattle.gather.proofs.Common.{All, All-append, All-cons, All-head, All-map, All-nil, Bool, Common, Contains}
+use Rattle.gather.proofs.Common.{Decision, Duplicate, Entry, InputSection, List, NamedObject, NamedSymbol, None, Option}
+use Rattle.gather.proofs.Common.{Project, Provided, Script, Some, Strong, Undefined, Weak, [], and_parts, ap, arith}
+use Rattle.gather.proofs.Common.{block_at, common_blocks, cond, cons_option, decision, enumerate_from, eqb, eqb-true}
+use Rattle.gather.proofs.Common.{false, filter_map, flat_map, input_sections, linked_input, map, object_inputs, refl}
+use Rattle.gather.proofs.Common.{slice_get, subst, suc, sym, true, ℕ, ◌+◌, ◌∙◌, ◌∷◌, ◌≡◌}
+use Rattle.ldmodel.specs.InputSections.{block_of, common_block, is_same_entry}
 use Rattle.gather.specs.OfObjects.{IsOfObject}
 
 -- what holds of the sections of each object holds of all

@@ -1,20 +1,9 @@
 -- The words of a statement among those of a script: all of them are for one file, or all are for more.
-use Rattle.std.proofs.Common.{◌≡◌, ◌∙◌, ◌++◌, ◌∷◌, [], ℕ, List, Bool, true, false, None, Some, ap, cond, filter, refl}
-use Rattle.std.proofs.Common.{subst, sym, Bor}
-use Rattle.std.specs.BTreeMap.{BTreeMap, get_by}
-use Rattle.std.specs.Cmp.Lexicographic.{slice_cmp}
-use Rattle.std.specs.Ordering.{nat_cmp}
-use Rattle.std.specs.Prelude.{bytes_eq}
-use Rattle.std.specs.Option.{is_none, option_map_or}
-use Rattle.std.proofs.lemmas.List.{append-nil}
-use Rattle.ldscript.specs.terms.CodeTerms.{exact_name}
-use Rattle.ldscript.specs.statements.declared.input.Input.{Input}
-use Rattle.ldscript.specs.statements.declared.input.SectionWord.{SectionWord}
-use Rattle.gather.specs.FileTables.{AddsOf, AddsOwn, own_listed, own_wild}
-use Rattle.gather.specs.WordTables.{AddsWords, shown_listed}
-use Rattle.gather.specs.Words.{WordAt, is_for, is_for_more, is_named, is_wild, shown_words, words_of}
-use Rattle.gather.specs.declared.file_tables.FileTables.{FileTables}
-use Rattle.gather.specs.declared.word_table.WordTable.{WordTable}
+use Rattle.gather.proofs.Common.{AddsOf, AddsOwn, AddsWords, BTreeMap, Bool, Bor, FileTables, Input, List, None}
+use Rattle.gather.proofs.Common.{SectionWord, Some, WordAt, WordTable, [], ap, append-nil, bytes_eq, cond, exact_name}
+use Rattle.gather.proofs.Common.{false, filter, get_by, is_for, is_for_more, is_named, is_none, is_wild, nat_cmp}
+use Rattle.gather.proofs.Common.{option_map_or, own_listed, own_wild, refl, shown_listed, shown_words, slice_cmp, subst}
+use Rattle.gather.proofs.Common.{sym, true, words_of, ℕ, ◌++◌, ◌∙◌, ◌∷◌, ◌≡◌}
 
 -- a test of the statement alone
 of_statement : (p : WordAt → Bool) (b : Bool) (n : ℕ) (i : Input) (ws : List SectionWord)

@@ -1,19 +1,11 @@
 -- The owner of a common block is the entry of a common symbol that isn't local.
-use Rattle.std.proofs.Common.{◌≡◌, ◌∙◌, ℕ, Bool, true, false, cond, not, List, [], ◌∷◌}
-use Rattle.std.proofs.Common.{filter, get_or, ap, sym, subst, refl, Option, Some, None}
-use Rattle.std.specs.Prelude.{slice_get, option_and_then}
-use Rattle.std.specs.List.{All, enumerate_from}
-use Rattle.std.proofs.lemmas.Bool.{not-true}
-use Rattle.std.proofs.lemmas.List.Elements.{All-filter, All-head, All-map, filter_passes}
-use Rattle.std.proofs.lemmas.Option.{same_Some, slice_get-map}
-use Rattle.elfobj.specs.Symbols.{NamedSymbol}
-use Rattle.ldmodel.specs.Live.{symbol_at}
-use Rattle.ldmodel.specs.Names.{Decision, Declaration, Duplicate, Entry, Strong, Script, Common, Weak, Provided}
-use Rattle.ldmodel.specs.Names.{Undefined}
-use Rattle.ldmodel.specs.Names.{all_entries, decided, decision, declaration, declarations, declarations_in}
-use Rattle.ldmodel.specs.Names.{declarations_of, entries, for_first, is_common, is_common_place, is_local, is_of_name}
-use Rattle.ldmodel.specs.Names.{symbol_tables}
-use Rattle.ldmodel.specs.Project.{NamedObject, Project}
+use Rattle.gather.proofs.Common.{All, All-filter, All-head, All-map, Bool, Common, Decision, Duplicate, Entry, List}
+use Rattle.gather.proofs.Common.{NamedObject, NamedSymbol, None, Option, Project, Provided, Script, Some, Strong}
+use Rattle.gather.proofs.Common.{Undefined, Weak, [], ap, cond, decision, enumerate_from, false, filter, filter_passes}
+use Rattle.gather.proofs.Common.{get_or, is_common_place, is_local, not, not-true, option_and_then, refl, same_Some}
+use Rattle.gather.proofs.Common.{slice_get, slice_get-map, subst, sym, symbol_at, symbol_tables, true, ℕ, ◌∙◌, ◌∷◌, ◌≡◌}
+use Rattle.ldmodel.specs.Names.{Declaration, all_entries, decided, declaration, declarations, declarations_in}
+use Rattle.ldmodel.specs.Names.{declarations_of, entries, for_first, is_common, is_of_name}
 use Rattle.gather.proofs.Lists.{all_flat_map, all_numbered}
 
 module _ (owner : Entry) (size al : ℕ) where

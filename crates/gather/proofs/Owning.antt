@@ -1,24 +1,12 @@
 -- The common blocks of an object, symbol by symbol.
-use Rattle.std.proofs.Common.{◌≡◌, ◌∙◌, ◌<◌, ◌+◌, ◌⊎◌, inl, inr, ℕ, List, [], ◌∷◌, ◌++◌, length, map, get_or, take}
-use Rattle.std.proofs.Common.{Bool, true, false, cond, eqb, Option, Some, None, ap, sym, refl, arith, add-one}
-use Rattle.std.specs.Prelude.{option_to_list, slice_get}
-use Rattle.std.specs.List.{enumerate_from, filter_map}
-use Rattle.std.specs.Option.{option_map}
-use Rattle.std.proofs.Math.Seq.{take-suc}
-use Rattle.std.proofs.lemmas.Bool.{and_parts, eqb-true}
-use Rattle.std.proofs.lemmas.List.{get_or-map, map-append}
-use Rattle.std.proofs.lemmas.List.Elements.{filter_map-append}
-use Rattle.std.proofs.lemmas.List.FromFn.{length-enumerate_from}
-use Rattle.std.proofs.lemmas.Option.{get_or_from_slice_get, same_Some, slice_get-get_or}
-use Rattle.elfobj.specs.Object.{ObjectData}
-use Rattle.elfobj.specs.Symbols.{NamedSymbol}
-use Rattle.elfobj.specs.declared.symbol.Symbol.{Symbol}
-use Rattle.gather.specs.Symbols.{IsObjectAt}
+use Rattle.gather.proofs.Common.{Bool, Common, Decision, Duplicate, InputSection, IsObjectAt, List, NamedSymbol, None}
+use Rattle.gather.proofs.Common.{ObjectData, Option, Project, Provided, Script, Some, Strong, Symbol, Undefined, Weak}
+use Rattle.gather.proofs.Common.{[], add-one, and_parts, ap, arith, cond, decision, enumerate_from, eqb, eqb-true}
+use Rattle.gather.proofs.Common.{false, filter_map, filter_map-append, get_or, get_or-map, get_or_from_slice_get, inl}
+use Rattle.gather.proofs.Common.{inr, is_common_place, is_local, length, length-enumerate_from, map, map-append}
+use Rattle.gather.proofs.Common.{option_map, option_to_list, refl, same_Some, slice_get, slice_get-get_or, sym, take}
+use Rattle.gather.proofs.Common.{take-suc, true, ℕ, ◌++◌, ◌+◌, ◌<◌, ◌∙◌, ◌∷◌, ◌≡◌, ◌⊎◌}
 use Rattle.ldmodel.specs.InputSections as model
-use Rattle.ldmodel.specs.Names.{Common, Decision, Duplicate, Provided, Script, Strong, Undefined, Weak}
-use Rattle.ldmodel.specs.Names.{decision, is_common_place, is_local}
-use Rattle.ldmodel.specs.Project.{Project}
-use Rattle.ldmodel.specs.Sections.{InputSection}
 use Rattle.gather.proofs.InLists.{there}
 use Rattle.gather.proofs.Lists.{filter_map_one, numbered}
 use Rattle.gather.proofs.Owners.{owner_is, symbol_in}

@@ -1,26 +1,13 @@
 -- The objects of a project, one after the other.
-use Rattle.std.proofs.Common.{◌≡◌, ◌∙◌, ◌<◌, ◌≤◌, ℕ, ◌+◌, List, [], ◌∷◌, ◌++◌, length, map, get_or, take, ap, sym}
-use Rattle.std.proofs.Common.{subst, arith, Vec, Global}
-use Rattle.std.proofs.Common.{Some}
-use Rattle.std.specs.Borrow.{Bor}
-use Rattle.std.specs.Prelude.{slice_get, flat_map}
-use Rattle.std.specs.List.{All, AllZip, enumerate_from}
-use Rattle.std.proofs.lemmas.List.{flat_map_more, get_or-map, length-map, map-append, take_all, take_more}
-use Rattle.std.proofs.lemmas.List.Elements.{All-more}
-use Rattle.std.proofs.lemmas.List.FromFn.{length-enumerate_from}
-use Rattle.std.proofs.lemmas.Option.{get_or_from_slice_get, slice_get-get_or, slice_get_within}
+use Rattle.gather.proofs.Common.{AddsFacts, All, All-more, AllZip, AreBlocks, AreBlocksOf, AreGathered, AreMatched, Bor}
+use Rattle.gather.proofs.Common.{CommonBlock, GatheredSection, Global, InputSection, IsAscending, IsMatched, List}
+use Rattle.gather.proofs.Common.{Matches, NamedObject, Project, Some, Vec, [], ap, arith, enumerate_from, facts}
+use Rattle.gather.proofs.Common.{flat_map, flat_map_more, get_or, get_or-map, get_or_from_slice_get, input_sections}
+use Rattle.gather.proofs.Common.{length, length-enumerate_from, length-map, map, map-append, object_inputs, shown_facts}
+use Rattle.gather.proofs.Common.{shown_input, slice_get, slice_get-get_or, slice_get_within, subst, sym, take, take_all}
+use Rattle.gather.proofs.Common.{take_more, ℕ, ◌++◌, ◌+◌, ◌<◌, ◌∙◌, ◌∷◌, ◌≡◌, ◌≤◌}
 use Rattle.std.proofs.lemmas.Slice.Zip.{AllZip-long}
-use Rattle.gather.specs.Apart.{IsAscending}
-use Rattle.gather.specs.Blocks.{AreBlocks, AreBlocksOf}
-use Rattle.gather.specs.GatheredSections.{AddsFacts, AreGathered, facts, shown_facts}
-use Rattle.gather.specs.ProjectMatches.{AreMatched, IsMatched}
-use Rattle.gather.specs.declared.blocks.CommonBlock.{CommonBlock}
-use Rattle.gather.specs.declared.gathered_section.GatheredSection.{GatheredSection}
-use Rattle.gather.specs.declared.matches.Matches.{Matches}
-use Rattle.ldmodel.specs.InputSections.{input_sections, object_inputs}
-use Rattle.ldmodel.specs.Project.{NamedObject, Project}
-use Rattle.ldmodel.specs.Sections.{InputSection}
-use Rattle.ldmodel_project.specs.Inputs.{shown_input, shown_inputs}
+use Rattle.ldmodel_project.specs.Inputs.{shown_inputs}
 use Rattle.ldmodel_project.specs.declared.input.InputObject.{InputObject}
 use Rattle.gather.proofs.Lists.{numbered, zip_at, zip_member, zip_next}
 

@@ -1,19 +1,11 @@
 -- The ranks of the common blocks of objects.
-use Rattle.std.proofs.Common.{◌≡◌, ◌∙◌, ◌<◌, ◌≤◌, ◌+◌, ◌⊎◌, inl, inr, ℕ, zero, suc, Bool, List, [], ◌∷◌, ◌++◌, length}
-use Rattle.std.proofs.Common.{map}
-use Rattle.std.proofs.Common.{get_or, ap, sym, subst, refl, arith, Some, Vec, Global}
-use Rattle.std.specs.Prelude.{slice_get}
-use Rattle.std.specs.List.{All, AllZip, Contains, enumerate_from}
-use Rattle.std.proofs.lemmas.Bool.{cases_lt}
-use Rattle.std.proofs.lemmas.List.{get_or-map, length-map}
-use Rattle.std.proofs.lemmas.List.Elements.{Contains-append_left, Contains-append_right}
-use Rattle.std.proofs.lemmas.Option.{get_or_from_slice_get, same_Some, slice_get_within}
-use Rattle.ldmodel.specs.Project.{NamedObject, Project}
-use Rattle.ldmodel.specs.Sections.{InputSection}
+use Rattle.gather.proofs.Common.{All, AllZip, AreBlocks, AreBlocksOf, Bool, CommonBlock, Contains, Contains-append_left}
+use Rattle.gather.proofs.Common.{Contains-append_right, Global, InputSection, List, NamedObject, Project, Some, Vec, []}
+use Rattle.gather.proofs.Common.{ap, arith, block_rank, cases_lt, enumerate_from, get_or, get_or-map}
+use Rattle.gather.proofs.Common.{get_or_from_slice_get, inl, inr, length, length-map, map, refl, same_Some, slice_get}
+use Rattle.gather.proofs.Common.{slice_get_within, subst, suc, sym, zero, ℕ, ◌++◌, ◌+◌, ◌<◌, ◌∙◌, ◌∷◌, ◌≡◌, ◌≤◌, ◌⊎◌}
 use Rattle.gather.specs.SectionTable.{AreBlockRanks, IsBlockAmong}
 use Rattle.gather.specs.Blocks.{block_of}
-use Rattle.gather.specs.Blocks.{AreBlocks, AreBlocksOf, block_rank}
-use Rattle.gather.specs.declared.blocks.CommonBlock.{CommonBlock}
 
 abbrev Blocks : Type 0
 Blocks = Vec CommonBlock Global

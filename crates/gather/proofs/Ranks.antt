@@ -1,14 +1,9 @@
 -- The order of input sections.
-use Rattle.std.proofs.Common.{◌≡◌, ◌<◌, ◌==◌, ◌&&◌, ℕ, Bool, true, false, cond, refl, sym, ap, ◌∙◌, arith}
-use Rattle.std.proofs.lemmas.Bool.{eq-eqb, eqb-true, false≢true, ltb-true, and_parts}
+use Rattle.gather.proofs.Common.{Bool, Equal, Greater, IsTotalOrder, Less, Ordering, and_parts, ap, arith, bool_cmp}
+use Rattle.gather.proofs.Common.{bool_cmp_total, cond, eq-eqb, eqb-true, false, false≢true, is_eq, ltb-true, nat_cmp}
+use Rattle.gather.proofs.Common.{nat_lt, ordering_then, rank_cmp, refl, sym, true, ℕ, ◌&&◌, ◌<◌, ◌==◌, ◌∙◌, ◌≡◌}
 use Rattle.std.proofs.lemmas.Cmp.{nat_cmp_total, on_total, then_total}
-use Rattle.std.specs.Cmp.{IsTotalOrder, bool_cmp_total}
-use Rattle.std.specs.Ordering.{bool_cmp, is_eq, nat_cmp, ordering_then}
-use Rattle.std.specs.Prelude.{nat_lt}
 use mathlib.Core.Bool.{beq}
-use Rattle.std.specs.declared.cmp.Ordering.{Ordering}
-use Rattle.std.specs.declared.cmp.Ordering.TheVariants.{Less, Equal, Greater}
-use Rattle.gather.specs.Ranks.{rank_cmp}
 
 pub rank_total : IsTotalOrder rank_cmp
 rank_total =

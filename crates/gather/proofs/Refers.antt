@@ -1,29 +1,14 @@
 -- The sections that relocations refer to, by numbers.
-use Rattle.std.proofs.Common.{◌≡◌, ◌∙◌, ◌<◌, ◌≤◌, ◌+◌, ℕ, zero, suc, ◌||◌, List, [], ◌∷◌, ◌++◌}
-use Rattle.std.proofs.Common.{length, get_or, take, ap, sym, subst, arith, Bool, true, cond, Option, Some, None}
-use Rattle.std.proofs.Common.{⊎_elim}
-use Rattle.std.proofs.Common.{append_assoc, append-nil}
-use Rattle.std.specs.Prelude.{option_to_list, option_and_then, slice_get}
-use Rattle.std.specs.List.{Contains, list_any}
-use Rattle.std.specs.Option.{option_map}
-use Rattle.std.proofs.lemmas.List.{get_or_default}
-use Rattle.std.proofs.lemmas.List.Elements.{Contains-append_cases, Contains-append_left}
-use Rattle.std.proofs.lemmas.List.Elements.{Contains-append_right}
+use Rattle.gather.proofs.Common.{AddsTargets, AreProjectPlaces, Bool, Contains, Contains-append_cases}
+use Rattle.gather.proofs.Common.{Contains-append_left, Contains-append_right, InputSection, IsObjectAt, IsPlaceOf, List}
+use Rattle.gather.proofs.Common.{NamedObject, NamedSymbol, None, ObjectData, Option, Project, Relocation, SectionRef}
+use Rattle.gather.proofs.Common.{Some, [], ap, append-nil, append_assoc, arith, cond, decision, get_or, get_or_default}
+use Rattle.gather.proofs.Common.{is_local, is_section, length, list_any, option_and_then, option_map, option_to_list}
+use Rattle.gather.proofs.Common.{or_cases, or_left, or_right, same_Some, section_id, section_of_decision}
+use Rattle.gather.proofs.Common.{section_of_place, section_of_symbol, slice_get, slice_get-get_or, slice_get_past}
+use Rattle.gather.proofs.Common.{subst, suc, sym, symbol_at, take, target_section, true, zero, ℕ, ⊎_elim, ◌++◌, ◌+◌}
+use Rattle.gather.proofs.Common.{◌<◌, ◌||◌, ◌∙◌, ◌∷◌, ◌≡◌, ◌≤◌}
 use Rattle.std.proofs.lemmas.List.Folds.{list_any_more}
-use Rattle.std.proofs.lemmas.Option.{same_Some, slice_get-get_or, slice_get_past}
-use Rattle.std.proofs.lemmas.Bool.{or_cases, or_left, or_right}
-use Rattle.elfobj.specs.Object.{ObjectData}
-use Rattle.elfobj.specs.Symbols.{NamedSymbol}
-use Rattle.elfobj.specs.declared.relocation.Relocation.{Relocation}
-use Rattle.ldmodel.specs.Live.{is_section, section_of_decision, section_of_place, section_of_symbol}
-use Rattle.ldmodel.specs.Live.{symbol_at, target_section}
-use Rattle.ldmodel.specs.HandedOver.{section_id}
-use Rattle.ldmodel.specs.Names.{decision, is_local}
-use Rattle.ldmodel.specs.Project.{NamedObject, Project}
-use Rattle.ldmodel.specs.Sections.{InputSection}
-use Rattle.ldmodel.specs.declared.sections.SectionKey.{SectionKey}
-use Rattle.gather.specs.SectionPlaces.{AddsTargets, AreProjectPlaces, IsPlaceOf}
-use Rattle.gather.specs.Symbols.{IsObjectAt}
 use Rattle.gather.proofs.Keyed.{place_of_key}
 use Rattle.gather.proofs.Seen.{object_at}
 
@@ -109,7 +94,7 @@ module _ (p : Project) (i : ℕ) (r : Relocation) (object : ObjectData) (at : Is
         (sym (shown_symbol ∙ slice_get-get_or object.symbols r.symbol.0 d low)) is)
 
     -- of a local one its own
-    pub local_target : (place : SectionKey → Option ℕ) (key : Option SectionKey) → AreProjectPlaces p place
+    pub local_target : (place : SectionRef → Option ℕ) (key : Option SectionRef) → AreProjectPlaces p place
         → is_local symbol.symbol.binding ≡ true
         → option_map (section_id (λ key. key)) key ≡ section_of_place i symbol.symbol.place
         → number ≡ option_and_then place key → IsPlaceOf p (target_section p i r) number

@@ -1,26 +1,17 @@
 -- How rows grow, and that they are those of the project in the end.
-use Rattle.std.proofs.Common.{◌≡◌, ◌<◌, ◌+◌, ℕ, suc, Bool, true, false, cond, List, [], ◌∷◌, ◌++◌, length, filter, map}
-use Rattle.std.proofs.Common.{get_or, set, eqb, refl, ap, sym, ◌∙◌, subst, ⊎_elim, arith, Option, Some, None, Vec}
-use Rattle.std.proofs.Common.{Global, append-nil, append_assoc, get_or-set_same, get_or-set_other}
-use Rattle.std.specs.Prelude.{flat_map}
-use Rattle.std.specs.List.{enumerate_from, filter_map, range_with_len, cons_option}
-use Rattle.std.specs.Option.{option_map, option_map_or}
-use Rattle.std.proofs.Math.ListN.{length-set}
-use Rattle.std.proofs.lemmas.Bool.{cases_eq, eq-eqb, ne_eqb, eqb-true}
-use Rattle.std.proofs.lemmas.List.{map-append, get_or_default}
-use Rattle.std.proofs.lemmas.List.Concat.{flat_map-cons}
-use Rattle.ldscript.specs.statements.Numbering.{InputStatementAt, input_statements, output_sections}
-use Rattle.ldscript.specs.statements.declared.input.Sort.{Sort}
+use Rattle.gather.proofs.Common.{Bool, Global, InputSection, InputStatementAt, List, None, Option, Orders, Project}
+use Rattle.gather.proofs.Common.{Some, Sort, Vec, [], ap, append-nil, append_assoc, arith, cases_eq, cond, cons_option}
+use Rattle.gather.proofs.Common.{enumerate_from, eq-eqb, eqb, eqb-true, false, filter, filter_map, first_match}
+use Rattle.gather.proofs.Common.{flat_map, flat_map-cons, get_or, get_or-set_other, get_or-set_same, get_or_default}
+use Rattle.gather.proofs.Common.{input_statements, length, length-set, live, map, map-append, ne_eqb, of_statement}
+use Rattle.gather.proofs.Common.{option_map, option_map_or, output_sections, piece_in, range_with_len, refl, rows_in}
+use Rattle.gather.proofs.Common.{set, shown_row, subst, suc, sym, taken_piece, true, ℕ, ⊎_elim, ◌++◌, ◌+◌, ◌<◌, ◌∙◌}
+use Rattle.gather.proofs.Common.{◌∷◌, ◌≡◌}
 use Rattle.ldscript.specs.statements.declared.place.InputPlace.TheVariants.{InSection}
-use Rattle.ldmodel.specs.FirstMatch.{first_match}
-use Rattle.ldmodel.specs.Live.{live}
-use Rattle.ldmodel.specs.Project.{Project}
 use Rattle.ldmodel.specs.Rows.{Piece, piece_of, below, is_in_section, is_taken_by, pieces_in, row, rows}
-use Rattle.ldmodel.specs.Sections.{InputSection}
 use Rattle.ldmodel.specs.Sorting.{sort_by}
 use Rattle.ldmodel.specs.declared.rows.Piece as code
-use Rattle.ldmodel_project.specs.ByPlace.{piece_in, rows_in}
-use Rattle.gather.specs.RowPieces.{AddsTo, Orders, of_statement, pieces_at, shown_row, taken_piece}
+use Rattle.gather.specs.RowPieces.{AddsTo, pieces_at}
 use Rattle.gather.proofs.Sorts.{filter_of_map}
 
 -- the ordered pieces of a statement come to the end of its row

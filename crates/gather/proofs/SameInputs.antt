@@ -1,16 +1,7 @@
 -- Two scripts with the same input statements take the same sections.
-use Rattle.std.proofs.Common.{◌≡◌, ◌+◌, ◌∙◌, ◌∷◌, [], ℕ, Bool, List, Some, None, ap, cond, length, map, refl, sym}
-use Rattle.std.specs.Prelude.{nat_lt, not}
-use Rattle.std.specs.List.{position, position_or_len}
-use Rattle.std.proofs.lemmas.List.{length-map}
-use Rattle.ldmodel.specs.FirstMatch.{first_match, takes}
-use Rattle.ldmodel.specs.Project.{NamedObject}
-use Rattle.elfobj.specs.Sections.{LinkedSection}
-use Rattle.ldscript.specs.statements.Numbering.{input_statements}
-use Rattle.ldscript.specs.statements.declared.statement.Statement.{Statement}
-use Rattle.gather.specs.ProjectMatches.{IsMatched}
-use Rattle.gather.specs.SameInputs.{input_of}
-use Rattle.gather.specs.declared.matches.Matches.{Matches}
+use Rattle.gather.proofs.Common.{Bool, IsMatched, LinkedSection, List, Matches, NamedObject, None, Some, Statement, []}
+use Rattle.gather.proofs.Common.{ap, cond, first_match, input_of, input_statements, length, length-map, map, nat_lt}
+use Rattle.gather.proofs.Common.{not, position, position_or_len, refl, sym, takes, ℕ, ◌+◌, ◌∙◌, ◌∷◌, ◌≡◌}
 
 -- the place of the first element that passes is that of the first one of the mapped list
 place_of_mapped : {X Y : Type 0} (f : X → Y) (p : Y → Bool) (xs : List X)

@@ -1,17 +1,9 @@
 -- The first of a rank: where ranks are sorted it is the first that is not before that rank.
-use Rattle.std.proofs.Common.{◌≡◌, ◌<◌, ◌≤◌, ◌⊎◌, inl, inr, ℕ, Bool, true, false, cond, refl, sym, ap, ◌∙◌, arith}
-use Rattle.std.proofs.Common.{List, length, get_or, Some, None}
-use Rattle.std.proofs.lemmas.Bool.{cases_lt, le-ltb, lt-ltb, true≢false}
-use Rattle.std.proofs.lemmas.List.MinMax.{ranks_by}
-use Rattle.std.proofs.lemmas.List.Sorted.{sorted_far}
-use Rattle.std.proofs.lemmas.List.Sums.{position_or_len_is}
-use Rattle.std.specs.List.{position}
+use Rattle.gather.proofs.Common.{Bool, Equal, Greater, Less, List, None, Ordering, Some, ap, arith, cases_lt, cond}
+use Rattle.gather.proofs.Common.{false, get_or, inl, inr, is_eq, is_lt, is_ranked, le-ltb, length, lt-ltb, nat_lt}
+use Rattle.gather.proofs.Common.{ordering_reverse, position, position_or_len_is, rank_cmp, rank_self, ranks_by, refl}
+use Rattle.gather.proofs.Common.{sorted_far, sym, true, true≢false, ℕ, ◌<◌, ◌∙◌, ◌≡◌, ◌≤◌, ◌⊎◌}
 use Rattle.std.specs.List.Sorted.{IsPartitionPoint, IsPartitionedBy, IsSortedByKey}
-use Rattle.std.specs.Ordering.{is_eq, is_lt, ordering_reverse}
-use Rattle.std.specs.Prelude.{nat_lt}
-use Rattle.std.specs.declared.cmp.Ordering.{Ordering}
-use Rattle.std.specs.declared.cmp.Ordering.TheVariants.{Less, Equal, Greater}
-use Rattle.gather.specs.Ranks.{is_ranked, rank_cmp, rank_self}
 use Rattle.gather.proofs.Ranks.{rank_total}
 
 abbrev Rank : Type 0

@@ -1,21 +1,11 @@
 -- A symbol of an object of a project, among the names of its link.
-use Rattle.std.proofs.Common.{◌≡◌, ◌∙◌, ℕ, ◌+◌, ◌<◌, List, length, get_or, map, ap, sym, subst, arith, refl}
-use Rattle.std.specs.Prelude.{Option, Some, None, slice_get, not, true, false, Bool}
-use Rattle.std.specs.Option.{option_map}
-use Rattle.std.proofs.lemmas.List.{length-map, get_or-map}
-use Rattle.std.proofs.lemmas.List.FromFn.{length-enumerate_from, get_or-enumerate_from}
-use Rattle.std.proofs.lemmas.Option.{same_Some, slice_get_within, get_or_from_slice_get}
-use Rattle.elfobj.specs.Object.{ObjectData}
-use Rattle.elfobj.specs.Symbols.{NamedSymbol}
-use Rattle.elfobj.specs.declared.symbol.Symbol.{Symbol}
-use Rattle.ldmodel.specs.Names.{is_local, symbol_tables}
-use Rattle.ldmodel.specs.Project.{NamedObject, Project}
-use Rattle.ldmodel.specs.declared.names.Case.{Case}
-use Rattle.ldmodel.specs.declared.names.ObjectPlace.{ObjectPlace}
-use Rattle.symres.specs.Decided.{HasCase, case_at}
+use Rattle.gather.proofs.Common.{Bool, Case, HasCase, IsCaseOf, IsObjectAt, List, NamedObject, NamedSymbol, None}
+use Rattle.gather.proofs.Common.{ObjectData, ObjectPlace, Option, Project, Some, Symbol, ap, arith, case_at, false}
+use Rattle.gather.proofs.Common.{get_or, get_or-enumerate_from, get_or-map, get_or_from_slice_get, is_local, length}
+use Rattle.gather.proofs.Common.{length-enumerate_from, length-map, map, not, option_map, refl, same_Some, slice_get}
+use Rattle.gather.proofs.Common.{slice_get_within, subst, sym, symbol_tables, true, ℕ, ◌+◌, ◌<◌, ◌∙◌, ◌≡◌}
 use Rattle.symres.specs.SymbolTable.{IsNameAt, IsSymbolTable, IsSeenAt, SymbolTableState}
 use Rattle.symres.specs.table.State.{IsNamed}
-use Rattle.gather.specs.Symbols.{IsCaseOf, IsObjectAt}
 
 abbrev Table : Type 0
 Table = ℕ × List NamedSymbol

@@ -1,14 +1,8 @@
 -- Names that begin alike.
-use Rattle.std.proofs.Common.{◌≡◌, ◌<◌, ◌≤◌, ◌++◌, ℕ, suc, List, [], ◌∷◌, length, drop, take, get_or}
-use Rattle.std.proofs.Common.{ap, refl, sym, ◌∙◌, arith, true, nat_eq}
-use Rattle.std.specs.List.{starts_with}
-use Rattle.std.specs.Cmp.Lexicographic.{bytes_decides}
-use Rattle.std.proofs.lemmas.List.{get_or-take}
-use Rattle.std.specs.Ordering.{nat_cmp, ordering_then}
-use Rattle.std.specs.declared.cmp.Ordering.TheVariants.{Equal}
-use Rattle.std.specs.Cmp.Lexicographic.{slice_cmp}
+use Rattle.gather.proofs.Common.{BeginsWith, Equal, List, [], ap, arith, bytes_decides, drop, get_or, get_or-take}
+use Rattle.gather.proofs.Common.{length, nat_cmp, nat_eq, ordering_then, refl, slice_cmp, starts_with, suc, sym, take}
+use Rattle.gather.proofs.Common.{true, ℕ, ◌++◌, ◌<◌, ◌∙◌, ◌∷◌, ◌≡◌, ◌≤◌}
 use Rattle.std.proofs.lemmas.Cmp.{by_ranked, ranked}
-use Rattle.gather.specs.SharedStarts.{BeginsWith}
 
 -- a name that begins so, in two parts
 pub parted : (start name : List ℕ) → BeginsWith start name → start ++ drop (length start) name ≡ name

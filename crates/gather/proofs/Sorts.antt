@@ -1,28 +1,17 @@
 -- What a stable sort of pieces makes of the pieces that they stand for.
-use Rattle.std.proofs.Common.{◌≡◌, ◌<◌, ◌+◌, ◌++◌, ◌⊎◌, inl, inr, Bool, true, false, cond, List, [], ◌∷◌, length}
-use Rattle.std.proofs.Common.{filter, map, get_or, not, ◌&&◌, refl, ap, sym, ◌∙◌, ◌↔◌, arith, Option, Result, Ok, Err}
-use Rattle.std.proofs.Common.{Bor, OnOk, ℕ, ⊎_elim}
-use Rattle.std.specs.List.{All}
+use Rattle.gather.proofs.Common.{All, All-cons, All-head, All-nil, All-permutation, All-tail, Bool, Bor, Err}
+use Rattle.gather.proofs.Common.{IsStrictWeakOrder, List, NamedPlace, Ok, OnOk, Option, Ordering, Orders, Project}
+use Rattle.gather.proofs.Common.{Result, Sort, [], ap, arith, cond, false, filter, filter_agree, get_or, get_or-map}
+use Rattle.gather.proofs.Common.{inl, inr, length, length-map, map, not, object_name, piece_in, refl, sym, true}
+use Rattle.gather.proofs.Common.{true≢false, ℕ, ⊎_elim, ◌&&◌, ◌++◌, ◌+◌, ◌<◌, ◌↔◌, ◌∙◌, ◌∷◌, ◌≡◌, ◌⊎◌}
 use Rattle.std.specs.List.Sorted.{IsPermutation, IsSortedBy, IsStableBy, IsSortedByClosure, IsStableByClosure, ties}
-use Rattle.std.specs.Cmp.{IsStrictWeakOrder}
 use Rattle.std.specs.Fn.{ComparesAs}
-use Rattle.std.specs.declared.cmp.Ordering.{Ordering}
 use denote.Param.Members.{Mut}
-use Rattle.std.proofs.lemmas.Bool.{true≢false}
-use Rattle.std.proofs.lemmas.List.{get_or-map, length-map}
-use Rattle.std.proofs.lemmas.List.Elements.{All-cons, All-head, All-nil, All-tail, filter_agree}
-use Rattle.std.proofs.lemmas.List.Sorted.{All-permutation}
-use Rattle.ldscript.specs.statements.declared.input.Sort.{Sort}
-use Rattle.ldmodel.specs.Project.{Project}
 use Rattle.ldmodel.specs.Rows.{Piece, below}
-use Rattle.ldmodel.specs.HandedOver.{piece_of}
-use Rattle.ldmodel.specs.NameFaults.{object_name}
+use Rattle.ldmodel.specs.CodeValues.{piece_of}
 use Rattle.ldmodel.specs.Sorting.{IsOrdered, sort_by}
 use Rattle.ldmodel.specs.declared.rows.Piece as code
-use Rattle.ldmodel_project.specs.ByPlace.{piece_in}
 use Rattle.gather.specs.NamedPieces.{AreNamed, HasName, piece_at, pieces_at}
-use Rattle.gather.specs.RowPieces.{Orders}
-use Rattle.gather.specs.declared.sorting.NamedPlace.{NamedPlace}
 
 module _ {X Y : Type 0} (f : X → Y) (p : Y → Bool) where
   pub filter_of_map : (xs : List X) → filter p (map f xs) ≡ map f (filter (λ x. p (f x)) xs)

@@ -1,23 +1,11 @@
 -- The graph of a project, and what its sections refer to.
-use Rattle.std.proofs.Common.{◌≡◌, ◌∙◌, ◌<◌, ◌⊎◌, ◌↔◌, ℕ, Bool, List, []}
-use Rattle.std.proofs.Common.{length, get_or, map, ap, sym, subst, arith, Option, Some, inl, inr}
-use Rattle.std.proofs.Common.{⊎_elim}
-use Rattle.std.specs.Prelude.{IsTrue}
-use Rattle.std.specs.List.{Contains, list_any}
-use Rattle.std.proofs.lemmas.List.{get_or_default, length-map}
-use Rattle.std.proofs.lemmas.Option.{get_or_from_slice_get, same_Some, slice_get_within}
-use Rattle.std.proofs.lemmas.Bool.{or_cases, or_left, or_right}
-use Rattle.gather.specs.GatheredSections.{AreGathered}
-use Rattle.gather.specs.Graphs.{graph_of}
-use Rattle.gather.specs.LiveMarks.{IsGraphOf, IsSectionAt}
-use Rattle.gather.specs.declared.gathered_section.GatheredSection.{GatheredSection}
-use Rattle.ldmodel.specs.Gathering.{is_discarded, taken_by}
-use Rattle.ldmodel.specs.InputSections.{input_sections}
-use Rattle.ldmodel.specs.Live.{entry_section, is_kept, is_section, refers_to, target_section}
-use Rattle.ldmodel.specs.Project.{Project}
-use Rattle.ldmodel.specs.Sections.{InputSection, SectionId}
-use Rattle.gather.specs.Found.{relocations_of}
-use Rattle.gather.specs.SectionPlaces.{AddsTargets, IsPlaceOf, Refers}
+use Rattle.gather.proofs.Common.{AddsTargets, AreGathered, Bool, Contains, GatheredSection, InputSection, IsGraphOf}
+use Rattle.gather.proofs.Common.{IsPlaceOf, IsSectionAt, IsTrue, List, Option, Project, Refers, SectionId, Some, [], ap}
+use Rattle.gather.proofs.Common.{arith, entry_section, get_or, get_or_default, get_or_from_slice_get, graph_of, inl}
+use Rattle.gather.proofs.Common.{input_sections, inr, is_discarded, is_kept, is_section, length, length-map, list_any}
+use Rattle.gather.proofs.Common.{map, or_cases, or_left, or_right, refers_to, relocations_of, same_Some}
+use Rattle.gather.proofs.Common.{slice_get_within, subst, sym, taken_by, target_section, ℕ, ⊎_elim, ◌<◌, ◌↔◌, ◌∙◌, ◌≡◌}
+use Rattle.gather.proofs.Common.{◌⊎◌}
 use Rattle.gather.proofs.InLists.{there}
 use Rattle.gather.proofs.Keyed.{as_many, id_at, id_in}
 use Rattle.gather.proofs.Named.{found_one}

@@ -6,14 +6,14 @@ use Rattle.elfobj.specs.file.declared.constants.TheConstants.{SHF_ALLOC, SHF_WRI
 use Rattle.elfobj.specs.declared.section.SectionKind.{SectionKind}
 use Rattle.elfobj.specs.declared.section.SectionKind.TheVariants.{Nobits}
 use Rattle.ldmodel.specs.FirstMatch.{first_match}
-use Rattle.ldmodel.specs.HandedOver.{section_id}
+use Rattle.ldmodel.specs.CodeValues.{section_id}
 use Rattle.ldmodel.specs.InputSections.{input_sections}
 use Rattle.ldmodel.specs.Project.{Project}
 use Rattle.ldmodel.specs.Sections.{InputSection, SectionId}
 use Rattle.ldmodel.specs.declared.rows.InputIndex.{InputIndex}
 use Rattle.ldmodel.specs.declared.rows.Piece.{Piece}
 use Rattle.ldmodel.specs.declared.sections.Part.TheVariants.{InCommon}
-use Rattle.ldmodel.specs.declared.sections.SectionKey.{SectionKey}
+use Rattle.ldmodel.specs.declared.sections.SectionRef.{SectionRef}
 use Rattle.gather.specs.Apart.{AscendingSections}
 use Rattle.gather.specs.declared.blocks.CommonBlock.{CommonBlock}
 use Rattle.gather.specs.declared.gathered_section.GatheredSection.{GatheredSection}
@@ -89,9 +89,9 @@ abbrev pub taken_in : List Bool → List GatheredSection → List Piece
 taken_in marks xs = filter_map own_piece (marked marks xs)
 
 -- the key of a section that no statement takes
-abbrev pub untaken_by_none : SectionKey → Option InputIndex → Option SectionKey
+abbrev pub untaken_by_none : SectionRef → Option InputIndex → Option SectionRef
 untaken_by_none key None = Some key
 untaken_by_none key (Some n) = None
 
-abbrev pub untaken : GatheredSection → Option SectionKey
+abbrev pub untaken : GatheredSection → Option SectionRef
 untaken x = untaken_by_none x.section x.statement

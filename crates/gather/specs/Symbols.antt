@@ -3,7 +3,7 @@ use Rattle.std.specs.Prelude.{◌≡◌, ℕ, Option, Some, None, slice_get, tru
 use Rattle.std.specs.Option.{option_map}
 use Rattle.elfobj.specs.Object.{ObjectData}
 use Rattle.elfobj.specs.Symbols.{NamedSymbol}
-use Rattle.ldmodel.specs.HandedOver.{decision_of}
+use Rattle.ldmodel.specs.CodeValues.{decision_of}
 use Rattle.ldmodel.specs.Names.{decision, is_local}
 use Rattle.ldmodel.specs.Project.{NamedObject, Project}
 use Rattle.ldmodel.specs.declared.names.Case.{Case}

@@ -8,7 +8,7 @@ ghost use Rattle.gather.specs.Commons.{AreCommonsIn};
 ghost use Rattle.gather.specs.ProjectMatches.{AreMatched};
 ghost use Rattle.gather.specs.Symbols.{IsObjectAt};
 ghost use Rattle.gather.specs.SectionTable.{AreBlockRanks};
-ghost use Rattle.ldmodel.specs.HandedOver.{decision_of};
+ghost use Rattle.ldmodel.specs.CodeValues.{decision_of};
 ghost use Rattle.ldmodel.specs.InputSections as inputs;
 ghost use Rattle.ldmodel.specs.Names.{is_common_place};
 ghost use Rattle.ldmodel.specs.Project.{Project};
@@ -20,7 +20,7 @@ use crate::rank::Rank;
 use elfobj::Object;
 use elfobj::relocation::SymbolIndex;
 use elfobj::symbol::{Symbol, SymbolPlace};
-use ldmodel::memory::NoMemory;
+use growth::{NoMemory, vec};
 use ldmodel::names::{Case, ObjectPlace};
 use ldmodel_project::view::ProjectView;
 use std::alloc::Global;
@@ -114,7 +114,7 @@ fn add_block(blocks: &mut Vec<CommonBlock>, block: Option<CommonBlock>) -> Resul
 {
     match block {
         Some(block) => {
-            blocks.push(block)?;
+            vec::push(blocks, block)?;
             Ok(())
         }
         None => Ok(()),
@@ -162,16 +162,19 @@ pub(crate) fn common_blocks(
     ensures { IfOk result (λ all. AreBlocks project.now all.items) }
 {
     let inputs = project.inputs();
-    let mut all = Vec::with_capacity(alloc, inputs.len())?;
+    let mut all = vec::with_capacity(alloc, inputs.len())?;
     for (place, input) in inputs.iter().enumerate() {
-        all.push(blocks_of(
-            alloc,
-            project,
-            symbol_table,
-            place,
-            input.object,
-            &matches[place].commons,
-        )?)?;
+        vec::push(
+            &mut all,
+            blocks_of(
+                alloc,
+                project,
+                symbol_table,
+                place,
+                input.object,
+                &matches[place].commons,
+            )?,
+        )?;
     }
     Ok(all)
 }
@@ -181,7 +184,7 @@ fn add_ranks(ranks: &mut Vec<Rank>, place: usize, blocks: &[CommonBlock]) -> Res
     ensures { OnOk result (ranks.new.items ≡ ranks.old.items ++ map (block_rank place) blocks.now) }
 {
     for block in blocks {
-        ranks.push((place, true, block.symbol.0))?;
+        vec::push(ranks, (place, true, block.symbol.0))?;
     }
     Ok(())
 }

@@ -11,7 +11,7 @@ ghost use Rattle.gather.specs.LeftOut.{is_out_of};
 ghost use Rattle.gather.specs.Matches.{number_of};
 
 use crate::gathered_section::GatheredSection;
-use ldmodel::memory::NoMemory;
+use growth::{NoMemory, vec};
 use ldmodel::options::Orphans;
 use ldscript::Script;
 use ldscript::tree::{InputPlace, InputStatementAt};
@@ -48,9 +48,9 @@ fn each_discarded(
         ≡ map (λ (x : GatheredSection). is_out_of (shown_inputs statements.now) orphans x.size (number_of x.statement))
         sections.now) }
 {
-    let mut out = Vec::with_capacity(alloc, sections.len())?;
+    let mut out = vec::with_capacity(alloc, sections.len())?;
     for section in sections {
-        out.push(is_discarded(statements, orphans, section))?;
+        vec::push(&mut out, is_discarded(statements, orphans, section))?;
     }
     Ok(out)
 }

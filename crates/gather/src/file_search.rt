@@ -10,7 +10,7 @@ use crate::file_tables::FileTables;
 use crate::name_places::NamePlaces;
 use elfobj::Object;
 use elfobj::section::LinkedIndex;
-use ldmodel::memory::NoMemory;
+use growth::{NoMemory, vec};
 use ldmodel::rows::InputIndex;
 use std::alloc::Global;
 
@@ -89,12 +89,12 @@ pub fn matches_by(
     ensures { IfOk result (λ found. map number_of found.items ≡ matches_by words.now file.now object.now.sections) }
 {
     let count = object.sections().len();
-    let mut found = Vec::with_capacity(alloc, count)?;
+    let mut found = vec::with_capacity(alloc, count)?;
     let mut places = NamePlaces::new(alloc, words.excludes_many(file));
     let mut search = FileSearch::new(alloc, words, file)?;
     for place in 0..count {
         let statement = search.match_at(object, &places, &found, place);
-        found.push(statement)?;
+        vec::push(&mut found, statement)?;
         places.add(object, place)?;
     }
     Ok(found)

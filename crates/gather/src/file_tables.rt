@@ -8,7 +8,7 @@ ghost use Rattle.gather.specs.WordTables.{shown_listed};
 ghost use Rattle.gather.specs.Words.{shown_words, words_of};
 
 use crate::word_table::{WordTable, lesser};
-use ldmodel::memory::NoMemory;
+use growth::{NoMemory, btree_map};
 use ldmodel::rows::InputIndex;
 use ldscript::tree::Input;
 use std::alloc::Global;
@@ -53,7 +53,7 @@ impl<'a> FileTables<'a> {
             None => {
                 let mut own = WordTable::new(alloc);
                 own.add_statement(alloc, statement, input)?;
-                self.own.insert(file, own)?;
+                btree_map::insert(&mut self.own, file, own)?;
                 Ok(())
             }
         }

@@ -18,10 +18,10 @@ use crate::matches::Matches;
 use crate::runs::{TakenRun, split_run};
 use elfobj::file::constants::{SHF_ALLOC, SHF_WRITE};
 use elfobj::section::{Section, SectionKind};
-use ldmodel::memory::NoMemory;
+use growth::{NoMemory, vec};
 use ldmodel::names::ObjectPlace;
 use ldmodel::rows::{InputIndex, Piece};
-use ldmodel::sections::{Part, SectionKey};
+use ldmodel::sections::{Part, SectionRef};
 use ldmodel_project::input::InputObject;
 use ldmodel_project::view::ProjectView;
 use std::alloc::Global;
@@ -30,7 +30,7 @@ use std::alloc::Global;
 #[derive(Clone, Copy)]
 pub struct GatheredSection {
     /// Which one it is.
-    pub section: SectionKey,
+    pub section: SectionRef,
     /// What it holds; `Nobits` for a common block.
     pub kind: SectionKind,
     /// `sh_flags`; `SHF_ALLOC` and `SHF_WRITE` for a common block.
@@ -62,15 +62,15 @@ impl GatheredSection {
 /// A linked section of an object. `statement` is the one that takes it.
 #[inline(always)]
 pub(crate) fn linked(
-    key: ObjectPlace,
+    place: ObjectPlace,
     statement: Option<InputIndex>,
     section: &Section,
 ) -> GatheredSection
-    ensures { result ≡ gathered key statement section.now }
+    ensures { result ≡ gathered place statement section.now }
 {
     GatheredSection {
-        section: SectionKey {
-            object: key,
+        section: SectionRef {
+            object: place,
             part: Part::InTable(section.number),
         },
         kind: section.kind,
@@ -84,14 +84,14 @@ pub(crate) fn linked(
 /// Adds linked sections of an object that this statement takes.
 fn add_run(
     sections: &mut Vec<GatheredSection>,
-    key: ObjectPlace,
+    place: ObjectPlace,
     statement: Option<InputIndex>,
     run: &[Section],
 ) -> Result<(), NoMemory>
-    ensures { OnOk result (sections.new.items ≡ sections.old.items ++ map (gathered key statement) run.now) }
+    ensures { OnOk result (sections.new.items ≡ sections.old.items ++ map (gathered place statement) run.now) }
 {
     for section in run {
-        sections.push(linked(key, statement, section))?;
+        vec::push(sections, linked(place, statement, section))?;
     }
     Ok(())
 }
@@ -99,16 +99,16 @@ fn add_run(
 /// Adds the linked sections of an object.
 fn add_linked(
     sections: &mut Vec<GatheredSection>,
-    key: ObjectPlace,
+    place: ObjectPlace,
     linked: &[Section],
     runs: &[TakenRun],
 ) -> Result<(), NoMemory>
-    ensures { OnOk result (sections.new.items ≡ sections.old.items ++ gathered_by key linked.now runs.now) }
+    ensures { OnOk result (sections.new.items ≡ sections.old.items ++ gathered_by place linked.now runs.now) }
 {
     let mut rest = linked;
     for run in runs {
         let (own, later) = split_run(rest, *run);
-        add_run(sections, key, run.statement, own)?;
+        add_run(sections, place, run.statement, own)?;
         rest = later;
     }
     Ok(())
@@ -116,15 +116,15 @@ fn add_linked(
 
 /// A common block that an object owns. `statement` is the one that takes it.
 pub(crate) fn block(
-    key: ObjectPlace,
+    place: ObjectPlace,
     statement: Option<InputIndex>,
     block: CommonBlock,
 ) -> GatheredSection
-    ensures { shown_facts result ≡ block_facts key.0 (number_of statement) block }
+    ensures { shown_facts result ≡ block_facts place.0 (number_of statement) block }
 {
     GatheredSection {
-        section: SectionKey {
-            object: key,
+        section: SectionRef {
+            object: place,
             part: Part::InCommon(block.symbol),
         },
         kind: SectionKind::Nobits,
@@ -138,15 +138,15 @@ pub(crate) fn block(
 /// Adds the common blocks that an object owns.
 fn add_blocks(
     sections: &mut Vec<GatheredSection>,
-    key: ObjectPlace,
+    place: ObjectPlace,
     statement: Option<InputIndex>,
     blocks: &[CommonBlock],
 ) -> Result<(), NoMemory>
     ensures { OnOk result (AddsFacts sections.old.items sections.new.items
-        (map (block_facts key.0 (number_of statement)) blocks.now)) }
+        (map (block_facts place.0 (number_of statement)) blocks.now)) }
 {
     for own in blocks {
-        sections.push(block(key, statement, *own))?;
+        vec::push(sections, block(place, statement, *own))?;
     }
     Ok(())
 }
@@ -198,7 +198,7 @@ pub(crate) fn input_sections(
     ensures { IfOk result (λ sections. AreGathered project.now sections.items) }
 {
     let inputs = project.inputs();
-    let mut sections = Vec::with_capacity(alloc, count_sections(inputs, blocks))?;
+    let mut sections = vec::with_capacity(alloc, count_sections(inputs, blocks))?;
     for (place, input) in inputs.iter().enumerate() {
         add_object(&mut sections, place, input, matches[place], &blocks[place])?;
     }

@@ -16,9 +16,9 @@ use crate::live_sections::orphans;
 use crate::matches::Matches;
 use crate::rows::{join_buckets, rows};
 use crate::taking::take_all;
-use ldmodel::memory::NoMemory;
+use growth::NoMemory;
 use ldmodel::rows::Piece;
-use ldmodel::sections::SectionKey;
+use ldmodel::sections::SectionRef;
 use ldmodel_laws::gathering::live_by_path;
 use ldmodel_project::view::ProjectView;
 use std::alloc::Global;
@@ -32,7 +32,7 @@ pub struct Gathering {
     /// One row for each output section, in the order of the script.
     pub rows: Vec<Vec<Piece>>,
     /// The live input sections that no statement takes, in object order and then section order. Each is a fault.
-    pub orphans: Vec<SectionKey>,
+    pub orphans: Vec<SectionRef>,
 }
 
 /// Gathers what is live, for a link with `--gc-sections`. `blocks` has the common blocks of each object.

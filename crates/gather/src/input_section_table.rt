@@ -10,7 +10,7 @@ use crate::rank::{Rank, find_rank};
 use crate::slots::{Slots, lay_slots, sum};
 use elfobj::relocation::SymbolIndex;
 use elfobj::section::SectionIndex;
-use ldmodel::memory::NoMemory;
+use growth::NoMemory;
 use ldmodel::names::ObjectPlace;
 use ldmodel::sections::Part;
 use ldmodel_project::view::ProjectView;

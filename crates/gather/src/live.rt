@@ -17,7 +17,7 @@ use crate::places::{Places, places_of};
 use crate::referring::ProjectReferences;
 use crate::roots::roots;
 use crate::targets::entry_section;
-use ldmodel::memory::NoMemory;
+use growth::NoMemory;
 use ldmodel_project::view::ProjectView;
 use std::alloc::Global;
 use symres::SymbolTable;

@@ -1,7 +1,7 @@
 //! What becomes of the live sections: statements take them, or they are orphans.
 
 ghost use Rattle.std.specs.Prelude.{◌≡◌, ◌++◌, ◌∷◌, [], IfOk, OnOk, false, map, slice_index_or, if◌then◌else◌};
-ghost use Rattle.ldmodel.specs.HandedOver.{section_id};
+ghost use Rattle.ldmodel.specs.CodeValues.{section_id};
 ghost use Rattle.ldmodel.specs.InputSections.{input_sections};
 ghost use Rattle.ldmodel.specs.Live.{live, orphans};
 ghost use Rattle.ldmodel.specs.Project.{Project};
@@ -11,8 +11,8 @@ ghost use Rattle.gather.specs.GatheredSections.{AreGathered, untaken};
 ghost use Rattle.gather.specs.LiveMarks.{marked};
 
 use crate::gathered_section::GatheredSection;
-use ldmodel::memory::NoMemory;
-use ldmodel::sections::SectionKey;
+use growth::{NoMemory, vec};
+use ldmodel::sections::SectionRef;
 use std::alloc::Global;
 
 /// Whether the section of this number is marked as live; one past the marks is not.
@@ -24,7 +24,7 @@ pub(crate) fn is_marked(marks: &[bool], number: usize) -> bool
 
 /// Adds a section, if it is live and no statement takes it.
 fn add_untaken(
-    found: &mut Vec<SectionKey>,
+    found: &mut Vec<SectionRef>,
     section: &GatheredSection,
     is_live: bool,
 ) -> Result<(), NoMemory>
@@ -33,7 +33,7 @@ fn add_untaken(
 {
     match section.statement {
         None if is_live => {
-            found.push(section.section)?;
+            vec::push(found, section.section)?;
             Ok(())
         }
         _ => Ok(()),
@@ -50,7 +50,7 @@ pub fn orphans(
     alloc: Global,
     sections: &[GatheredSection],
     marks: &[bool],
-) -> Result<Vec<SectionKey>, NoMemory>
+) -> Result<Vec<SectionRef>, NoMemory>
     ensures { IfOk result (λ found. (project : Project) → AreGathered project sections.now
         → marked marks.now (input_sections project) ≡ live project → map (section_id (λ key. key)) found.items
         ≡ map (λ (section : InputSection). section.id) (orphans project)) }

@@ -8,7 +8,7 @@ ghost use Rattle.gather.specs.LiveMarks.{IsGraphOf, marked};
 ghost use Rattle.gather.specs.Graphs.{IsLive, IsMarked, IsVisit, graph_of};
 
 use crate::references::References;
-use ldmodel::memory::NoMemory;
+use growth::{NoMemory, vec};
 use ldmodel_laws::gathering::live_by_path;
 use std::alloc::Global;
 
@@ -24,7 +24,7 @@ fn visit(
 {
     if next < out.len() && !(out[next] || live[next]) {
         live[next] = true;
-        stack.push(next)?;
+        vec::push(stack, next)?;
     }
     Ok(())
 }
@@ -43,7 +43,7 @@ fn reach<R: References>(
     ensures live { IfOk result (λ live. (s : ℕ)
         → IsMarked live.items s ↔ IsLive (graph_of out.now roots.now (R.refers references.now)) s) }
 {
-    let mut live = vec![in alloc; false; out.len()]?;
+    let mut live = vec::from_elem(alloc, false, out.len())?;
     let mut stack: Vec<usize> = Vec::new(alloc);
     for root in roots {
         visit(&mut live, &mut stack, out, *root)?;

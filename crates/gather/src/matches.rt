@@ -7,7 +7,7 @@ use crate::blocks::common_symbols;
 use crate::matcher::Matcher;
 use crate::runs::{TakenRun, runs_of};
 use elfobj::Object;
-use ldmodel::memory::NoMemory;
+use growth::{NoMemory, vec};
 use ldmodel::rows::InputIndex;
 use ldmodel_project::view::ProjectView;
 use std::alloc::Global;
@@ -59,9 +59,12 @@ pub fn match_all(alloc: Global, project: &ProjectView<'_>) -> Result<Vec<Matches
 {
     let matcher = Matcher::new(alloc, project.script())?;
     let inputs = project.inputs();
-    let mut all = Vec::with_capacity(alloc, inputs.len())?;
+    let mut all = vec::with_capacity(alloc, inputs.len())?;
     for input in inputs {
-        all.push(match_object(alloc, &matcher, input.name, input.object)?)?;
+        vec::push(
+            &mut all,
+            match_object(alloc, &matcher, input.name, input.object)?,
+        )?;
     }
     Ok(all)
 }
@@ -74,9 +77,9 @@ pub fn match_all(alloc: Global, project: &ProjectView<'_>) -> Result<Vec<Matches
 pub fn lend_all(alloc: Global, all: &[Matches]) -> Result<Vec<&Matches>, NoMemory>
     ensures { IfOk result (λ lent. map (λ x. x.now) lent.items ≡ all.now) }
 {
-    let mut lent = Vec::with_capacity(alloc, all.len())?;
+    let mut lent = vec::with_capacity(alloc, all.len())?;
     for matches in all {
-        lent.push(matches)?;
+        vec::push(&mut lent, matches)?;
     }
     Ok(lent)
 }

@@ -5,7 +5,7 @@ ghost use Rattle.std.specs.Prelude.{◌≡◌, ◌<◌, IfSome, IsTrue, length, 
 use elfobj::Object;
 use elfobj::section::LinkedIndex;
 use elfobj::span::Span;
-use ldmodel::memory::NoMemory;
+use growth::{NoMemory, btree_map};
 use std::alloc::Global;
 use std::collections::BTreeMap;
 
@@ -57,10 +57,13 @@ impl<'o> NamePlaces<'o> {
     {
         let name = object.section_name_place(LinkedIndex(place));
         if is_long(name) {
-            self.long.insert(name.start, place)?;
+            btree_map::insert(&mut self.long, name.start, place)?;
         } else if self.has_short {
-            self.short
-                .insert(object.section_name(LinkedIndex(place)), place)?;
+            btree_map::insert(
+                &mut self.short,
+                object.section_name(LinkedIndex(place)),
+                place,
+            )?;
         }
         Ok(())
     }

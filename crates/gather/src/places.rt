@@ -8,8 +8,8 @@ ghost use Rattle.gather.specs.SectionTable.{IsTableOf};
 use crate::gathered_section::GatheredSection;
 use crate::input_section_table::{InputSectionTable, SectionNumber};
 use crate::law::sections_apart;
-use ldmodel::memory::NoMemory;
-use ldmodel::sections::SectionKey;
+use growth::{NoMemory, vec};
+use ldmodel::sections::SectionRef;
 use ldmodel_project::view::ProjectView;
 use std::alloc::Global;
 
@@ -49,7 +49,7 @@ pub(crate) fn places_of(
 {
     // for the prover: brings in this law
     sections_apart();
-    let mut places = vec![in alloc; None; table.len() as usize]?;
+    let mut places = vec::from_elem(alloc, None, table.len() as usize)?;
     for (place, section) in sections.iter().enumerate() {
         let key = section.section;
         put(&mut places, table.find(key.object, key.part), place);
@@ -60,7 +60,7 @@ pub(crate) fn places_of(
 impl Places<'_> {
     /// The place of the section of a key, if it has one. For a section the time is constant, for a common block it is
     /// logarithmic in the number of common blocks.
-    pub(crate) fn find(&self, key: Option<SectionKey>) -> Option<usize>
+    pub(crate) fn find(&self, key: Option<SectionRef>) -> Option<usize>
         ensures { result ≡ option_and_then (place_in self.now) key }
     {
         let key = key?;

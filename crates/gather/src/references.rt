@@ -2,7 +2,7 @@
 
 ghost use Rattle.std.specs.Prelude.{◌≡◌, ◌<◌, ◌↔◌, ℕ, Contains, OnOk};
 
-use ldmodel::memory::NoMemory;
+use growth::NoMemory;
 
 /// The references of sections that are numbered from 0 on.
 pub trait References {

@@ -18,7 +18,7 @@ use crate::targets::section_at;
 use elfobj::relocation::SymbolIndex;
 use elfobj::section::SectionIndex;
 use elfobj::{Object, Relocation};
-use ldmodel::memory::NoMemory;
+use growth::{NoMemory, vec};
 use ldmodel::names::{NameKey, ObjectPlace};
 use ldmodel::sections::Part;
 use ldmodel_project::view::ProjectView;
@@ -31,7 +31,7 @@ fn add_number(targets: &mut Vec<usize>, number: Option<usize>) -> Result<(), NoM
 {
     match number {
         Some(number) => {
-            targets.push(number)?;
+            vec::push(targets, number)?;
             Ok(())
         }
         None => Ok(()),

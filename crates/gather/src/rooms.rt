@@ -5,7 +5,7 @@ ghost use Rattle.gather.specs.RowPieces.{AreEmpty};
 
 use crate::blocks::CommonBlock;
 use crate::matches::Matches;
-use ldmodel::memory::NoMemory;
+use growth::{NoMemory, vec};
 use ldmodel::rows::{InputIndex, Piece};
 use ldscript::tree::{InputPlace, InputStatementAt};
 use std::alloc::Global;
@@ -35,7 +35,7 @@ fn count_all(
     blocks: &[Vec<CommonBlock>],
     statements: usize,
 ) -> Result<Vec<usize>, NoMemory> {
-    let mut counts = vec![in alloc; 0_usize; statements]?;
+    let mut counts = vec::from_elem(alloc, 0_usize, statements)?;
     for (matches, blocks) in matches.iter().zip(blocks) {
         count_object(&mut counts, matches, blocks);
     }
@@ -58,7 +58,7 @@ fn row_lengths(
     counts: &[usize],
     outputs: usize,
 ) -> Result<Vec<usize>, NoMemory> {
-    let mut lengths = vec![in alloc; 0_usize; outputs]?;
+    let mut lengths = vec::from_elem(alloc, 0_usize, outputs)?;
     for (statement, count) in statements.iter().zip(counts) {
         add_length(&mut lengths, statement.place, *count);
     }
@@ -94,11 +94,11 @@ pub(crate) fn empty_buckets(
     ensures { IfOk result (λ lists. AreEmpty (length statements.now) lists.items) }
 {
     let mut lengths = row_lengths(alloc, statements, counts, outputs)?;
-    let mut buckets: Vec<Vec<Piece>> = Vec::with_capacity(alloc, statements.len())?;
+    let mut buckets: Vec<Vec<Piece>> = vec::with_capacity(alloc, statements.len())?;
     for (number, statement) in statements.iter().enumerate() {
         let count = counts.get(number).copied().unwrap_or(0);
         let room = room(&mut lengths, statement.place, count);
-        buckets.push(Vec::with_capacity(alloc, room)?)?;
+        vec::push(&mut buckets, vec::with_capacity(alloc, room)?)?;
     }
     Ok(buckets)
 }

@@ -13,7 +13,7 @@ ghost use Rattle.gather.specs.Matches.{number_of};
 ghost use Rattle.gather.specs.Roots.{is_kept_by, kept_numbers};
 
 use crate::gathered_section::GatheredSection;
-use ldmodel::memory::NoMemory;
+use growth::{NoMemory, vec};
 use ldmodel::rows::InputIndex;
 use ldscript::Script;
 use ldscript::tree::InputStatementAt;
@@ -37,7 +37,7 @@ fn add_kept(found: &mut Vec<usize>, number: usize, is_kept: bool) -> Result<(), 
     ensures { OnOk result (found.new.items ≡ found.old.items ++ (if is_kept then number ∷ [] else [])) }
 {
     if is_kept {
-        found.push(number)?;
+        vec::push(found, number)?;
     }
     Ok(())
 }
@@ -64,7 +64,7 @@ fn add_entry(found: &mut Vec<usize>, entry: Option<usize>) -> Result<(), NoMemor
 {
     match entry {
         Some(number) => {
-            found.push(number)?;
+            vec::push(found, number)?;
             Ok(())
         }
         None => Ok(()),

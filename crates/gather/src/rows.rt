@@ -19,7 +19,7 @@ use crate::live_sections::is_marked;
 use crate::rooms::{count_taken, empty_buckets};
 use crate::sorting::order;
 use elfobj::section::Section;
-use ldmodel::memory::NoMemory;
+use growth::{NoMemory, vec};
 use ldmodel::names::ObjectPlace;
 use ldmodel::rows::{InputIndex, Piece};
 use ldmodel_project::view::ProjectView;
@@ -31,9 +31,9 @@ use std::mem;
 fn empty_rows(alloc: Global, count: usize) -> Result<Vec<Vec<Piece>>, NoMemory>
     ensures { IfOk result (λ lists. AreEmpty count lists.items) }
 {
-    let mut lists: Vec<Vec<Piece>> = Vec::with_capacity(alloc, count)?;
+    let mut lists: Vec<Vec<Piece>> = vec::with_capacity(alloc, count)?;
     for _number in 0..count {
-        lists.push(Vec::new(alloc))?;
+        vec::push(&mut lists, Vec::new(alloc))?;
     }
     Ok(lists)
 }
@@ -45,7 +45,7 @@ fn counts(
     marks: &[bool],
     statements: usize,
 ) -> Result<Vec<usize>, NoMemory> {
-    let mut counts = vec![in alloc; 0_usize; statements]?;
+    let mut counts = vec::from_elem(alloc, 0_usize, statements)?;
     for (place, section) in sections.iter().enumerate() {
         if is_marked(marks, place) {
             count_taken(&mut counts, section.statement, 1);
@@ -63,7 +63,7 @@ fn push_piece(list: &mut Vec<Piece>, piece: Piece) -> Result<(), NoMemory>
         list.push_reserved(piece);
         return Ok(());
     }
-    list.push(piece)?;
+    vec::push(list, piece)?;
     Ok(())
 }
 
@@ -88,14 +88,17 @@ pub(crate) fn add_section(
 /// Adds linked sections of an object to a list, as pieces that this statement takes.
 fn push_run(
     list: &mut Vec<Piece>,
-    key: ObjectPlace,
+    place: ObjectPlace,
     statement: InputIndex,
     run: &[Section],
 ) -> Result<(), NoMemory>
-    ensures { OnOk result (list.new.items ≡ list.old.items ++ map (linked_piece key statement) run.now) }
+    ensures { OnOk result (list.new.items ≡ list.old.items ++ map (linked_piece place statement) run.now) }
 {
     for section in run {
-        push_piece(list, linked(key, Some(statement), section).piece(statement))?;
+        push_piece(
+            list,
+            linked(place, Some(statement), section).piece(statement),
+        )?;
     }
     Ok(())
 }
@@ -103,16 +106,16 @@ fn push_run(
 /// Adds linked sections of an object to those of the statement that takes them.
 pub(crate) fn add_run(
     buckets: &mut Vec<Vec<Piece>>,
-    key: ObjectPlace,
+    place: ObjectPlace,
     statement: InputIndex,
     run: &[Section],
 ) -> Result<(), NoMemory>
     ensures { OnOk result ((xs : List Piece) (count : ℕ) → AreBuckets xs count buckets.old.items
-        → AreBuckets (xs ++ map (linked_piece key statement) run.now) count buckets.new.items) }
+        → AreBuckets (xs ++ map (linked_piece place statement) run.now) count buckets.new.items) }
 {
     let number = statement.0 as usize;
     if number < buckets.len() {
-        push_run(&mut buckets[number], key, statement, run)?;
+        push_run(&mut buckets[number], place, statement, run)?;
     }
     Ok(())
 }
@@ -161,7 +164,7 @@ fn add_pieces(row: &mut Vec<Piece>, pieces: &mut Vec<Piece>) -> Result<(), NoMem
         mem::swap(row, pieces);
         return Ok(());
     }
-    row.append(pieces)
+    vec::append(row, pieces)
 }
 
 /// Adds the pieces that a statement takes, in the order of its sort, to the row of its output section.

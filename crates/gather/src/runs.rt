@@ -5,7 +5,7 @@ ghost use Rattle.gather.specs.Matches.{number_of};
 ghost use Rattle.gather.specs.Runs.{numbers_in, numbers_of};
 
 use elfobj::section::Section;
-use ldmodel::memory::NoMemory;
+use growth::{NoMemory, vec};
 use ldmodel::rows::InputIndex;
 use std::alloc::Global;
 
@@ -38,7 +38,7 @@ fn add_run(runs: &mut Vec<TakenRun>, run: TakenRun) -> Result<(), NoMemory>
     ensures { OnOk result (numbers_of runs.new.items ≡ numbers_of runs.old.items ++ numbers_in run) }
 {
     if run.count > 0 {
-        runs.push(run)?;
+        vec::push(runs, run)?;
     }
     Ok(())
 }

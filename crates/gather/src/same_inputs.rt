@@ -7,7 +7,7 @@ ghost use Rattle.gather.specs.ProjectMatches.{IsMatched};
 ghost use Rattle.gather.specs.SameInputs.{input_of};
 ghost use Rattle.gather.specs.declared.matches.Matches.{Matches};
 
-use ldmodel::memory::NoMemory;
+use growth::NoMemory;
 use ldscript::Script;
 use ldscript::tree::InputStatementAt;
 use std::alloc::Global;

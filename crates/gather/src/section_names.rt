@@ -8,7 +8,7 @@ ghost use Rattle.ldmodel_project.specs.ByPlace.{name_of_section};
 
 use elfobj::Object;
 use elfobj::section::SectionIndex;
-use ldmodel::sections::{Part, SectionKey};
+use ldmodel::sections::{Part, SectionRef};
 use ldmodel_project::view::ProjectView;
 
 /// The name of the section of this header number; no bytes if it is no linked one.
@@ -26,7 +26,7 @@ fn name_at(object: &Object, number: SectionIndex) -> &[u8]
 
 /// The name of an input section, by binary search among the sections of its object; that of a common block is
 /// `COMMON`.
-pub(crate) fn section_name<'a>(project: &ProjectView<'a>, section: SectionKey) -> &'a [u8]
+pub(crate) fn section_name<'a>(project: &ProjectView<'a>, section: SectionRef) -> &'a [u8]
     ensures { result.now ≡ name_of_section project.now section }
 {
     match section.part {

@@ -6,8 +6,7 @@ ghost use Rattle.gather.specs.Slots.{AreLaid, AreLinkedBefore, AreLinkedCounted}
 
 use elfobj::Object;
 use elfobj::section::SectionIndex;
-use ldmodel::impossible::impossible;
-use ldmodel::memory::NoMemory;
+use growth::{NoMemory, impossible, vec};
 use ldmodel_project::view::ProjectView;
 use std::alloc::Global;
 
@@ -78,16 +77,19 @@ pub(crate) fn lay_slots(alloc: Global, project: &ProjectView<'_>) -> Result<AllS
     ensures linked { IfOk result (λ x. AreLinkedBefore project.now x.objects.items) }
 {
     let inputs = project.inputs();
-    let mut objects = Vec::with_capacity(alloc, inputs.len())?;
+    let mut objects = vec::with_capacity(alloc, inputs.len())?;
     let mut slots: u32 = 0;
     let mut linked: usize = 0;
     for input in inputs {
         let count = count_of(input.object);
-        objects.push(Slots {
-            begin: slots,
-            count,
-            linked,
-        })?;
+        vec::push(
+            &mut objects,
+            Slots {
+                begin: slots,
+                count,
+                linked,
+            },
+        )?;
         slots = sum(slots, count as usize)?;
         linked += input.object.sections().len();
     }

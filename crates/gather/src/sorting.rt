@@ -11,7 +11,7 @@ ghost use Rattle.ldscript.specs.statements.declared.input.Sort.TheVariants.{ByNa
 
 use crate::section_names::section_name;
 use crate::shared_start::shared_start;
-use ldmodel::memory::NoMemory;
+use growth::{NoMemory, vec};
 use ldmodel::rows::Piece;
 use ldmodel_laws::gathering::row_by_order;
 use ldmodel_project::view::ProjectView;
@@ -34,9 +34,9 @@ fn names_of<'a>(
 ) -> Result<Vec<&'a [u8]>, NoMemory>
     ensures { IfOk result (λ names. AreNames project.now pieces.now names.items) }
 {
-    let mut names = Vec::with_capacity(alloc, pieces.len())?;
+    let mut names = vec::with_capacity(alloc, pieces.len())?;
     for piece in pieces {
-        names.push(section_name(project, piece.section))?;
+        vec::push(&mut names, section_name(project, piece.section))?;
     }
     Ok(names)
 }
@@ -50,12 +50,15 @@ fn places_of<'a>(
     requires { AllBegin start.now names.now }
     ensures { IfOk result (λ places. AreOfNames start.now names.now (length names.now) places.items) }
 {
-    let mut places = Vec::with_capacity(alloc, names.len())?;
+    let mut places = vec::with_capacity(alloc, names.len())?;
     for (place, name) in names.iter().enumerate() {
-        places.push(NamedPlace {
-            name: KeyedName::new(&name[start.len()..]),
-            place,
-        })?;
+        vec::push(
+            &mut places,
+            NamedPlace {
+                name: KeyedName::new(&name[start.len()..]),
+                place,
+            },
+        )?;
     }
     Ok(places)
 }
@@ -69,9 +72,9 @@ fn put_in_order(
     requires { All (λ (x : NamedPlace). x.place < length pieces.old.items) places.now }
     ensures { OnOk result (pieces.new.items ≡ pieces_at pieces.old.items places.now) }
 {
-    let mut ordered = Vec::with_capacity(alloc, places.len())?;
+    let mut ordered = vec::with_capacity(alloc, places.len())?;
     for entry in places {
-        ordered.push(pieces[entry.place])?;
+        vec::push(&mut ordered, pieces[entry.place])?;
     }
     *pieces = ordered;
     Ok(())
@@ -89,7 +92,7 @@ fn sort_by_name(
     row_by_order();
     let names = names_of(alloc, project, pieces)?;
     let mut places = places_of(alloc, &names, shared_start(&names))?;
-    places.sort_by(|a, b| a.name.cmp(&b.name))?;
+    vec::sort_by(&mut places, |a, b| a.name.cmp(&b.name))?;
     put_in_order(alloc, pieces, &places)
 }
 
@@ -106,7 +109,7 @@ fn sort_by_alignment(pieces: &mut Vec<Piece>) -> Result<(), NoMemory>
 {
     // for the prover: brings in this law
     row_by_order();
-    pieces.sort_by(|a, b| alignment(b).cmp(&alignment(a)))
+    vec::sort_by(pieces, |a, b| alignment(b).cmp(&alignment(a)))
 }
 
 /// Puts pieces in the order of a statement's sort: by name, byte by byte, or by alignment, the greatest first. Those

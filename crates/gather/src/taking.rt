@@ -24,11 +24,11 @@ use crate::rooms::buckets_for;
 use crate::rows::{add_run, add_section};
 use crate::runs::{TakenRun, split_run};
 use elfobj::section::Section;
-use ldmodel::memory::NoMemory;
+use growth::{NoMemory, vec};
 use ldmodel::names::ObjectPlace;
 use ldmodel::options::Orphans;
 use ldmodel::rows::{InputIndex, Piece};
-use ldmodel::sections::SectionKey;
+use ldmodel::sections::SectionRef;
 use ldmodel_project::input::InputObject;
 use ldmodel_project::view::ProjectView;
 use ldscript::tree::{InputPlace, InputStatementAt};
@@ -40,7 +40,7 @@ pub(crate) struct Taken {
     /// The pieces that each statement takes.
     pub(crate) buckets: Vec<Vec<Piece>>,
     /// The sections that no statement takes and that are not discarded.
-    pub(crate) orphans: Vec<SectionKey>,
+    pub(crate) orphans: Vec<SectionRef>,
 }
 
 /// Takes a section, unless it is discarded.
@@ -59,7 +59,7 @@ fn take_section(
     match section.statement {
         Some(statement) => add_section(&mut taken.buckets, section, statement),
         None => {
-            taken.orphans.push(section.section)?;
+            vec::push(&mut taken.orphans, section.section)?;
             Ok(())
         }
     }
@@ -70,15 +70,20 @@ fn take_each(
     taken: &mut Taken,
     statements: &[InputStatementAt<'_>],
     orphans: Orphans,
-    key: ObjectPlace,
+    place: ObjectPlace,
     statement: Option<InputIndex>,
     run: &[Section],
 ) -> Result<(), NoMemory>
     ensures { OnOk result (Takes (shown_inputs statements.now) orphans taken.old taken.new
-        (map (gathered key statement) run.now)) }
+        (map (gathered place statement) run.now)) }
 {
     for section in run {
-        take_section(taken, statements, orphans, &linked(key, statement, section))?;
+        take_section(
+            taken,
+            statements,
+            orphans,
+            &linked(place, statement, section),
+        )?;
     }
     Ok(())
 }
@@ -99,17 +104,17 @@ fn take_matched(
     taken: &mut Taken,
     statements: &[InputStatementAt<'_>],
     orphans: Orphans,
-    key: ObjectPlace,
+    place: ObjectPlace,
     number: InputIndex,
     run: &[Section],
 ) -> Result<(), NoMemory>
     ensures { OnOk result (Takes (shown_inputs statements.now) orphans taken.old taken.new
-        (map (gathered key (Some number)) run.now)) }
+        (map (gathered place (Some number)) run.now)) }
 {
     if is_placed(statements, number) {
-        return add_run(&mut taken.buckets, key, number, run);
+        return add_run(&mut taken.buckets, place, number, run);
     }
-    take_each(taken, statements, orphans, key, Some(number), run)
+    take_each(taken, statements, orphans, place, Some(number), run)
 }
 
 /// Takes linked sections of an object that this statement takes, if one does.
@@ -117,16 +122,16 @@ fn take_run(
     taken: &mut Taken,
     statements: &[InputStatementAt<'_>],
     orphans: Orphans,
-    key: ObjectPlace,
+    place: ObjectPlace,
     statement: Option<InputIndex>,
     run: &[Section],
 ) -> Result<(), NoMemory>
     ensures { OnOk result (Takes (shown_inputs statements.now) orphans taken.old taken.new
-        (map (gathered key statement) run.now)) }
+        (map (gathered place statement) run.now)) }
 {
     match statement {
-        Some(number) => take_matched(taken, statements, orphans, key, number, run),
-        None => take_each(taken, statements, orphans, key, None, run),
+        Some(number) => take_matched(taken, statements, orphans, place, number, run),
+        None => take_each(taken, statements, orphans, place, None, run),
     }
 }
 
@@ -135,17 +140,17 @@ fn take_linked(
     taken: &mut Taken,
     statements: &[InputStatementAt<'_>],
     orphans: Orphans,
-    key: ObjectPlace,
+    place: ObjectPlace,
     linked: &[Section],
     runs: &[TakenRun],
 ) -> Result<(), NoMemory>
     ensures { OnOk result (Takes (shown_inputs statements.now) orphans taken.old taken.new
-        (gathered_by key linked.now runs.now)) }
+        (gathered_by place linked.now runs.now)) }
 {
     let mut rest = linked;
     for run in runs {
         let (own, later) = split_run(rest, *run);
-        take_run(taken, statements, orphans, key, run.statement, own)?;
+        take_run(taken, statements, orphans, place, run.statement, own)?;
         rest = later;
     }
     Ok(())
@@ -156,15 +161,15 @@ fn take_blocks(
     taken: &mut Taken,
     statements: &[InputStatementAt<'_>],
     orphans: Orphans,
-    key: ObjectPlace,
+    place: ObjectPlace,
     matched: Option<InputIndex>,
     blocks: &[CommonBlock],
 ) -> Result<(), NoMemory>
     ensures { OnOk result (TakesFacts (shown_inputs statements.now) orphans taken.old taken.new
-        (map (block_facts key.0 (number_of matched)) blocks.now)) }
+        (map (block_facts place.0 (number_of matched)) blocks.now)) }
 {
     for number in 0..blocks.len() {
-        let section = block(key, matched, blocks[number]);
+        let section = block(place, matched, blocks[number]);
         take_section(taken, statements, orphans, &section)?;
     }
     Ok(())

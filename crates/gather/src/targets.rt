@@ -3,23 +3,23 @@
 ghost use Rattle.std.specs.Prelude.{◌≡◌};
 ghost use Rattle.std.specs.Option.{option_map};
 ghost use Rattle.elfobj.specs.Symbols.{NamedSymbol};
-ghost use Rattle.ldmodel.specs.HandedOver.{decision_of, entry_of, section_id};
+ghost use Rattle.ldmodel.specs.CodeValues.{decision_of, entry_of, section_id};
 ghost use Rattle.ldmodel.specs.Live.{entry_section, section_of_place, section_of_decision, section_of_entry};
 ghost use Rattle.ldmodel.specs.Live.{symbol_at};
 ghost use Rattle.symres.specs.SymbolTable.{IsSymbolTable};
 
 use elfobj::symbol::SymbolPlace;
 use ldmodel::names::{Case, Entry, ObjectPlace};
-use ldmodel::sections::{Part, SectionKey};
+use ldmodel::sections::{Part, SectionRef};
 use ldmodel_project::view::ProjectView;
 use symres::SymbolTable;
 
 /// The section that a symbol of the object at a place is defined in, if it is in one.
-pub(crate) fn section_at(object: ObjectPlace, at: SymbolPlace) -> Option<SectionKey>
+pub(crate) fn section_at(object: ObjectPlace, at: SymbolPlace) -> Option<SectionRef>
     ensures { option_map (section_id (λ key. key)) result ≡ section_of_place object.0 at }
 {
     match at {
-        SymbolPlace::Section(number) => Some(SectionKey {
+        SymbolPlace::Section(number) => Some(SectionRef {
             object,
             part: Part::InTable(number),
         }),
@@ -38,7 +38,7 @@ fn place_of(project: &ProjectView<'_>, entry: Entry<ObjectPlace>) -> Option<Symb
 }
 
 /// The section that an entry is defined in, if it is in one.
-fn section_of_entry(project: &ProjectView<'_>, entry: Entry<ObjectPlace>) -> Option<SectionKey>
+fn section_of_entry(project: &ProjectView<'_>, entry: Entry<ObjectPlace>) -> Option<SectionRef>
     ensures { option_map (section_id (λ key. key)) result
         ≡ section_of_entry project.now (entry_of (λ key. key) entry) }
 {
@@ -50,13 +50,13 @@ fn section_of_entry(project: &ProjectView<'_>, entry: Entry<ObjectPlace>) -> Opt
 pub(crate) fn section_of_case(
     project: &ProjectView<'_>,
     case: Case<ObjectPlace>,
-) -> Option<SectionKey>
+) -> Option<SectionRef>
     ensures { option_map (section_id (λ key. key)) result
         ≡ section_of_decision project.now (decision_of (λ key. key) case) }
 {
     match case {
         Case::Strong(entry) | Case::Weak(entry) => section_of_entry(project, entry),
-        Case::Common { owner, .. } => Some(SectionKey {
+        Case::Common { owner, .. } => Some(SectionRef {
             object: owner.object,
             part: Part::InCommon(owner.symbol),
         }),
@@ -69,7 +69,7 @@ pub(crate) fn section_of_case(
 pub(crate) fn entry_section(
     project: &ProjectView<'_>,
     symbol_table: &SymbolTable,
-) -> Option<SectionKey>
+) -> Option<SectionRef>
     requires { IsSymbolTable project.now symbol_table.now }
     ensures { option_map (section_id (λ key. key)) result ≡ entry_section project.now }
 {

@@ -12,7 +12,7 @@ ghost use Rattle.gather.specs.Matches.{number_of};
 ghost use Rattle.gather.specs.Words.{first_taker, is_named, is_wild, lesser, shown_word, shown_words, words_of};
 
 use crate::word::{WordAt, first_taker};
-use ldmodel::memory::NoMemory;
+use growth::{NoMemory, btree_map, vec};
 use ldmodel::rows::InputIndex;
 use ldscript::statements::name_kinds::NameKinds;
 use ldscript::tree::{Input, SectionWord};
@@ -69,13 +69,13 @@ impl<'a> WordTable<'a> {
         self.kinds.note(name);
         match self.named.get_mut(name) {
             Some(words) => {
-                words.push(word)?;
+                vec::push(words, word)?;
                 Ok(())
             }
             None => {
                 let mut words = Vec::new(alloc);
-                words.push(word)?;
-                self.named.insert(name, words)?;
+                vec::push(&mut words, word)?;
+                btree_map::insert(&mut self.named, name, words)?;
                 Ok(())
             }
         }
@@ -91,7 +91,7 @@ impl<'a> WordTable<'a> {
                 self.add_named(alloc, name, word)
             }
             None => {
-                self.wild.push(word)?;
+                vec::push(&mut self.wild, word)?;
                 Ok(())
             }
         }
@@ -138,7 +138,7 @@ impl<'a> WordTable<'a> {
     pub fn nothing_known(&self, alloc: Global) -> Result<Vec<Option<bool>>, NoMemory>
         ensures { IfOk result (λ known. (file : List ℕ) → AreKnown file self.now.wild.items known.items) }
     {
-        vec![in alloc; None; self.wild.len()]
+        vec::from_elem(alloc, None, self.wild.len())
     }
 
     /// Whether a word under a name excludes many file patterns.

@@ -21,6 +21,6 @@ pub fault_of_object : (script name : List ℕ) (objects : List (List ℕ)) → C
     → (fault : CommandFault) → IsFaultAmong (name ∷ []) [] fault → IsFaultAmong (script ∷ objects) [] fault
 fault_of_object script name objects has (Seed error) h = h
 fault_of_object script name objects has (Clash clash) h = h
-fault_of_object script name objects has (File Memory) h = search rules
+fault_of_object script name objects has (File (Memory _)) h = search rules
 fault_of_object script name objects has (File (Failed action n error)) h =
     let all = Contains-append_right (script ∷ []) objects name has in search (rules, all, h)

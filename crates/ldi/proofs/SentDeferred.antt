@@ -1,6 +1,5 @@
 -- What the writer of a deferred session has got.
-use Rattle.std.proofs.Common.{◌≡◌, ◌∙◌, ℕ, List, [], Option, None, Some, IfSome, IfOk, Result, Ok, Err, refl, ap}
-use Rattle.std.proofs.Common.{subst}
+use Rattle.std.proofs.Common.{◌≡◌, ◌∙◌, ℕ, List, [], Option, None, Some, IfSome, IfOk, Result, Ok, Err, refl, ap, subst}
 use Rattle.std.specs.Io.KnownBytes.{Appends, append_known}
 use Rattle.ldmodel.specs.Link.{Link}
 use Rattle.ldmodel.specs.Project.{Project}
@@ -17,8 +16,8 @@ use Rattle.ldi.proofs.Sent.{nothing_held}
 abbrev pub SinkAnswered : Holding → Option (List ℕ) → Option (List ℕ) → WriterState → Project → Link
     → Result Status RunFault → Type 0
 SinkAnswered from stream before sink project last outcome =
-    IfOk outcome (λ status. IfSome stream (λ bytes. (out given : List ℕ) × Appends before (written_in sink) out
-    × Answers from bytes out (holding project last given) (status_of status)))
+    IfOk outcome (λ status. IfSome stream (λ bytes. (out sent : List ℕ) × Appends before (written_in sink) out
+    × Answers from bytes out (holding project last sent) (status_of status)))
 
 all_sent : (from : Holding) (stream before : Option (List ℕ)) (sink : WriterState) (project : Project) (last : Link)
     (outcome : Result Status RunFault)

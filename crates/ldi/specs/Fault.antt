@@ -26,7 +26,7 @@ IsFaultAmong inputs outputs (Clash clash) = ⊤
 
 -- the status that `ldi link` ends with after a fault
 abbrev pub fault_status : CommandFault → ℕ
-fault_status (File Memory) = 4
+fault_status (File (Memory _)) = 4
 fault_status (File (Failed action name error)) = 3
 fault_status (Seed error) = 3
 fault_status (Clash clash) = 2

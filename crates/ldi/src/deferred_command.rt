@@ -7,9 +7,9 @@ ghost use Rattle.ldi_stream.specs.Ran.{FaultsCounted, status_of};
 ghost use Rattle.ldi.specs.DeferredSession.{HasAnswered, Leaves};
 
 use crate::session_command::SessionEnd;
+use growth::NoMemory;
 use ldi_deferred::run_deferred;
 use ldi_stream::devices::{AnswerWriter, CommandReader};
-use ldmodel::memory::NoMemory;
 use relink::{DeferredLinker, Options, Session};
 use std::alloc::Global;
 use std::hash::RandomState;

@@ -7,6 +7,7 @@ ghost use Rattle.ldi_files.specs.Fault.{IsOutputFault};
 ghost use Rattle.ldi.specs.Fault.{IsFaultAmong, inputs, outputs};
 
 use crate::{NO_MEMORY, REFUSED, SYSTEM_FAILED};
+use growth::{NoMemory, vec};
 use ldi_files::clash::{Clash, Outputs, Role};
 use ldi_files::fault::FileFault;
 use ldi_files::reading::FileReader;
@@ -17,7 +18,6 @@ use relink::driver::fault::LinkFault;
 use relink::driver::file::ObjectFile;
 use relink::driver::from_files::{link, link_without_map};
 use relink::{Options, Output};
-use std::alloc::AllocError;
 use std::hash::RandomState;
 use std::io;
 
@@ -67,15 +67,15 @@ impl<'a> From<FileFault<'a>> for CommandFault<'a> {
     }
 }
 
-impl From<AllocError> for CommandFault<'_> {
+impl From<NoMemory> for CommandFault<'_> {
     ghost use Rattle.std.specs.Prelude.{◌≡◌};
     ghost use Rattle.ldi_files.specs.declared.fault.FileFault.TheVariants.{Memory};
     ghost use Rattle.ldi.specs.declared.link_command.CommandFault.TheVariants.{File};
 
-    ghost from_gives = { λ _ given. given ≡ File Memory };
+    ghost from_gives = { λ no_memory given. given ≡ File (Memory no_memory) };
 
-    fn from(error: AllocError) -> Self {
-        CommandFault::File(FileFault::from(error))
+    fn from(no_memory: NoMemory) -> Self {
+        CommandFault::File(FileFault::Memory(no_memory))
     }
 }
 
@@ -88,7 +88,7 @@ impl CommandFault<'_> {
         ensures { result ≡ fault_status self.now }
     {
         match self {
-            CommandFault::File(FileFault::Memory) => {
+            CommandFault::File(FileFault::Memory(_)) => {
                 let _ = eprintln!(rt; "memory");
                 NO_MEMORY
             }
@@ -176,13 +176,11 @@ fn read_inputs<'a>(
         Role::Script,
         names.script.as_str(),
     )?;
-    let mut objects = Vec::with_capacity(rt.alloc(), names.objects.len())?;
+    let mut objects = vec::with_capacity(rt.alloc(), names.objects.len())?;
     for name in &names.objects {
-        let word = Vec::from_slice(rt.alloc(), name.as_bytes())?;
+        let word = vec::from_slice(rt.alloc(), name.as_bytes())?;
         let bytes = read_input(rt, &mut reader, outputs, Role::Object, name.as_str())?;
-        objects
-            .push(ObjectFile { word, bytes })
-            .map_err(AllocError::from)?;
+        vec::push(&mut objects, ObjectFile { word, bytes })?;
     }
     Ok(Inputs { script, objects })
 }

@@ -14,6 +14,7 @@ ghost use Rattle.std.specs.Prelude.{◌≡◌};
 ghost use Rattle.ldi.specs.Exit.{exit_status};
 
 use crate::link_command::{FileNames, link_files};
+use growth::told;
 use ldi_stream::Status;
 use ldi_stream::fault::RunFault;
 use ldi_words::call::Call;
@@ -133,13 +134,10 @@ fn run_call(rt: &HostRuntime, args: &[String]) -> u8 {
 fn main(rt: HostRuntime) -> ExitCode {
     let status = match arguments(&rt) {
         Ok(args) => run_call(&rt, args.as_slice()),
-        Err(error) => {
-            if error.kind() == io::ErrorKind::OutOfMemory {
-                NO_MEMORY
-            } else {
-                refuse(&rt, USAGE)
-            }
-        }
+        Err(error) => match told::of_device(error) {
+            Some(_) => NO_MEMORY,
+            None => refuse(&rt, USAGE),
+        },
     };
     ExitCode::from(status)
 }

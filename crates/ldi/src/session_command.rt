@@ -7,10 +7,10 @@ ghost use Rattle.ldmodel.specs.Project.{Project, empty_project};
 ghost use Rattle.ldi_stream.specs.Ran.{FaultsCounted, status_of};
 ghost use Rattle.ldi.specs.Session.{HasAnswered, Leaves};
 
+use growth::NoMemory;
 use ldi_stream::devices::{AnswerWriter, CommandReader};
 use ldi_stream::fault::RunFault;
 use ldi_stream::{Status, run};
-use ldmodel::memory::NoMemory;
 use relink::{Linker, Options, Session};
 use std::alloc::Global;
 use std::hash::RandomState;

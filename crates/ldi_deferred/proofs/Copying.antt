@@ -1,10 +1,7 @@
 -- An image over an older one.
-use Rattle.std.proofs.Common.{◌≡◌, ◌∙◌, ℕ, zero, suc, ◌+◌, ◌<◌, ◌≤◌, ◌⊎◌, List, [], ◌∷◌, ◌++◌, length, take, drop, Some}
-use Rattle.std.proofs.Common.{ap, arith, inl, inr, refl, subst, sym}
-use Rattle.std.specs.Prelude.{slice_get, slice_index_or}
-use Rattle.std.proofs.lemmas.Bool.{cases_lt}
-use Rattle.ldmodel_deferred.specs.Changes.{IsOutside}
-use Rattle.ldmodel_deferred.specs.declared.changes.ByteRange.{ByteRange}
+use Rattle.ldi_deferred.proofs.Common.{ByteRange, IsOutside, List, Some, [], ap, arith, cases_lt, drop, inl, inr}
+use Rattle.ldi_deferred.proofs.Common.{length, refl, slice_get, slice_index_or, subst, suc, sym, take, zero, ℕ, ◌++◌}
+use Rattle.ldi_deferred.proofs.Common.{◌+◌, ◌<◌, ◌∙◌, ◌∷◌, ◌≡◌, ◌≤◌, ◌⊎◌}
 
 -- the ranges from one on
 drop_next : (ranges : List ByteRange) (i : ℕ) (d : ByteRange) → i < length ranges
@@ -14,17 +11,17 @@ drop_next (r ∷ rs) zero d h = refl
 drop_next (r ∷ rs) (suc i) d h = drop_next rs i d (omega (arith, h))
 
 -- where one more range is copied, the image is the new one outside of those that are left
-pub copied_more : (given new image : List ℕ) (ranges : List ByteRange) (i j : ℕ) (d : ByteRange) (n : ℕ)
+pub copied_more : (sent new image : List ℕ) (ranges : List ByteRange) (i j : ℕ) (d : ByteRange) (n : ℕ)
     → i < length ranges → j ≡ suc i
-    → ((at : ℕ) → at < n → IsOutside at (drop i ranges) → slice_get given at ≡ slice_get image at)
+    → ((at : ℕ) → at < n → IsOutside at (drop i ranges) → slice_get sent at ≡ slice_get image at)
     → ((at : ℕ) → (slice_index_or ranges i d).offset ≤ at
     → at < (slice_index_or ranges i d).offset + (slice_index_or ranges i d).count → at < n
     → slice_get new at ≡ slice_get image at)
     → ((at : ℕ) → (at < (slice_index_or ranges i d).offset)
     ⊎ ((slice_index_or ranges i d).offset + (slice_index_or ranges i d).count ≤ at)
-    → slice_get new at ≡ slice_get given at)
+    → slice_get new at ≡ slice_get sent at)
     → (at : ℕ) → at < n → IsOutside at (drop j ranges) → slice_get new at ≡ slice_get image at
-copied_more given new image ranges i j d n here next same inside outside at low out =
+copied_more sent new image ranges i j d n here next same inside outside at low out =
     elim (cases_lt at range.offset) [
       | inl before ↦ stays (inl before)
       | inr after ↦ elim (cases_lt at (range.offset + range.count)) [

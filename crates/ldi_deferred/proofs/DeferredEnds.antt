@@ -1,19 +1,11 @@
 -- What a run of a deferred session has answered at its end.
-use Rattle.std.proofs.Common.{◌≡◌, ◌∙◌, ℕ, inl, inr, List, [], ◌++◌, Option, None, Some, IfSome, Ok, Err, append-nil}
-use Rattle.std.proofs.Common.{refl, subst, sym}
-use Rattle.std.specs.Io.KnownBytes.{Consumes, Appends, IsAtEnd}
-use Rattle.std.proofs.KnownBytes.{Appends-trans, Appends-kept}
+use Rattle.ldi_deferred.proofs.Common.{Appends, Appends-kept, Appends-trans, Consumes, Err, IfSome, IsAtEnd, IsBad}
+use Rattle.ldi_deferred.proofs.Common.{Link, List, Long, None, Ok, Option, Progress, Project, Ran, Read, RunFault}
+use Rattle.ldi_deferred.proofs.Common.{ServeStep, Some, Stepped, World, Write, [], append-nil, holding, inl, inr, refl}
+use Rattle.ldi_deferred.proofs.Common.{subst, sym, ℕ, ◌++◌, ◌∙◌, ◌≡◌}
 use Rattle.ldmodel.specs.Answers.{stream_line}
-use Rattle.ldmodel.specs.Link.{Link}
-use Rattle.ldmodel.specs.Project.{Project}
-use Rattle.ldmodel_deferred.specs.Answers.{Answers, Ending, Holding, bad, ended, holding}
-use Rattle.ldmodel_deferred.specs.Commands.{IsBad}
+use Rattle.ldmodel_deferred.specs.Answers.{Answers, Ending, Holding, bad, ended}
 use Rattle.ldi_stream.specs.Ran.{Flushed, status_of}
-use Rattle.ldi_stream.specs.declared.serve.ServeStep.{ServeStep}
-use Rattle.ldi_deferred.specs.Ran.{Progress, Ran, World}
-use Rattle.ldi_deferred.specs.Stepped.{Stepped}
-use Rattle.ldi_stream.specs.declared.fault.RunFault.{RunFault}
-use Rattle.ldi_stream.specs.declared.fault.RunFault.TheVariants.{Read, Write, Long}
 use Rattle.ldi_stream.specs.declared.Status.{Status}
 use Rattle.ldi_stream.specs.declared.Status.TheVariants.{Done, Malformed}
 
@@ -97,11 +89,11 @@ flushed_fault old mid new Write before after = tt
 flushed_fault old mid new Long before after = λ e. after (before e)
 
 -- the image that was answered last is one that is remembered
-pub with_given : (rest old new : Option (List ℕ)) (from : Holding) (project : Project) (last : Link) (given : List ℕ)
+pub with_sent : (rest old new : Option (List ℕ)) (from : Holding) (project : Project) (last : Link) (sent : List ℕ)
     (status : Status)
     → IfSome rest (λ stream. (out : List ℕ) × Appends old new out
-    × Answers from stream out (holding project last given) (status_of status))
+    × Answers from stream out (holding project last sent) (status_of status))
     → IfSome rest (λ stream. (out kept : List ℕ) × Appends old new out
     × Answers from stream out (holding project last kept) (status_of status))
-with_given None old new from project last given status h = tt
-with_given (Some stream) old new from project last given status h = (h.0, given, h.1, h.2)
+with_sent None old new from project last sent status h = tt
+with_sent (Some stream) old new from project last sent status h = (h.0, sent, h.1, h.2)

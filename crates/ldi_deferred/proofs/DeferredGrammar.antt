@@ -1,11 +1,9 @@
 -- Bytes that no command of a deferred session begins.
-use Rattle.std.proofs.Common.{◌≡◌, ℕ, ◌<◌, List, [], ◌∷◌, ◌++◌, length, Option, None, Some, IfSome, Ok, inl, inr}
-use Rattle.std.proofs.Common.{take, sym, ap, subst, arith, ◌∙◌, ◌≤◌, length-append, append_assoc, append-nil}
-use Rattle.std.specs.Io.KnownBytes.{Consumes, IsAtEnd}
+use Rattle.ldi_deferred.proofs.Common.{AskChanges, Basic, BeginsCommand, Command, Consumes, HasLine, IfSome, IsAtEnd}
+use Rattle.ldi_deferred.proofs.Common.{IsBad, IsCommand, List, MakeLink, None, Ok, Option, SaysNothing, Some, [], ap}
+use Rattle.ldi_deferred.proofs.Common.{append-nil, append_assoc, arith, inl, inr, length, length-append, line, payload}
+use Rattle.ldi_deferred.proofs.Common.{spelling, subst, sym, take, ℕ, ◌++◌, ◌<◌, ◌∙◌, ◌∷◌, ◌≡◌, ◌≤◌}
 use Rattle.ldmodel.specs.Commands.{HasNo}
-use Rattle.ldmodel_deferred.specs.Commands.{Command, Basic, MakeLink, AskChanges, IsCommand, BeginsCommand, IsBad, line}
-use Rattle.ldmodel_deferred.specs.Commands.{payload, spelling}
-use Rattle.ldi_deferred.specs.Heads.{HasLine, SaysNothing}
 use Rattle.ldi_stream.specs.Stepped.{LineRead}
 use Rattle.ldi_stream.specs.declared.line.LineEnd.TheVariants.{Line, Broken}
 use Rattle.ldi_stream.proofs.StreamBytes.{first_cut, no_cut, within_cut}

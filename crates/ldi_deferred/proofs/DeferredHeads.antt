@@ -1,8 +1,6 @@
 -- What lines of a deferred session say.
-use Rattle.std.proofs.Common.{◌≡◌, ℕ, List, sym}
-use Rattle.ldmodel_deferred.specs.Commands.{Basic, MakeLink, AskChanges, line}
+use Rattle.ldi_deferred.proofs.Common.{AskChanges, Basic, List, MakeLink, SaysNothing, line, sym, ℕ, ◌≡◌}
 use Rattle.ldi_stream.specs.Heads as session_heads
-use Rattle.ldi_deferred.specs.Heads.{SaysNothing}
 
 -- no command of a session, `link` or `changes` has the line
 pub says_nothing : (text : List ℕ) → session_heads.SaysNothing text → (text ≡ line MakeLink → ⊥)

@@ -1,12 +1,9 @@
 -- Commands of a deferred session, one after the other.
-use Rattle.std.proofs.Common.{◌≡◌, ℕ, ◌+◌, List, [], ◌∷◌, ◌++◌, length, refl, sym, subst, append_assoc, append-nil}
-use Rattle.std.proofs.Common.{length-append}
+use Rattle.ldi_deferred.proofs.Common.{Appends-nil, Appends-trans, AreCommands, Command, Consumes-nil, Consumes-trans}
+use Rattle.ldi_deferred.proofs.Common.{IsCommand, List, Progress, Served, World, [], append-nil, append_assoc, length}
+use Rattle.ldi_deferred.proofs.Common.{length-append, refl, spelling, subst, sym, ℕ, ◌++◌, ◌+◌, ◌∷◌, ◌≡◌}
 use Rattle.std.proofs.lemmas.Grind.{flat_map-append}
-use Rattle.std.proofs.KnownBytes.{Consumes-trans, Consumes-nil, Appends-trans, Appends-nil}
 use Rattle.ldmodel_deferred.specs.Answers.{Holding, Reply, Replies, none, next}
-use Rattle.ldmodel_deferred.specs.Commands.{Command, IsCommand, AreCommands, spelling}
-use Rattle.ldi_deferred.specs.Ran.{World, Progress}
-use Rattle.ldi_deferred.specs.Stepped.{Served}
 
 Replies-more : (p q r : Holding) (cs : List Command) (c : Command) (out answer : List ℕ) → Replies p cs out q
     → Reply q c answer r → Replies p (cs ++ c ∷ []) (out ++ answer) r

@@ -1,25 +1,18 @@
 -- An edit of a deferred session whose line was read, and then what comes of it.
-use Rattle.std.proofs.Common.{◌≡◌, ℕ, ◌-◌, ◌<◌, inl, inr, List, [], ◌∷◌, ◌++◌, length, replicate, Option, Result, Ok}
-use Rattle.std.proofs.Common.{Err, ap, refl, arith, append_assoc, length-append, subst, sym, take, ◌∙◌}
+use Rattle.ldi_deferred.proofs.Common.{AnswerCut, Appends, Basic, Command, Consumes, Consumes-trans, CutShort}
+use Rattle.ldi_deferred.proofs.Common.{EditStepped, Err, HasLine, Keeps-refl, Link, List, Long, Ok, Option, Project}
+use Rattle.ldi_deferred.proofs.Common.{Read, RunFault, Says, ServeStep, Served, Stepped, Write, [], ap, append_assoc}
+use Rattle.ldi_deferred.proofs.Common.{arith, holding, inl, inr, length, length-append, line, payload, refl, spelling}
+use Rattle.ldi_deferred.proofs.Common.{subst, sym, take, world, ℕ, ◌++◌, ◌-◌, ◌<◌, ◌∙◌, ◌∷◌, ◌≡◌}
+use Rattle.std.proofs.Common.{replicate, Result}
 use Rattle.std.proofs.lemmas.List.{length-replicate}
-use Rattle.std.specs.Io.KnownBytes.{Appends, Consumes}
-use Rattle.std.proofs.KnownBytes.{Consumes-trans, Keeps-refl}
 use Rattle.ldmodel.specs.Commands.{Edit, HasNo, edit_payload}
-use Rattle.ldmodel.specs.Link.{Link}
-use Rattle.ldmodel.specs.Project.{Project}
-use Rattle.ldmodel_deferred.specs.Answers.{Holding, Reply, holding}
-use Rattle.ldmodel_deferred.specs.Commands.{Basic, Command, line, payload, spelling}
+use Rattle.ldmodel_deferred.specs.Answers.{Holding, Reply}
 use Rattle.ldi_stream.specs.Heads.{edit_of, announced}
-use Rattle.ldi_stream.specs.declared.fault.RunFault.{RunFault}
-use Rattle.ldi_stream.specs.declared.fault.RunFault.TheVariants.{Read, Write, Long}
-use Rattle.ldi_stream.specs.declared.head.Aim.TheVariants as aim
+use Rattle.ldi_stream.specs.declared.head.PayloadTarget.TheVariants as target
 use Rattle.ldi_stream.specs.declared.head.EditHead.{EditHead}
 use Rattle.ldi_stream.specs.declared.head.EditHead.TheVariants as edit
-use Rattle.ldi_stream.specs.declared.serve.ServeStep.{ServeStep}
 use Rattle.ldi_stream.specs.declared.serve.ServeStep.TheVariants.{Next, End}
-use Rattle.ldi_deferred.specs.Heads.{HasLine, Says}
-use Rattle.ldi_deferred.specs.Ran.{AnswerCut, CutShort, world}
-use Rattle.ldi_deferred.specs.Stepped.{EditStepped, Served, Stepped}
 use Rattle.ldi_deferred.specs.declared.head.DeferredHead.TheVariants as head
 use Rattle.ldi_deferred.proofs.DeferredGrammar.{OneFirst, NotBegun, no_line, short_payload, bad_at_end}
 
@@ -34,9 +27,9 @@ nothing [] e = refl
 nothing (b ∷ bs) e = absurd (omega (arith, e))
 
 brings : (h : EditHead) (bytes : List ℕ) → length bytes ≡ announced h → edit_payload (edit_of h bytes) ≡ bytes
-brings (edit.WithPayload (aim.Add name at) count) bytes e = refl
-brings (edit.WithPayload (aim.Replace name) count) bytes e = refl
-brings (edit.WithPayload aim.Script count) bytes e = refl
+brings (edit.WithPayload (target.Add name at) count) bytes e = refl
+brings (edit.WithPayload (target.Replace name) count) bytes e = refl
+brings (edit.WithPayload target.Script count) bytes e = refl
 brings (edit.Move name to) bytes e = nothing bytes e
 brings (edit.Remove name) bytes e = nothing bytes e
 
@@ -61,34 +54,34 @@ module _ (one_first : OneFirst) (h : EditHead) (text : List ℕ) (says : Says te
   some_line part = rw length-append (rw length-append (omega arith))
 
   pub edit_stepped : (rest mid end : Option (List ℕ)) (out out' : Option (List ℕ)) (p p' : Project) (l l' : Link)
-      (given : List ℕ) (r : Result ServeStep RunFault) → l' ≡ l → Consumes rest mid (text ++ 10 ∷ [])
+      (sent : List ℕ) (r : Result ServeStep RunFault) → l' ≡ l → Consumes rest mid (text ++ 10 ∷ [])
       → EditStepped (edit_of h) (announced h) mid end out out' p p' r
-      → Stepped (world rest out (holding p l given)) (world end out' (holding p' l' given)) r
-  edit_stepped rest mid end out out' p p' l l' given (Ok Next) unlinked first s =
+      → Stepped (world rest out (holding p l sent)) (world end out' (holding p' l' sent)) r
+  edit_stepped rest mid end out out' p p' l l' sent (Ok Next) unlinked first s =
       record {
         command = Basic (Edit (edit_of h s.0));
         answer = s.1;
         is = (says s.0 s.2).is;
         read = whole rest mid end s.0 s.2 first s.3;
         wrote = s.4;
-        reply = (s.5, ap (λ (k : Link). holding p' k given) unlinked);
+        reply = (s.5, ap (λ (k : Link). holding p' k sent) unlinked);
       }
-  edit_stepped rest mid end out out' p p' l l' given (Ok (End status)) unlinked first s =
+  edit_stepped rest mid end out out' p p' l l' sent (Ok (End status)) unlinked first s =
       inr (record {
         bad = bad_at_end _ _ _ (some_line s.0) (cut_short s.0 s.1) (Consumes-trans _ _ _ _ _ first s.2) s.3;
         wrote = s.4;
-        same = ap (λ (q : Project). holding q l' given) s.5 ∙ ap (λ (k : Link). holding p k given) unlinked;
+        same = ap (λ (q : Project). holding q l' sent) s.5 ∙ ap (λ (k : Link). holding p k sent) unlinked;
         tells = s.6;
       })
-  edit_stepped rest mid end out out' p p' l l' given (Err Read) unlinked first s =
+  edit_stepped rest mid end out out' p p' l l' sent (Err Read) unlinked first s =
       record {
         part = (text ++ 10 ∷ []) ++ s.0;
         read = Consumes-trans _ _ _ _ _ first s.2;
         none = cut_short s.0 s.1;
         wrote = s.3;
-        same = ap (λ (q : Project). holding q l' given) s.4 ∙ ap (λ (k : Link). holding p k given) unlinked;
+        same = ap (λ (q : Project). holding q l' sent) s.4 ∙ ap (λ (k : Link). holding p k sent) unlinked;
       }
-  edit_stepped rest mid end out out' p p' l l' given (Err Write) unlinked first s =
+  edit_stepped rest mid end out out' p p' l l' sent (Err Write) unlinked first s =
       elim s [
         | inl a ↦ inl (record {
           command = Basic (Edit (edit_of h a.0));
@@ -97,16 +90,16 @@ module _ (one_first : OneFirst) (h : EditHead) (text : List ℕ) (says : Says te
           is = (says a.0 a.3).is;
           read = whole rest mid end a.0 a.3 first a.4;
           wrote = a.5;
-          reply = (a.6, ap (λ (k : Link). holding p' k given) unlinked);
+          reply = (a.6, ap (λ (k : Link). holding p' k sent) unlinked);
         })
         | inr b ↦ inr (record {
           bad = bad_at_end _ _ _ (some_line b.0) (cut_short b.0 b.2) (Consumes-trans _ _ _ _ _ first b.3) b.4;
           n = b.1;
           wrote = b.5;
-          same = ap (λ (q : Project). holding q l' given) b.6 ∙ ap (λ (k : Link). holding p k given) unlinked;
+          same = ap (λ (q : Project). holding q l' sent) b.6 ∙ ap (λ (k : Link). holding p k sent) unlinked;
         })
       ]
-  edit_stepped rest mid end out out' p p' l l' given (Err Long) unlinked first s = s
+  edit_stepped rest mid end out out' p p' l l' sent (Err Long) unlinked first s = s
 
 -- a command of one word, which was answered, or whose answer was cut off
 module _ (rest mid : Option (List ℕ)) (out out' : Option (List ℕ)) (h h' : Holding) (text : List ℕ) (command : Command)

@@ -1,6 +1,6 @@
 -- Lines of bytes that are compared as vectors.
-use Rattle.std.proofs.Common.{◌≡◌, ◌∙◌, ℕ, ◌+◌, ◌*◌, ◌%◌, ◌^◌, ◌≤◌, Bool, true, false, List, [], ◌∷◌, cond, not, eqb}
-use Rattle.std.proofs.Common.{ap, arith, drop, eqb-true, length, map, nat_eq, refl, sym, take, w8}
+use Rattle.ldi_deferred.proofs.Common.{List, [], ap, arith, drop, length, refl, sym, take, ℕ, ◌+◌, ◌∙◌, ◌∷◌, ◌≡◌, ◌≤◌}
+use Rattle.std.proofs.Common.{◌*◌, ◌%◌, ◌^◌, Bool, true, false, cond, not, eqb, eqb-true, map, nat_eq, w8}
 use Rattle.std.specs.Simd.Lanes.{mask_l, top, zip2}
 use Rattle.std.proofs.lemmas.Simd.{length-chunk, length-zip2, mask_l-mod, tops_compared}
 
@@ -22,14 +22,14 @@ lanes_same (x ∷ xs) (y ∷ ys) l h =
     first false e k rest = absurd (omega (arith, k))
 
 -- where the mask of the lanes that differ is 0
-pub line_same : (from : ℕ) (given image : List ℕ) → from + 64 ≤ length given → from + 64 ≤ length image
-    → nat_eq (mask_l (map (top 7) (zip2 (λ a b. cond (differs a b) 255 0) (take 64 (drop from given))
+pub line_same : (from : ℕ) (sent image : List ℕ) → from + 64 ≤ length sent → from + 64 ≤ length image
+    → nat_eq (mask_l (map (top 7) (zip2 (λ a b. cond (differs a b) 255 0) (take 64 (drop from sent))
     (take 64 (drop from image)))) % 2 ^ 64) 0 ≡ true
-    → take 64 (drop from given) ≡ take 64 (drop from image)
-line_same from given image g i h =
-    let xs : List ℕ = take 64 (drop from given) in
+    → take 64 (drop from sent) ≡ take 64 (drop from image)
+line_same from sent image g i h =
+    let xs : List ℕ = take 64 (drop from sent) in
     let ys : List ℕ = take 64 (drop from image) in
-    let long : length xs ≡ 64 = length-chunk from 64 given g in
+    let long : length xs ≡ 64 = length-chunk from 64 sent g in
     let many : length ys ≡ 64 = length-chunk from 64 image i in
     let bits : List Bool = zip2 differs xs ys in
     let few : length bits ≡ 64 = length-zip2 differs xs ys (long ∙ sym many) ∙ long in

@@ -1,10 +1,6 @@
 -- What has changed in an image.
-use Rattle.std.proofs.Common.{◌≡◌, ℕ, zero, suc, ◌+◌, ◌<◌, ◌≤◌, ◌⊎◌, List, [], ◌∷◌, ◌++◌, length, take, drop, Some}
-use Rattle.std.proofs.Common.{ap, arith, inl, inr}
-use Rattle.std.specs.Prelude.{slice_get}
-use Rattle.std.proofs.lemmas.Bool.{cases_lt}
-use Rattle.ldmodel_deferred.specs.Changes.{AreWithin, IsOutside}
-use Rattle.ldmodel_deferred.specs.declared.changes.ByteRange.{ByteRange}
+use Rattle.ldi_deferred.proofs.Common.{AreWithin, ByteRange, IsOutside, List, Some, [], ap, arith, cases_lt, drop, inl}
+use Rattle.ldi_deferred.proofs.Common.{inr, length, slice_get, suc, take, zero, ℕ, ◌++◌, ◌+◌, ◌<◌, ◌∷◌, ◌≡◌, ◌≤◌, ◌⊎◌}
 
 -- lists with one part in the same place have the same elements there
 pub same_at : (from n : ℕ) (xs ys : List ℕ) → from + n ≤ length xs → from + n ≤ length ys

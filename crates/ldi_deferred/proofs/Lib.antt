@@ -1,3 +1,4 @@
+pub mod Common
 pub mod DeferredGrammar
 pub mod DeferredRuns
 pub mod DeferredSteps

@@ -1,9 +1,7 @@
 -- The texts of ranges, one after the other.
-use Rattle.std.proofs.Common.{◌≡◌, ◌∙◌, ℕ, zero, suc, ◌+◌, ◌<◌, ◌≤◌, List, [], ◌∷◌, ◌++◌, length, take, drop, flat_map}
-use Rattle.std.proofs.Common.{ap, append_assoc, arith, refl, sym}
-use Rattle.std.specs.Prelude.{slice_index_or}
-use Rattle.ldmodel_deferred.specs.Changes.{AreWithin}
-use Rattle.ldmodel_deferred.specs.declared.changes.ByteRange.{ByteRange}
+use Rattle.ldi_deferred.proofs.Common.{AreWithin, ByteRange, List, [], ap, append_assoc, arith, drop, flat_map, length}
+use Rattle.ldi_deferred.proofs.Common.{refl, slice_index_or, suc, sym, take, zero, ℕ, ◌++◌, ◌+◌, ◌<◌, ◌∙◌, ◌∷◌, ◌≡◌}
+use Rattle.ldi_deferred.proofs.Common.{◌≤◌}
 
 -- what is written before an element, its own text, and the rest
 pub cut_at : {X : Type 0} (f : X → List ℕ) (xs : List X) (i : ℕ) (d : X) → i < length xs

@@ -3,7 +3,7 @@
 ghost use Rattle.std.specs.Prelude.{◌≡◌, ◌+◌, ◌<◌, ◌≤◌, ℕ, IfOk, length, slice_get, true};
 ghost use Rattle.ldmodel_deferred.specs.Changes.{AreChanges};
 
-use ldmodel::memory::NoMemory;
+use growth::{NoMemory, vec};
 use ldmodel_deferred::changes::ByteRange;
 use std::alloc::Global;
 use std::simd::prelude::*;
@@ -28,29 +28,29 @@ fn block_end(from: usize, length: usize) -> usize
 }
 
 /// Whether two images have the same bytes in the line from `from` on.
-fn is_same_line(given: &[u8], image: &[u8], from: usize) -> bool
-    requires given { from + 64 ≤ length given.now }
+fn is_same_line(sent: &[u8], image: &[u8], from: usize) -> bool
+    requires sent { from + 64 ≤ length sent.now }
     requires image { from + 64 ≤ length image.now }
     ensures { result ≡ true → (at : ℕ) → from ≤ at → at < from + 64
-        → slice_get given.now at ≡ slice_get image.now at }
+        → slice_get sent.now at ≡ slice_get image.now at }
 {
-    let before = u8x64::from_slice(&given[from..]);
+    let before = u8x64::from_slice(&sent[from..]);
     let now = u8x64::from_slice(&image[from..]);
     before.simd_ne(now).to_bitmask() == 0
 }
 
 /// The end of the lines from `from` on that are the same in both; no line goes past `end`.
-fn skip_lines(given: &[u8], image: &[u8], from: usize, end: usize) -> usize
+fn skip_lines(sent: &[u8], image: &[u8], from: usize, end: usize) -> usize
     requires ascending { from ≤ end }
-    requires given { end ≤ length given.now }
+    requires sent { end ≤ length sent.now }
     requires image { end ≤ length image.now }
     ensures after { from ≤ result }
     ensures within { result ≤ end }
-    ensures same { (at : ℕ) → from ≤ at → at < result → slice_get given.now at ≡ slice_get image.now at }
+    ensures same { (at : ℕ) → from ≤ at → at < result → slice_get sent.now at ≡ slice_get image.now at }
 {
     let mut at = from;
     while end - at >= LINE {
-        if !is_same_line(given, image, at) {
+        if !is_same_line(sent, image, at) {
             break;
         }
         at += LINE;
@@ -59,32 +59,32 @@ fn skip_lines(given: &[u8], image: &[u8], from: usize, end: usize) -> usize
 }
 
 /// Whether an image has the same bytes as another in a range, which lies in the first.
-fn is_same(given: &[u8], image: &[u8], from: usize, end: usize) -> bool
+fn is_same(sent: &[u8], image: &[u8], from: usize, end: usize) -> bool
     requires ascending { from ≤ end }
     requires within { end ≤ length image.now }
-    ensures { result ≡ true → (at : ℕ) → from ≤ at → at < end → slice_get given.now at ≡ slice_get image.now at }
+    ensures { result ≡ true → (at : ℕ) → from ≤ at → at < end → slice_get sent.now at ≡ slice_get image.now at }
 {
-    if end > given.len() {
+    if end > sent.len() {
         return false;
     }
-    let at = skip_lines(given, image, from, end);
+    let at = skip_lines(sent, image, from, end);
     if end - at >= LINE {
         return false;
     }
-    given[at..end] == image[at..end]
+    sent[at..end] == image[at..end]
 }
 
 /// The end of the blocks from `from` on that are the same in both.
-fn skip_same(given: &[u8], image: &[u8], from: usize) -> usize
+fn skip_same(sent: &[u8], image: &[u8], from: usize) -> usize
     requires { from ≤ length image.now }
     ensures after { from ≤ result }
     ensures within { result ≤ length image.now }
-    ensures same { (at : ℕ) → from ≤ at → at < result → slice_get given.now at ≡ slice_get image.now at }
+    ensures same { (at : ℕ) → from ≤ at → at < result → slice_get sent.now at ≡ slice_get image.now at }
 {
     let mut at = from;
     while at < image.len() {
         let end = block_end(at, image.len());
-        if !is_same(given, image, at, end) {
+        if !is_same(sent, image, at, end) {
             break;
         }
         at = end;
@@ -93,7 +93,7 @@ fn skip_same(given: &[u8], image: &[u8], from: usize) -> usize
 }
 
 /// The end of the blocks from `from` on that are not the same in both. The first one is not compared.
-fn skip_changed(given: &[u8], image: &[u8], from: usize) -> usize
+fn skip_changed(sent: &[u8], image: &[u8], from: usize) -> usize
     requires { from < length image.now }
     ensures after { from < result }
     ensures within { result ≤ length image.now }
@@ -101,7 +101,7 @@ fn skip_changed(given: &[u8], image: &[u8], from: usize) -> usize
     let mut at = block_end(from, image.len());
     while at < image.len() {
         let end = block_end(at, image.len());
-        if is_same(given, image, at, end) {
+        if is_same(sent, image, at, end) {
             break;
         }
         at = end;
@@ -116,20 +116,23 @@ fn skip_changed(given: &[u8], image: &[u8], from: usize) -> usize
 /// If memory runs out.
 pub(crate) fn changed_ranges(
     alloc: Global,
-    given: &[u8],
+    sent: &[u8],
     image: &[u8],
 ) -> Result<Vec<ByteRange>, NoMemory>
-    ensures { IfOk result (λ ranges. AreChanges given.now image.now ranges.items) }
+    ensures { IfOk result (λ ranges. AreChanges sent.now image.now ranges.items) }
 {
     let mut ranges = Vec::new(alloc);
-    let mut at = skip_same(given, image, 0);
+    let mut at = skip_same(sent, image, 0);
     while at < image.len() {
-        let end = skip_changed(given, image, at);
-        ranges.push(ByteRange {
-            offset: at,
-            count: end - at,
-        })?;
-        at = skip_same(given, image, end);
+        let end = skip_changed(sent, image, at);
+        vec::push(
+            &mut ranges,
+            ByteRange {
+                offset: at,
+                count: end - at,
+            },
+        )?;
+        at = skip_same(sent, image, end);
     }
     Ok(ranges)
 }

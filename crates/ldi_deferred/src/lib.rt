@@ -42,14 +42,14 @@ pub fn run_deferred<R: Source, W: Sink, L: DeferredLinker>(
     linker: &mut L,
 ) -> Result<Status, RunFault>
     // The answers are those of the definition; at first no image was answered.
-    ensures answers { IfOk result (λ status. IfSome (R.rest source.old) (λ stream. (out given : List ℕ)
+    ensures answers { IfOk result (λ status. IfSome (R.rest source.old) (λ stream. (out sent : List ℕ)
         × Appends (W.written sink.old) (W.written sink.new) out
         × Answers (holding (L.project linker.old) (L.last linker.old) []) stream out
-        (holding (L.project linker.new) (L.last linker.new) given) (status_of status))) }
+        (holding (L.project linker.new) (L.last linker.new) sent) (status_of status))) }
     // What holds after each outcome.
-    ensures ran { (given : List ℕ) × Ran
+    ensures ran { (sent : List ℕ) × Ran
         (world (R.rest source.old) (W.written sink.old) (holding (L.project linker.old) (L.last linker.old) []))
-        (world (R.rest source.new) (W.written sink.new) (holding (L.project linker.new) (L.last linker.new) given))
+        (world (R.rest source.new) (W.written sink.new) (holding (L.project linker.new) (L.last linker.new) sent))
         result }
     // Nothing is still buffered when a read fails, as any might, and at the end.
     ensures flushed { Flushed (W.held sink.old) (W.held sink.new) result }
@@ -57,9 +57,9 @@ pub fn run_deferred<R: Source, W: Sink, L: DeferredLinker>(
     ensures counted { FaultsCounted (R.failed source.old) (R.failed source.new)
         (W.failed sink.old) (W.failed sink.new) result }
 {
-    let mut given = Vec::new(alloc);
+    let mut sent = Vec::new(alloc);
     for _turn in 0..u64::MAX {
-        match serve_one(alloc, source, sink, linker, &mut given)? {
+        match serve_one(alloc, source, sink, linker, &mut sent)? {
             ServeStep::Next => {}
             ServeStep::End(status) => return Ok(status),
         }

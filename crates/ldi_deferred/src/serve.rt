@@ -5,7 +5,7 @@ ghost use Rattle.ldmodel.specs.EditMeaning.{change_of};
 ghost use Rattle.ldmodel_deferred.specs.Answers.{ChangesReply, Holding, LinkReply, QueryReply, StageReply};
 ghost use Rattle.ldmodel_deferred.specs.Answers.{holding};
 ghost use Rattle.ldmodel_deferred.specs.Commands.{IsBad};
-ghost use Rattle.ldi_stream.specs.Heads.{aimed, announced, edit_of, query_of};
+ghost use Rattle.ldi_stream.specs.Heads.{change_to, announced, edit_of, query_of};
 ghost use Rattle.ldi_stream.specs.Ran.{FaultsCounted, Flushed};
 ghost use Rattle.ldi_stream.specs.Stepped.{CountsFailure, Writes};
 ghost use Rattle.ldi_deferred.specs.Ran.{world};
@@ -19,7 +19,7 @@ use ldi_stream::Status;
 use ldi_stream::answer::{write_bytes, write_linked, write_malformed, write_refused};
 use ldi_stream::devices::{Sink, Source};
 use ldi_stream::fault::{RunFault, WriteFault};
-use ldi_stream::head::{Aim, EditHead, Query};
+use ldi_stream::head::{EditHead, PayloadTarget, Query};
 use ldi_stream::line::{LineEnd, MAX_LINE, read_line};
 use ldi_stream::payload::{Payload, read_payload};
 use ldi_stream::serve::ServeStep;
@@ -53,19 +53,19 @@ fn make_edit<W: Sink, L: DeferredLinker>(
 fn use_payload<W: Sink, L: DeferredLinker>(
     sink: &mut W,
     linker: &mut L,
-    aim: Aim<'_>,
+    target: PayloadTarget<'_>,
     bytes: Vec<u8>,
 ) -> Result<(), WriteFault>
     ensures text { (answer : List ℕ) × Writes (W.written sink.old) (W.written sink.new) answer result
-        × StageReply (L.project linker.old) (aimed aim.entry bytes.items) answer (L.project linker.new) }
+        × StageReply (L.project linker.old) (change_to target.entry bytes.items) answer (L.project linker.new) }
     ensures unlinked { L.last linker.new ≡ L.last linker.old }
     ensures flushed { OnOk result (W.held sink.new ≡ []) }
     ensures counted { CountsFailure (W.failed sink.old) (W.failed sink.new) result }
 {
-    match aim {
-        Aim::Add { name, at } => make_edit(sink, linker, Edit::Add { name, at, bytes }),
-        Aim::Replace { name } => make_edit(sink, linker, Edit::Replace { name, bytes }),
-        Aim::Script => {
+    match target {
+        PayloadTarget::Add { name, at } => make_edit(sink, linker, Edit::Add { name, at, bytes }),
+        PayloadTarget::Replace { name } => make_edit(sink, linker, Edit::Replace { name, bytes }),
+        PayloadTarget::Script => {
             let text = bytes.as_slice();
             make_edit(sink, linker, Edit::Script { text })
         }
@@ -78,10 +78,10 @@ fn serve_payload<R: Source, W: Sink, L: DeferredLinker>(
     source: &mut R,
     sink: &mut W,
     linker: &mut L,
-    aim: Aim<'_>,
+    target: PayloadTarget<'_>,
     count: usize,
 ) -> Result<ServeStep, RunFault>
-    ensures stepped { EditStepped (aimed aim.entry) count (R.rest source.old) (R.rest source.new)
+    ensures stepped { EditStepped (change_to target.entry) count (R.rest source.old) (R.rest source.new)
         (W.written sink.old) (W.written sink.new) (L.project linker.old) (L.project linker.new) result }
     ensures unlinked { L.last linker.new ≡ L.last linker.old }
     ensures flushed { Flushed (W.held sink.old) (W.held sink.new) result }
@@ -90,11 +90,11 @@ fn serve_payload<R: Source, W: Sink, L: DeferredLinker>(
 {
     match read_payload(alloc, source, count)? {
         Payload::Whole(bytes) => {
-            use_payload(sink, linker, aim, bytes)?;
+            use_payload(sink, linker, target, bytes)?;
             Ok(ServeStep::Next)
         }
-        Payload::NoMemory => {
-            write_refused(sink, EditRefusal::NoMemory)?;
+        Payload::NoMemory(no_memory) => {
+            write_refused(sink, EditRefusal::NoMemory(no_memory))?;
             Ok(ServeStep::Next)
         }
         Payload::Short => {
@@ -120,8 +120,8 @@ fn serve_edit<R: Source, W: Sink, L: DeferredLinker>(
         (W.failed sink.old) (W.failed sink.new) result }
 {
     match head {
-        EditHead::WithPayload { aim, count } => {
-            serve_payload(alloc, source, sink, linker, aim, count)
+        EditHead::WithPayload { target, count } => {
+            serve_payload(alloc, source, sink, linker, target, count)
         }
         EditHead::Move { name, to } => {
             make_edit(sink, linker, Edit::Move { name, to })?;
@@ -138,18 +138,18 @@ fn serve_edit<R: Source, W: Sink, L: DeferredLinker>(
 fn serve_query<W: Sink, L: DeferredLinker>(
     sink: &mut W,
     linker: &L,
-    given: &mut Vec<u8>,
+    sent: &mut Vec<u8>,
     query: Query,
 ) -> Result<(), WriteFault>
     ensures text { (answer : List ℕ) × Writes (W.written sink.old) (W.written sink.new) answer result
-        × QueryReply (holding (L.project linker.now) (L.last linker.now) given.old.items) (query_of query) answer
-        (holding (L.project linker.now) (L.last linker.now) given.new.items) }
+        × QueryReply (holding (L.project linker.now) (L.last linker.now) sent.old.items) (query_of query) answer
+        (holding (L.project linker.now) (L.last linker.now) sent.new.items) }
     ensures flushed { OnOk result (W.held sink.new ≡ []) }
     ensures counted { CountsFailure (W.failed sink.old) (W.failed sink.new) result }
 {
     match query {
         Query::Image => {
-            remember(given, linker.image());
+            remember(sent, linker.image());
             write_bytes(sink, linker.image())
         }
         Query::Map => write_bytes(sink, linker.map()),
@@ -159,17 +159,17 @@ fn serve_query<W: Sink, L: DeferredLinker>(
 
 /// Links the project and answers its status and the length of its image, or that memory ran out.
 fn serve_link<W: Sink, L: DeferredLinker>(sink: &mut W, linker: &mut L) -> Result<(), WriteFault>
-    ensures text { (given : List ℕ) → (answer : List ℕ)
+    ensures text { (sent : List ℕ) → (answer : List ℕ)
         × Writes (W.written sink.old) (W.written sink.new) answer result
-        × LinkReply (holding (L.project linker.old) (L.last linker.old) given) answer
-        (holding (L.project linker.new) (L.last linker.new) given) }
+        × LinkReply (holding (L.project linker.old) (L.last linker.old) sent) answer
+        (holding (L.project linker.new) (L.last linker.new) sent) }
     ensures flushed { OnOk result (W.held sink.new ≡ []) }
     ensures counted { CountsFailure (W.failed sink.old) (W.failed sink.new) result }
 {
     let mut meter = Meter::new();
     match linker.make_link(&mut meter) {
         Ok(linked) => write_linked(sink, linked),
-        Err(_) => write_refused(sink, EditRefusal::NoMemory),
+        Err(no_memory) => write_refused(sink, EditRefusal::NoMemory(no_memory)),
     }
 }
 
@@ -179,18 +179,18 @@ fn serve_changes<W: Sink, L: DeferredLinker>(
     alloc: Global,
     sink: &mut W,
     linker: &L,
-    given: &mut Vec<u8>,
+    sent: &mut Vec<u8>,
 ) -> Result<(), WriteFault>
     ensures text { (answer : List ℕ) × Writes (W.written sink.old) (W.written sink.new) answer result
-        × ChangesReply (holding (L.project linker.now) (L.last linker.now) given.old.items) answer
-        (holding (L.project linker.now) (L.last linker.now) given.new.items) }
+        × ChangesReply (holding (L.project linker.now) (L.last linker.now) sent.old.items) answer
+        (holding (L.project linker.now) (L.last linker.now) sent.new.items) }
     ensures flushed { OnOk result (W.held sink.new ≡ []) }
     ensures counted { CountsFailure (W.failed sink.old) (W.failed sink.new) result }
 {
     let image = linker.image();
-    match changed_ranges(alloc, given, image) {
+    match changed_ranges(alloc, sent, image) {
         Ok(ranges) => {
-            remember_changes(given, image, &ranges);
+            remember_changes(sent, image, &ranges);
             write_changes(sink, image, &ranges)
         }
         Err(_) => {
@@ -198,7 +198,7 @@ fn serve_changes<W: Sink, L: DeferredLinker>(
                 offset: 0,
                 count: image.len(),
             }];
-            remember(given, image);
+            remember(sent, image);
             write_changes(sink, image, &all)
         }
     }
@@ -216,7 +216,7 @@ fn serve_bad<W: Sink>(sink: &mut W) -> Result<ServeStep, RunFault>
 }
 
 /// Reads one command, executes it and answers it; or finds the end of the stream, or bytes that begin no command.
-/// `given` is the image that was answered last, or empty.
+/// `sent` is the image that was answered last, or empty.
 ///
 /// # Errors
 ///
@@ -226,13 +226,13 @@ pub fn serve_one<R: Source, W: Sink, L: DeferredLinker>(
     source: &mut R,
     sink: &mut W,
     linker: &mut L,
-    given: &mut Vec<u8>,
+    sent: &mut Vec<u8>,
 ) -> Result<ServeStep, RunFault>
     ensures stepped { Stepped
         (world (R.rest source.old) (W.written sink.old)
-        (holding (L.project linker.old) (L.last linker.old) given.old.items))
+        (holding (L.project linker.old) (L.last linker.old) sent.old.items))
         (world (R.rest source.new) (W.written sink.new)
-        (holding (L.project linker.new) (L.last linker.new) given.new.items)) result }
+        (holding (L.project linker.new) (L.last linker.new) sent.new.items)) result }
     ensures flushed { Flushed (W.held sink.old) (W.held sink.new) result }
     ensures counted { FaultsCounted (R.failed source.old) (R.failed source.new)
         (W.failed sink.old) (W.failed sink.new) result }
@@ -247,7 +247,7 @@ pub fn serve_one<R: Source, W: Sink, L: DeferredLinker>(
         LineEnd::Line(n) => match read_deferred_head(&line[..n]) {
             None => serve_bad(sink),
             Some(DeferredHead::Ask(query)) => {
-                serve_query(sink, linker, given, query)?;
+                serve_query(sink, linker, sent, query)?;
                 Ok(ServeStep::Next)
             }
             Some(DeferredHead::Link) => {
@@ -255,7 +255,7 @@ pub fn serve_one<R: Source, W: Sink, L: DeferredLinker>(
                 Ok(ServeStep::Next)
             }
             Some(DeferredHead::Changes) => {
-                serve_changes(alloc, sink, linker, given)?;
+                serve_changes(alloc, sink, linker, sent)?;
                 Ok(ServeStep::Next)
             }
             Some(DeferredHead::Edit(head)) => serve_edit(alloc, source, sink, linker, head),

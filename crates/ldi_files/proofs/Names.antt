@@ -18,5 +18,5 @@ contains_name files n file lt is = (
 -- a fault of one file is a fault of all among which that one is
 pub fault_among : (name : List ℕ) (names : List (List ℕ)) → Contains names name
     → (fault : FileFault) → IsOutputFault (name ∷ []) fault → IsOutputFault names fault
-fault_among name names has Memory h = h
+fault_among name names has (Memory _) h = h
 fault_among name names has (Failed action n e) h = search (rules, has, h)

@@ -6,14 +6,14 @@ use Rattle.ldi_files.specs.declared.argument_fault.ArgumentFault.TheVariants.{Wo
 
 -- memory ran out, or the file of this name cannot be read because of this error
 abbrev pub IsFaultOfFile : List ℕ → Error → ArgumentFault → Type 0
-IsFaultOfFile name error Memory = ⊤
+IsFaultOfFile name error (Memory _) = ⊤
 IsFaultOfFile name error (Unread n e) = (string_bytes n ≡ name) × (e ≡ error)
 IsFaultOfFile name error Words = ⊥
 IsFaultOfFile name error (Unwritten e) = ⊥
 
 -- memory ran out, or standard output cannot be written because of this error
 abbrev pub IsOutputFault : Error → ArgumentFault → Type 0
-IsOutputFault error Memory = ⊤
+IsOutputFault error (Memory _) = ⊤
 IsOutputFault error (Unwritten e) = e ≡ error
 IsOutputFault error Words = ⊥
 IsOutputFault error (Unread n e) = ⊥
@@ -23,4 +23,4 @@ abbrev pub exit_status : ArgumentFault → ℕ
 exit_status Words = 2
 exit_status (Unread name error) = 3
 exit_status (Unwritten error) = 3
-exit_status Memory = 4
+exit_status (Memory _) = 4

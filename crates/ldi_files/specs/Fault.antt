@@ -11,18 +11,18 @@ use Rattle.ldi_files.specs.declared.writing.NewFile.{NewFile}
 
 -- this error ended this action on the file of this name; it is one of the file exactly if memory did not run out
 abbrev pub IsFaultOf : Action → List ℕ → Error → FileFault → Type 0
-IsFaultOf action name error Memory = error_kind error ≡ OutOfMemory
+IsFaultOf action name error (Memory _) = error_kind error ≡ OutOfMemory
 IsFaultOf action name error (Failed a n e) =
     (a ≡ action) × (n.now ≡ name) × (e ≡ error) × (error_kind error ≢ OutOfMemory)
 
 -- memory ran out, or an input of one of these names cannot be opened or read
 abbrev pub IsInputFault : List (List ℕ) → FileFault → Type 0
-IsInputFault names Memory = ⊤
+IsInputFault names (Memory _) = ⊤
 IsInputFault names (Failed action name error) = Contains names name.now × ((action ≡ Open) ⊎ (action ≡ Read))
 
 -- memory ran out, or an output of one of these names cannot be opened, written or replaced
 abbrev pub IsOutputFault : List (List ℕ) → FileFault → Type 0
-IsOutputFault names Memory = ⊤
+IsOutputFault names (Memory _) = ⊤
 IsOutputFault names (Failed action name error) = Contains names name.now × (action ≢ Read)
 
 -- the name of a file that is to be written

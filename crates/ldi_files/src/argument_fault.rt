@@ -2,9 +2,9 @@
 
 ghost use Rattle.std.specs.Prelude.{◌≡◌};
 
-use std::alloc::{AllocError, Global};
+use growth::{NoMemory, string, told};
+use std::alloc::Global;
 use std::io;
-use std::io::ErrorKind;
 
 /// The status after words that are refused.
 const REFUSED: u8 = 2;
@@ -23,7 +23,7 @@ pub enum ArgumentFault {
     /// Standard output cannot be written.
     Unwritten(io::Error),
     /// Out of memory.
-    Memory,
+    Memory(NoMemory),
 }
 
 /// A fault of standard output, or out of memory.
@@ -33,22 +33,21 @@ impl From<io::Error> for ArgumentFault {
     ghost from_gives = { IsOutputFault };
 
     fn from(error: io::Error) -> ArgumentFault {
-        if error.kind() == ErrorKind::OutOfMemory {
-            ArgumentFault::Memory
-        } else {
-            ArgumentFault::Unwritten(error)
+        match told::of_device(error) {
+            Some(no_memory) => ArgumentFault::Memory(no_memory),
+            None => ArgumentFault::Unwritten(error),
         }
     }
 }
 
 /// Memory ran out.
-impl From<AllocError> for ArgumentFault {
+impl From<NoMemory> for ArgumentFault {
     ghost use Rattle.ldi_files.specs.declared.argument_fault.ArgumentFault.TheVariants.{Memory};
 
-    ghost from_gives = { λ _ fault. fault ≡ Memory };
+    ghost from_gives = { λ no_memory fault. fault ≡ Memory no_memory };
 
-    fn from(_error: AllocError) -> ArgumentFault {
-        ArgumentFault::Memory
+    fn from(no_memory: NoMemory) -> ArgumentFault {
+        ArgumentFault::Memory(no_memory)
     }
 }
 
@@ -59,12 +58,12 @@ impl ArgumentFault {
     pub fn of_file(alloc: Global, name: &str, error: io::Error) -> ArgumentFault
         ensures { IsFaultOfFile name.now error result }
     {
-        if error.kind() == ErrorKind::OutOfMemory {
-            return ArgumentFault::Memory;
+        if let Some(no_memory) = told::of_device(error) {
+            return ArgumentFault::Memory(no_memory);
         }
-        match String::from_str(alloc, name) {
+        match string::from_str(alloc, name) {
             Ok(name) => ArgumentFault::Unread(name, error),
-            Err(_) => ArgumentFault::Memory,
+            Err(no_memory) => ArgumentFault::Memory(no_memory),
         }
     }
 
@@ -75,7 +74,7 @@ impl ArgumentFault {
         match self {
             ArgumentFault::Words => REFUSED,
             ArgumentFault::Unread(_, _) | ArgumentFault::Unwritten(_) => DEVICE,
-            ArgumentFault::Memory => NO_MEMORY,
+            ArgumentFault::Memory(_) => NO_MEMORY,
         }
     }
 
@@ -91,7 +90,7 @@ impl ArgumentFault {
             ArgumentFault::Unwritten(error) => eprintln!(rt;
                 "standard output cannot be written: {error}"
             ),
-            ArgumentFault::Memory => eprintln!(rt; "memory"),
+            ArgumentFault::Memory(_) => eprintln!(rt; "memory"),
         };
         self.exit_status()
     }

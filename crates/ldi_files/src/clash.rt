@@ -1,7 +1,8 @@
 //! An output that another argument of the command line names too.
 
 use crate::destination::{Destination, FileId};
-use std::alloc::{AllocError, Global};
+use growth::{NoMemory, string};
+use std::alloc::Global;
 use std::rt::Files;
 
 /// What an argument of the command line names.
@@ -63,7 +64,7 @@ impl Outputs {
         rt: &R,
         image: &str,
         map: Option<&str>,
-    ) -> Result<Outputs, AllocError> {
+    ) -> Result<Outputs, NoMemory> {
         Ok(Outputs {
             image: Destination::of(rt, image)?,
             map: match map {
@@ -78,10 +79,10 @@ impl Outputs {
     /// # Errors
     ///
     /// If memory runs out.
-    pub fn own_clash(&self, alloc: Global, name: &str) -> Result<Option<Clash>, AllocError> {
+    pub fn own_clash(&self, alloc: Global, name: &str) -> Result<Option<Clash>, NoMemory> {
         match &self.map {
             Some(map) if map.is_same(&self.image) => {
-                let name = String::from_str(alloc, name)?;
+                let name = string::from_str(alloc, name)?;
                 Ok(Some(Clash {
                     written: Role::Image,
                     other: Role::Map,
@@ -114,11 +115,11 @@ impl Outputs {
         file: Option<FileId>,
         other: Role,
         name: &str,
-    ) -> Result<Option<Clash>, AllocError> {
+    ) -> Result<Option<Clash>, NoMemory> {
         let Some(written) = file.and_then(|file| self.role_of(file)) else {
             return Ok(None);
         };
-        let name = String::from_str(alloc, name)?;
+        let name = string::from_str(alloc, name)?;
         Ok(Some(Clash {
             written,
             other,

@@ -1,9 +1,8 @@
 //! Which file a name leads to.
 
-use std::alloc::AllocError;
+use growth::{NoMemory, path, string};
 use std::fs;
 use std::fs::Metadata;
-use std::io::ErrorKind;
 use std::os::unix::fs::MetadataExt;
 use std::path::PathBuf;
 use std::rt::Files;
@@ -50,7 +49,7 @@ impl Destination {
     /// # Errors
     ///
     /// If memory runs out.
-    pub fn of<R: Files + AllocGlobal>(rt: &R, name: &str) -> Result<Destination, AllocError> {
+    pub fn of<R: Files + AllocGlobal>(rt: &R, name: &str) -> Result<Destination, NoMemory> {
         match fs::metadata(rt, name) {
             Ok(metadata) => Ok(FileId::of_regular(&metadata).map_or(
                 Destination::Other,
@@ -81,15 +80,14 @@ impl Destination {
 }
 
 /// The path that a name leads to through symbolic links, the last of which leads to no file.
-fn behind_links<R: Files + AllocGlobal>(rt: &R, name: &str) -> Result<PathBuf, AllocError> {
-    let mut path = PathBuf::from_str(rt.alloc(), name)?;
+fn behind_links<R: Files + AllocGlobal>(rt: &R, name: &str) -> Result<PathBuf, NoMemory> {
+    let mut path = path::from_str(rt.alloc(), name)?;
     for _ in 0..MOST_LINKS {
-        match fs::read_link(rt, path.as_path()) {
+        match path::read_link(rt, path.as_path())? {
             Ok(target) => {
                 path.pop();
-                path.push(target.as_path())?;
+                path::push(&mut path, target.as_path())?;
             }
-            Err(error) if error.kind() == ErrorKind::OutOfMemory => return Err(AllocError),
             Err(_) => break,
         }
     }
@@ -97,7 +95,7 @@ fn behind_links<R: Files + AllocGlobal>(rt: &R, name: &str) -> Result<PathBuf, A
 }
 
 /// Where a name leads if it leads to no file.
-fn new_destination<R: Files + AllocGlobal>(rt: &R, name: &str) -> Result<Destination, AllocError> {
+fn new_destination<R: Files + AllocGlobal>(rt: &R, name: &str) -> Result<Destination, NoMemory> {
     let path = behind_links(rt, name)?;
     let (Some(folder), Some(last)) = (path.parent(), path.file_name()) else {
         return Ok(Destination::Other);
@@ -109,7 +107,7 @@ fn new_destination<R: Files + AllocGlobal>(rt: &R, name: &str) -> Result<Destina
     };
     match fs::metadata(rt, folder) {
         Ok(metadata) => {
-            let name = String::from_str(rt.alloc(), last)?;
+            let name = string::from_str(rt.alloc(), last)?;
             Ok(Destination::New(FileId::of(&metadata), name))
         }
         Err(_) => Ok(Destination::Other),

@@ -1,8 +1,7 @@
 //! Why a file cannot be opened, read, written or replaced.
 
-use std::alloc::{AllocError, AllocFailed};
+use growth::{NoMemory, told};
 use std::error::Error;
-use std::io::ErrorKind;
 use std::{fmt, io};
 
 /// What cannot be done with a file.
@@ -33,7 +32,7 @@ impl fmt::Display for Action {
 #[derive(Clone, Copy, Debug)]
 pub enum FileFault<'a> {
     /// Memory ran out.
-    Memory,
+    Memory(NoMemory),
     /// The system refuses an action on a file.
     Failed {
         /// What could not be done.
@@ -52,46 +51,33 @@ impl<'a> FileFault<'a> {
     pub fn of(action: Action, name: &'a str, error: io::Error) -> FileFault<'a>
         ensures { IsFaultOf action name.now error result }
     {
-        if error.kind() == ErrorKind::OutOfMemory {
-            FileFault::Memory
-        } else {
-            FileFault::Failed {
+        match told::of_device(error) {
+            Some(no_memory) => FileFault::Memory(no_memory),
+            None => FileFault::Failed {
                 action,
                 name,
                 error,
-            }
+            },
         }
     }
 }
 
 /// Memory ran out.
-impl From<AllocError> for FileFault<'_> {
+impl From<NoMemory> for FileFault<'_> {
     ghost use Rattle.std.specs.Prelude.{◌≡◌};
     ghost use Rattle.ldi_files.specs.declared.fault.FileFault.TheVariants.{Memory};
 
-    ghost from_gives = { λ _ fault. fault ≡ Memory };
+    ghost from_gives = { λ no_memory fault. fault ≡ Memory no_memory };
 
-    fn from(_error: AllocError) -> Self {
-        FileFault::Memory
-    }
-}
-
-/// Memory ran out.
-impl<T: Drop> From<AllocFailed<T>> for FileFault<'_> {
-    ghost use Rattle.std.specs.Prelude.{◌≡◌};
-    ghost use Rattle.ldi_files.specs.declared.fault.FileFault.TheVariants.{Memory};
-
-    ghost from_gives = { λ _ fault. fault ≡ Memory };
-
-    fn from(_failed: AllocFailed<T>) -> Self {
-        FileFault::Memory
+    fn from(no_memory: NoMemory) -> Self {
+        FileFault::Memory(no_memory)
     }
 }
 
 impl fmt::Display for FileFault<'_> {
     fn fmt<W: fmt::Write>(&self, f: &mut fmt::Formatter<W>) -> fmt::Result {
         match self {
-            FileFault::Memory => f.write_str("out of memory"),
+            FileFault::Memory(_) => f.write_str("out of memory"),
             FileFault::Failed {
                 action,
                 name,

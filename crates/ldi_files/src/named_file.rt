@@ -6,8 +6,9 @@ use crate::argument::file_word;
 use crate::argument_fault::ArgumentFault;
 use crate::fault::FileFault;
 use crate::reading::FileReader;
+use growth::{string, told};
 use std::env::Env;
-use std::io::{ErrorKind, Write};
+use std::io::Write;
 use std::rt::Files;
 use std::{env, io};
 
@@ -42,10 +43,10 @@ fn read_named<R: Files + AllocGlobal>(rt: &R, name: &str) -> Result<NamedFile, A
     let mut reader = FileReader::new(rt.alloc(), MAX_FILE + 1)?;
     match reader.read(rt, name) {
         Ok(file) => Ok(NamedFile {
-            name: String::from_str(rt.alloc(), name)?,
+            name: string::from_str(rt.alloc(), name)?,
             bytes: file.bytes,
         }),
-        Err(FileFault::Memory) => Err(ArgumentFault::Memory),
+        Err(FileFault::Memory(refused)) => Err(ArgumentFault::Memory(refused)),
         Err(FileFault::Failed { error, .. }) => Err(ArgumentFault::of_file(
             rt.alloc(),
             name,
@@ -64,8 +65,12 @@ pub fn named_file<R: Files + Env + AllocGlobal>(
 ) -> Result<Option<NamedFile>, ArgumentFault> {
     let args = match arguments(rt) {
         Ok(args) => args,
-        Err(error) if error.kind() == ErrorKind::OutOfMemory => return Err(ArgumentFault::Memory),
-        Err(_) => return Err(ArgumentFault::Words),
+        Err(error) => {
+            return Err(match told::of_device(error) {
+                Some(refused) => ArgumentFault::Memory(refused),
+                None => ArgumentFault::Words,
+            });
+        }
     };
     match file_word(&args)? {
         Some(name) => Ok(Some(read_named(rt, name.as_str())?)),

@@ -6,7 +6,8 @@ ghost use Rattle.ldi_files.specs.Fault.{IsInputFault};
 
 use crate::destination::FileId;
 use crate::fault::{Action, FileFault};
-use std::alloc::{AllocError, Global};
+use growth::{NoMemory, vec};
+use std::alloc::Global;
 use std::fs::{File, OpenFile};
 use std::io;
 use std::io::{ErrorKind, Read};
@@ -99,8 +100,8 @@ impl FileReader {
     /// # Errors
     ///
     /// If memory runs out.
-    pub fn new(alloc: Global, most: usize) -> Result<FileReader, AllocError> {
-        let buffer = vec![in alloc; 0; AT_ONCE]?;
+    pub fn new(alloc: Global, most: usize) -> Result<FileReader, NoMemory> {
+        let buffer = vec::from_elem(alloc, 0, AT_ONCE)?;
         Ok(FileReader { buffer, most })
     }
 

@@ -5,6 +5,7 @@ ghost use Rattle.std.specs.Prelude.{◌∷◌, [], map, IfErr};
 ghost use Rattle.ldi_files.specs.Fault.{IsOutputFault, name_of};
 
 use crate::fault::{Action, FileFault};
+use growth::vec;
 use std::fs::{OpenFile, OpenOptions};
 use std::io::{ErrorKind, Write};
 use std::os::unix::fs::OpenOptionsExt;
@@ -149,7 +150,7 @@ fn write_all_files<'a, R: Files + RandomSource + AllocGlobal>(
     ensures { IfErr result (IsOutputFault (map name_of files.now)) }
 {
     for file in files {
-        beside.push(write_beside(rt, file)?)?;
+        vec::push(beside, write_beside(rt, file)?)?;
     }
     for (file, beside) in files.iter().zip(beside.iter()) {
         if beside.is_none() {
@@ -176,7 +177,7 @@ pub fn write_files<'a, R: Files + RandomSource + AllocGlobal>(
 ) -> Result<(), FileFault<'a>>
     ensures { IfErr result (IsOutputFault (map name_of files.now)) }
 {
-    let mut beside = Vec::with_capacity(rt.alloc(), files.len())?;
+    let mut beside = vec::with_capacity(rt.alloc(), files.len())?;
     let written = write_all_files(rt, files, &mut beside);
     if written.is_err() {
         for beside in beside.iter().flatten() {

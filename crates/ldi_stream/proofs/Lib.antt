@@ -1,3 +1,4 @@
+pub mod Common
 pub mod StreamLines
 pub mod StreamWriting
 pub mod StreamBytes

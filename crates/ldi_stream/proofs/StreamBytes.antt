@@ -1,9 +1,7 @@
 -- Bytes up to the first of a kind.
-use Rattle.std.proofs.Common.{◌≡◌, ◌≢◌, ℕ, ◌+◌, ◌%◌, ◌^◌, Bool, true, false, not, ◌&&◌, ◌==◌, ◌<◌, ◌≤◌, List, [], ◌∷◌}
-use Rattle.std.proofs.Common.{◌++◌, length, decimal, refl, arith}
-use Rattle.std.proofs.lemmas.Fmt.{decimal_by_steps}
-use Rattle.std.proofs.lemmas.Bool.{and_parts, false≢true, eq-eqb}
-use Rattle.ldmodel.specs.Commands.{HasNo}
+use Rattle.ldi_stream.proofs.Common.{HasNo, List, [], and_parts, arith, decimal, decimal_by_steps, eq-eqb, false}
+use Rattle.ldi_stream.proofs.Common.{false≢true, length, refl, true, ℕ, ◌++◌, ◌+◌, ◌<◌, ◌==◌, ◌^◌, ◌∷◌, ◌≡◌, ◌≢◌, ◌≤◌}
+use Rattle.std.proofs.Common.{◌%◌, Bool, not, ◌&&◌}
 
 no-append : (b : ℕ) (xs ys : List ℕ) → HasNo b xs → HasNo b ys → HasNo b (xs ++ ys)
 no-append b [] ys h k = k
@@ -49,4 +47,5 @@ differs x b e same = false≢true (rw (eq-eqb x b same) at e)
 
 pub no_by_test : (b : ℕ) (xs : List ℕ) → has_no b xs ≡ true → HasNo b xs
 no_by_test b [] e = tt
-no_by_test b (x ∷ xs) e = let two = and_parts (not (x == b)) (has_no b xs) e in (differs x b two.0, no_by_test b xs two.1)
+no_by_test b (x ∷ xs) e = let two = and_parts (not (x == b)) (has_no b xs) e in
+    (differs x b two.0, no_by_test b xs two.1)

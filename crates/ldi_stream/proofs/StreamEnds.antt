@@ -1,12 +1,8 @@
-use Rattle.std.proofs.Common.{◌≡◌, ℕ, inl, inr, List, [], ◌++◌, Option, None, Some, IfSome, Ok, refl, sym, subst, ◌∙◌}
-use Rattle.std.proofs.Common.{append-nil}
-use Rattle.std.specs.Io.KnownBytes.{Consumes, Appends, IsAtEnd}
-use Rattle.std.proofs.KnownBytes.{Appends-trans, Appends-kept}
-use Rattle.ldmodel.specs.Answers.{Answers, Ending, ended, bad, stream_line}
+use Rattle.ldi_stream.proofs.Common.{Answers, Appends, Appends-kept, Appends-trans, Consumes, Ending, IfSome, IsAtEnd}
+use Rattle.ldi_stream.proofs.Common.{List, None, Ok, Option, Project, Ran, Some, World, [], append-nil, bad, ended, inl}
+use Rattle.ldi_stream.proofs.Common.{inr, refl, status_of, stream_line, subst, sym, ℕ, ◌++◌, ◌∙◌, ◌≡◌}
 use Rattle.ldmodel.specs.Commands.{IsBad}
 use Rattle.ldmodel.specs.Link.{link}
-use Rattle.ldmodel.specs.Project.{Project}
-use Rattle.ldi_stream.specs.Ran.{World, Ran, status_of}
 use Rattle.ldi_stream.specs.declared.Status.{Status}
 use Rattle.ldi_stream.specs.declared.Status.TheVariants.{Done, Malformed}
 

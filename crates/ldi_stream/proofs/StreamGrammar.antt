@@ -1,10 +1,8 @@
 -- Bytes that no command begins.
-use Rattle.std.proofs.Common.{◌≡◌, ℕ, ◌<◌, List, [], ◌∷◌, ◌++◌, length, Option, None, Some, IfSome, Ok, inl, inr}
-use Rattle.std.proofs.Common.{take, sym, ap, subst, arith, ◌∙◌, length-append, append_assoc, append-nil}
-use Rattle.std.specs.Io.KnownBytes.{Consumes, IsAtEnd}
-use Rattle.ldmodel.specs.Commands.{Command, HasNo, IsCommand, BeginsCommand, IsBad, line, payload, spelling}
-use Rattle.ldi_stream.specs.Heads.{HasLine, SaysNothing}
-use Rattle.ldi_stream.specs.Stepped.{LineRead}
+use Rattle.ldi_stream.proofs.Common.{Consumes, HasLine, HasNo, IfSome, IsAtEnd, LineRead, List, None, Ok, Option}
+use Rattle.ldi_stream.proofs.Common.{SaysNothing, Some, [], ap, append-nil, append_assoc, arith, inl, inr, length}
+use Rattle.ldi_stream.proofs.Common.{length-append, subst, sym, take, ℕ, ◌++◌, ◌<◌, ◌∙◌, ◌∷◌, ◌≡◌}
+use Rattle.ldmodel.specs.Commands.{Command, IsCommand, BeginsCommand, IsBad, line, payload, spelling}
 use Rattle.ldi_stream.specs.declared.line.LineEnd.TheVariants.{Line, Broken}
 use Rattle.ldi_stream.proofs.StreamBytes.{first_cut, no_cut, within_cut}
 

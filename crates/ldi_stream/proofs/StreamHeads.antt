@@ -1,13 +1,11 @@
 -- What lines say.
-use Rattle.std.proofs.Common.{◌≡◌, ℕ, zero, suc, ◌^◌, ◌<◌, ◌≤◌, ◌==◌, false, List, [], ◌∷◌, ◌++◌, length, codes}
-use Rattle.std.proofs.Common.{decimal, refl, sym, ap, subst, arith, ◌∙◌}
-use Rattle.std.proofs.lemmas.Bool.{false≢true, eq-eqb}
+use Rattle.ldi_stream.proofs.Common.{EditHead, HasNo, IsEdit, IsNoEdit, IsRead, List, Says, SaysNothing, [], ap, arith}
+use Rattle.ldi_stream.proofs.Common.{codes, decimal, edit_of, eq-eqb, false, false≢true, first_word, later_words}
+use Rattle.ldi_stream.proofs.Common.{length, numbers, query_of, refl, subst, suc, sym, zero, ℕ, ◌++◌, ◌<◌, ◌==◌, ◌^◌}
+use Rattle.ldi_stream.proofs.Common.{◌∙◌, ◌∷◌, ◌≡◌, ◌≤◌}
 use Rattle.ldmodel.specs.Commands as commands
-use Rattle.ldmodel.specs.Commands.{Command, Edit, Ask, HasNo, HasWords, IsWord, edit_line, query_line, line}
+use Rattle.ldmodel.specs.Commands.{Command, Edit, Ask, HasWords, IsWord, edit_line, query_line, line}
 use Rattle.ldmodel.specs.Edits.{Change, Add, Replace, Move, Remove, SetScript}
-use Rattle.ldi_stream.specs.Heads.{query_of, edit_of, first_word, later_words, numbers, IsEdit, IsRead, IsNoEdit, Says}
-use Rattle.ldi_stream.specs.Heads.{SaysNothing}
-use Rattle.ldi_stream.specs.declared.head.EditHead.{EditHead}
 use Rattle.ldi_stream.specs.declared.head.CommandHead.TheVariants as head
 use Rattle.ldi_stream.specs.declared.head.Query.{Query}
 use Rattle.ldi_stream.proofs.StreamBytes.{first_cut, no_cut, decimal_no, no_by_test}

@@ -1,10 +1,8 @@
-use Rattle.std.proofs.Common.{◌≡◌, ◌≢◌, ℕ, ◌+◌, ◌<◌, ◌≤◌, ◌-◌, take_all, take-add, length-drop, List, [], ◌∷◌, ◌++◌}
-use Rattle.std.proofs.Common.{length, take, drop, set, ap, arith, ◌∙◌, length-take}
-use Rattle.std.proofs.lemmas.Grind.{common_steps}
+use Rattle.ldi_stream.proofs.Common.{HasNo, List, [], ap, arith, common_steps, drop, length, length-drop, length-take}
+use Rattle.ldi_stream.proofs.Common.{take, take-append-add, take_all, ℕ, ◌++◌, ◌+◌, ◌-◌, ◌<◌, ◌∙◌, ◌∷◌, ◌≡◌, ◌≢◌, ◌≤◌}
+use Rattle.std.proofs.Common.{take-add, set}
 use Rattle.std.proofs.lemmas.List.{take-append-le}
-use Rattle.std.proofs.Math.Seq.{take-append-add}
 use borrow.Rule.Slice.PartMut.{put_mid, post_of}
-use Rattle.ldmodel.specs.Commands.{HasNo}
 
 pub NoFeed-more : (xs : List ℕ) (b : ℕ) → HasNo 10 xs → b ≢ 10 → HasNo 10 (xs ++ b ∷ [])
 NoFeed-more [] b h n = (n, tt)

@@ -1,17 +1,15 @@
 -- What a linker does with an edit is what is answered to it.
-use Rattle.std.proofs.Common.{◌≡◌, List, ℕ, Ok, None, inl, inr, refl, codes}
-use Rattle.ldmodel.specs.Answers.{EditReply, MayLackMemory, accepted, refused, out_of_memory, answer_line, refused_line}
+use Rattle.ldi_stream.proofs.Common.{EditReply, List, MayLackMemory, None, Ok, Project, accepted, answer_line}
+use Rattle.ldi_stream.proofs.Common.{change_to, codes, inl, inr, out_of_memory, refl, refused, refused_line, ℕ, ◌≡◌}
 use Rattle.ldmodel.specs.EditMeaning.{linked_of}
 use Rattle.ldmodel.specs.Edits as model
 use Rattle.ldmodel.specs.Edits.{Change, Add, Replace, Move, Remove, SetScript, Refusal, After, RefusedAs, early_refusal}
 use Rattle.ldmodel.specs.Link.{link}
-use Rattle.ldmodel.specs.Project.{Project}
-use Rattle.ldmodel.specs.declared.edit.Linked.{Linked}
-use Rattle.ldi_stream.specs.Heads.{aimed}
-use Rattle.ldi_stream.specs.declared.head.Aim.{Aim}
-use Rattle.ldi_stream.specs.declared.head.Aim.TheVariants as aim
+use Rattle.ldmodel.specs.declared.edit.LinkSummary.{LinkSummary}
+use Rattle.ldi_stream.specs.declared.head.PayloadTarget.{PayloadTarget}
+use Rattle.ldi_stream.specs.declared.head.PayloadTarget.TheVariants as target
 
-pub reply_linked : (p q : Project) (c : Change) (l : Linked) → After p c (Ok q) → l ≡ linked_of (link q)
+pub reply_linked : (p q : Project) (c : Change) (l : LinkSummary) → After p c (Ok q) → l ≡ linked_of (link q)
     → EditReply p c (answer_line (codes "linked") l.status l.length) q
 reply_linked p q c l a e = rw e (accepted q a)
 
@@ -31,8 +29,8 @@ pub reply_refused : (p q : Project) (c : Change) (r : Refusal) → RefusedAs p c
     → EditReply p c (refused_line r) q
 reply_refused p q c r a e = rw e (refused_so p c r a)
 
-pub payload_unread : (p : Project) (a : Aim) (payload : List ℕ)
-    → EditReply p (aimed a payload) (refused_line model.NoMemory) p
-payload_unread p (aim.Add name at) payload = out_of_memory tt
-payload_unread p (aim.Replace name) payload = out_of_memory tt
-payload_unread p aim.Script payload = out_of_memory tt
+pub payload_unread : (p : Project) (a : PayloadTarget) (payload : List ℕ)
+    → EditReply p (change_to a payload) (refused_line model.NoMemory) p
+payload_unread p (target.Add name at) payload = out_of_memory tt
+payload_unread p (target.Replace name) payload = out_of_memory tt
+payload_unread p target.Script payload = out_of_memory tt

@@ -1,12 +1,8 @@
-use Rattle.std.proofs.Common.{◌≡◌, ℕ, ◌+◌, List, [], ◌∷◌, ◌++◌, length, refl, sym, subst, append_assoc, append-nil}
-use Rattle.std.proofs.Common.{length-append}
-use Rattle.std.proofs.lemmas.Grind.{flat_map-append}
-use Rattle.std.proofs.KnownBytes.{Consumes-trans, Consumes-nil, Appends-trans, Appends-nil}
-use Rattle.ldmodel.specs.Answers.{Reply, Replies, none, next}
+use Rattle.ldi_stream.proofs.Common.{Appends-trans, Consumes-trans, List, Progress, Project, Replies, Reply, Served}
+use Rattle.ldi_stream.proofs.Common.{World, [], append-nil, append_assoc, flat_map-append, length, length-append, next}
+use Rattle.ldi_stream.proofs.Common.{none, refl, subst, sym, ℕ, ◌++◌, ◌+◌, ◌∷◌, ◌≡◌}
+use Rattle.std.proofs.KnownBytes.{Consumes-nil, Appends-nil}
 use Rattle.ldmodel.specs.Commands.{Command, IsCommand, AreCommands, spelling}
-use Rattle.ldmodel.specs.Project.{Project}
-use Rattle.ldi_stream.specs.Ran.{World, Progress}
-use Rattle.ldi_stream.specs.Stepped.{Served}
 
 Replies-more : (p q r : Project) (cs : List Command) (c : Command) (out answer : List ℕ) → Replies p cs out q
     → Reply q c answer r → Replies p (cs ++ c ∷ []) (out ++ answer) r

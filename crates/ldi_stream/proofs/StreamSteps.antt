@@ -1,18 +1,14 @@
 -- An edit whose line was read, and then what comes of it.
-use Rattle.std.proofs.Common.{◌≡◌, ℕ, ◌-◌, ◌<◌, inl, inr, List, [], ◌∷◌, ◌++◌, length, replicate, Option, Result, Ok}
-use Rattle.std.proofs.Common.{Err, refl, arith, append_assoc, length-append}
+use Rattle.ldi_stream.proofs.Common.{Consumes, Consumes-trans, CutShort, EditHead, EditStepped, Err, HasNo, List, Ok}
+use Rattle.ldi_stream.proofs.Common.{Option, Project, Result, Says, Stepped, [], announced, append_assoc, arith}
+use Rattle.ldi_stream.proofs.Common.{edit_of, inl, inr, length, length-append, refl, world, ℕ, ◌++◌, ◌-◌, ◌<◌, ◌∷◌, ◌≡◌}
+use Rattle.std.proofs.Common.{replicate}
 use Rattle.std.proofs.lemmas.List.{length-replicate}
-use Rattle.std.specs.Io.KnownBytes.{Consumes}
-use Rattle.std.proofs.KnownBytes.{Consumes-trans, Keeps-refl}
-use Rattle.ldmodel.specs.Commands.{Edit, HasNo, edit_payload, spelling}
-use Rattle.ldmodel.specs.Project.{Project}
-use Rattle.ldi_stream.specs.Heads.{edit_of, announced, Says}
-use Rattle.ldi_stream.specs.Ran.{world, CutShort}
-use Rattle.ldi_stream.specs.Stepped.{Stepped, EditStepped}
+use Rattle.std.proofs.KnownBytes.{Keeps-refl}
+use Rattle.ldmodel.specs.Commands.{Edit, edit_payload, spelling}
 use Rattle.ldi_stream.specs.declared.fault.RunFault.{RunFault}
 use Rattle.ldi_stream.specs.declared.fault.RunFault.TheVariants.{Read, Write, Long}
-use Rattle.ldi_stream.specs.declared.head.Aim.TheVariants as aim
-use Rattle.ldi_stream.specs.declared.head.EditHead.{EditHead}
+use Rattle.ldi_stream.specs.declared.head.PayloadTarget.TheVariants as target
 use Rattle.ldi_stream.specs.declared.head.EditHead.TheVariants as edit
 use Rattle.ldi_stream.specs.declared.head.CommandHead.TheVariants as head
 use Rattle.ldi_stream.specs.declared.serve.ServeStep.{ServeStep}
@@ -30,9 +26,9 @@ nothing [] e = refl
 nothing (b ∷ bs) e = absurd (omega (arith, e))
 
 brings : (h : EditHead) (bytes : List ℕ) → length bytes ≡ announced h → edit_payload (edit_of h bytes) ≡ bytes
-brings (edit.WithPayload (aim.Add name at) count) bytes e = refl
-brings (edit.WithPayload (aim.Replace name) count) bytes e = refl
-brings (edit.WithPayload aim.Script count) bytes e = refl
+brings (edit.WithPayload (target.Add name at) count) bytes e = refl
+brings (edit.WithPayload (target.Replace name) count) bytes e = refl
+brings (edit.WithPayload target.Script count) bytes e = refl
 brings (edit.Move name to) bytes e = nothing bytes e
 brings (edit.Remove name) bytes e = nothing bytes e
 

@@ -1,14 +1,13 @@
 -- Bytes that are looked for, and numbers.
-use Rattle.std.proofs.Common.{◌≡◌, ℕ, zero, suc, ◌+◌, ◌-◌, ◌^◌, ◌<◌, ◌≤◌, true, false, Result, Ok, Err, List, [], ◌∷◌}
-use Rattle.std.proofs.Common.{◌++◌, length, decimal, take, drop, get_or, Option, None, Some, IfNone, sym, ap, subst}
-use Rattle.std.proofs.Common.{arith, add-one, ◌∙◌, length-drop, take_all, take-append-drop, drop-cons}
-use Rattle.std.proofs.lemmas.Bool.{eqb-true, eq-eqb, false≢true}
+use Rattle.ldi_stream.proofs.Common.{Err, HasNo, List, None, Ok, Option, Result, Some, [], ap, arith, decimal, drop}
+use Rattle.ldi_stream.proofs.Common.{eq-eqb, eqb-true, false, false≢true, length, length-drop, parse-decimal, subst}
+use Rattle.ldi_stream.proofs.Common.{suc, sym, take, take_all, true, zero, ℕ, ◌++◌, ◌+◌, ◌-◌, ◌<◌, ◌^◌, ◌∙◌, ◌∷◌, ◌≡◌}
+use Rattle.ldi_stream.proofs.Common.{◌≤◌}
+use Rattle.std.proofs.Common.{get_or, IfNone, add-one, take-append-drop, drop-cons}
 use Rattle.std.specs.Str.{bytes_eq}
 use Rattle.std.specs.Str.Parse.{ParsesUnsigned}
 use Rattle.std.proofs.lemmas.Slice.Eq.{bytes_eq-Decides}
-use Rattle.std.proofs.lemmas.Fmt.{parse-decimal}
 use Rattle.bstr.specs.Find.{IsFirstByte, Passes, Nowhere, is_byte}
-use Rattle.ldmodel.specs.Commands.{HasNo}
 
 -- ---- a byte that is looked for
 

@@ -1,11 +1,7 @@
-use Rattle.std.proofs.Common.{◌≡◌, ℕ, zero, suc, ◌+◌, List, [], ◌∷◌, ◌++◌, length, take, Option, Result, Ok, Err}
-use Rattle.std.proofs.Common.{refl, ap, subst, arith}
+use Rattle.ldi_stream.proofs.Common.{Appends, Appends-kept, Appends-trans, Err, Keeps, List, Ok, Option, Result, Writes}
+use Rattle.ldi_stream.proofs.Common.{[], ap, arith, common_steps, length, refl, subst, suc, take, take-append-add, zero}
+use Rattle.ldi_stream.proofs.Common.{ℕ, ◌++◌, ◌+◌, ◌∷◌, ◌≡◌}
 use Rattle.std.specs.Result.{IsErrAnd, MatchResult}
-use Rattle.std.proofs.lemmas.Grind.{common_steps}
-use Rattle.std.specs.Io.KnownBytes.{Appends, Keeps}
-use Rattle.std.proofs.KnownBytes.{Appends-trans, Appends-kept}
-use Rattle.std.proofs.Math.Seq.{take-append-add}
-use Rattle.ldi_stream.specs.Stepped.{Writes}
 
 -- a beginning of the text
 abbrev pub Part : Option (List ℕ) → Option (List ℕ) → List ℕ → Type 0

@@ -4,8 +4,8 @@ use Rattle.std.specs.Borrow.{Bor}
 use Rattle.ldmodel.specs.Commands as commands
 use Rattle.ldmodel.specs.Commands.{Command, Edit, Ask, HasNo, HasWords, IsCommand, line}
 use Rattle.ldmodel.specs.Edits.{Change, Add, Replace, Move, Remove, SetScript}
-use Rattle.ldi_stream.specs.declared.head.Aim.{Aim}
-use Rattle.ldi_stream.specs.declared.head.Aim.TheVariants as aim
+use Rattle.ldi_stream.specs.declared.head.PayloadTarget.{PayloadTarget}
+use Rattle.ldi_stream.specs.declared.head.PayloadTarget.TheVariants as target
 use Rattle.ldi_stream.specs.declared.head.EditHead.{EditHead}
 use Rattle.ldi_stream.specs.declared.head.EditHead.TheVariants as edit
 use Rattle.ldi_stream.specs.declared.head.CommandHead.{CommandHead}
@@ -19,14 +19,14 @@ query_of query.Map = commands.Map
 query_of query.Faults = commands.Faults
 
 -- the edit that a payload is meant for
-abbrev pub aimed : Aim → List ℕ → Change
-aimed (aim.Add name at) payload = Add name.now at payload
-aimed (aim.Replace name) payload = Replace name.now payload
-aimed aim.Script payload = SetScript payload
+abbrev pub change_to : PayloadTarget → List ℕ → Change
+change_to (target.Add name at) payload = Add name.now at payload
+change_to (target.Replace name) payload = Replace name.now payload
+change_to target.Script payload = SetScript payload
 
 -- the edit that a head becomes with a payload
 abbrev pub edit_of : EditHead → List ℕ → Change
-edit_of (edit.WithPayload a count) payload = aimed a payload
+edit_of (edit.WithPayload a count) payload = change_to a payload
 edit_of (edit.Move name to) payload = Move name.now to
 edit_of (edit.Remove name) payload = Remove name.now
 

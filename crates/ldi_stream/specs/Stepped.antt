@@ -55,7 +55,7 @@ Writes old new text result = MatchResult result (λ _. Appends old new text)
 
 abbrev pub PayloadRead : {E : Type 0} → Option (List ℕ) → Option (List ℕ) → ℕ → Result Payload E → Type 0
 PayloadRead old new n (Ok (Whole v)) = (length v.items ≡ n) × Consumes old new v.items
-PayloadRead old new n (Ok NoMemory) = (bytes : List ℕ) × (length bytes ≡ n) × Consumes old new bytes
+PayloadRead old new n (Ok (NoMemory _)) = (bytes : List ℕ) × (length bytes ≡ n) × Consumes old new bytes
 PayloadRead old new n (Ok Short) = (bytes : List ℕ) × (length bytes < n) × Consumes old new bytes × IsAtEnd new
 PayloadRead old new n (Err e) = (bytes : List ℕ) × (length bytes < n) × Consumes old new bytes
 

@@ -9,7 +9,7 @@ ghost use Rattle.ldi_stream.specs.Stepped.{CountsFailure, Writes};
 use crate::devices::Sink;
 use crate::fault::WriteFault;
 use itoa::Buffer;
-use ldmodel::edit::{EditRefusal, Linked};
+use ldmodel::edit::{EditRefusal, LinkSummary};
 
 /// Writes all the bytes.
 ///
@@ -61,7 +61,7 @@ pub fn write_answer<W: Sink>(sink: &mut W, word: &[u8], a: u64, b: u64) -> Resul
 /// # Errors
 ///
 /// If a call of `sink` failed. A prefix of the answer is written then.
-pub fn write_linked<W: Sink>(sink: &mut W, linked: Linked) -> Result<(), WriteFault>
+pub fn write_linked<W: Sink>(sink: &mut W, linked: LinkSummary) -> Result<(), WriteFault>
     ensures text { Writes (W.written sink.old) (W.written sink.new)
         (answer_line (codes "linked") linked.status linked.length) result }
     ensures flushed { OnOk result (W.held sink.new ≡ []) }

@@ -6,8 +6,8 @@ ghost use Rattle.std.specs.Io.Buffered.{reader_remaining, writer_buffer, writer_
 ghost use Rattle.ldi_stream.specs.Stepped.{CountsFailure, ReaderState, WriterState, written_in};
 
 use crate::fault::{ReadFault, WriteFault};
-use ldmodel::memory::NoMemory;
-use std::alloc::{AllocError, Global};
+use growth::{NoMemory, buffered};
+use std::alloc::Global;
 use std::io::{BufReader, BufWriter, Read, Write};
 use std::marker::Model;
 
@@ -94,12 +94,12 @@ impl<R: Read + Drop> CommandReader<R> {
     pub fn new(alloc: Global, reader: R) -> Result<CommandReader<R>, NoMemory>
         ensures { IfOk result (λ input. input ≡ record { rest = R.remaining reader; failed = 0 }) }
     {
-        match BufReader::new(alloc, reader) {
+        match buffered::reader(alloc, reader) {
             Ok(reader) => Ok(CommandReader {
                 reader,
                 failures: 0,
             }),
-            Err(_) => Err(AllocError),
+            Err(no_memory) => Err(no_memory),
         }
     }
 }
@@ -150,12 +150,12 @@ impl<W: Write + Drop> AnswerWriter<W> {
     pub fn new(alloc: Global, writer: W) -> Result<AnswerWriter<W>, NoMemory>
         ensures { IfOk result (λ output. output ≡ record { sent = W.contents writer; held = []; failed = 0 }) }
     {
-        match BufWriter::new(alloc, writer) {
+        match buffered::writer(alloc, writer) {
             Ok(writer) => Ok(AnswerWriter {
                 writer,
                 failures: 0,
             }),
-            Err(_) => Err(AllocError),
+            Err(no_memory) => Err(no_memory),
         }
     }
 

@@ -13,7 +13,7 @@ use ldmodel::edit::MAX_PAYLOAD;
 
 /// The edit that a payload is for.
 #[derive(Clone, Copy, Debug)]
-pub enum Aim<'a> {
+pub enum PayloadTarget<'a> {
     /// A new object.
     Add {
         /// The name of the object.
@@ -36,7 +36,7 @@ pub enum EditHead<'a> {
     /// `add`, `replace` or `script`, with a payload.
     WithPayload {
         /// The edit that it is for.
-        aim: Aim<'a>,
+        target: PayloadTarget<'a>,
         /// Its length in bytes.
         count: usize,
     },
@@ -166,8 +166,8 @@ fn read_add(words: &[u8]) -> Option<EditHead<'_>>
 {
     let (name, rest) = read_name(words)?;
     let (at, count) = read_numbers(rest)?;
-    let aim = Aim::Add { name, at };
-    Some(EditHead::WithPayload { aim, count })
+    let target = PayloadTarget::Add { name, at };
+    Some(EditHead::WithPayload { target, count })
 }
 
 /// What follows `replace `: a name and a length.
@@ -177,8 +177,8 @@ fn read_replace(words: &[u8]) -> Option<EditHead<'_>>
 {
     let (name, rest) = read_name(words)?;
     let count = read_count(rest)?;
-    let aim = Aim::Replace { name };
-    Some(EditHead::WithPayload { aim, count })
+    let target = PayloadTarget::Replace { name };
+    Some(EditHead::WithPayload { target, count })
 }
 
 /// What follows `move `: a name and a position.
@@ -209,8 +209,8 @@ fn read_script(words: &[u8]) -> Option<EditHead<'_>>
     ensures none { IfNone result (IsNoEdit (codes "script") words.now) }
 {
     let count = read_count(words)?;
-    let aim = Aim::Script;
-    Some(EditHead::WithPayload { aim, count })
+    let target = PayloadTarget::Script;
+    Some(EditHead::WithPayload { target, count })
 }
 
 /// The line of an edit, by its first word and the words after it.

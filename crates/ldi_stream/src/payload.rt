@@ -6,6 +6,7 @@ ghost use Rattle.ldi_stream.specs.Stepped.{CountsFailure, Filled, PayloadRead};
 
 use crate::devices::Source;
 use crate::fault::ReadFault;
+use growth::{NoMemory, vec};
 use std::alloc::Global;
 
 /// The number of bytes that are skipped by one read.
@@ -17,7 +18,7 @@ pub enum Payload {
     /// All its bytes.
     Whole(Vec<u8>),
     /// There was no memory for it, and all its bytes were skipped.
-    NoMemory,
+    NoMemory(NoMemory),
     /// The stream ended within it.
     Short,
 }
@@ -72,7 +73,7 @@ pub fn read_payload<R: Source>(
     ensures read { PayloadRead (R.rest source.old) (R.rest source.new) count result }
     ensures counted { CountsFailure (R.failed source.old) (R.failed source.new) result }
 {
-    match vec![in alloc; 0u8; count] {
+    match vec::from_elem(alloc, 0u8, count) {
         Ok(mut bytes) => {
             let n = fill(source, &mut bytes)?;
             Ok(if n < count {
@@ -81,12 +82,12 @@ pub fn read_payload<R: Source>(
                 Payload::Whole(bytes)
             })
         }
-        Err(_) => {
+        Err(no_memory) => {
             let n = skip(source, count)?;
             Ok(if n < count {
                 Payload::Short
             } else {
-                Payload::NoMemory
+                Payload::NoMemory(no_memory)
             })
         }
     }

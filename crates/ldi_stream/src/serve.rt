@@ -6,7 +6,7 @@ ghost use Rattle.ldmodel.specs.Commands.{IsBad};
 ghost use Rattle.ldmodel.specs.EditMeaning.{change_of};
 ghost use Rattle.ldmodel.specs.Link.{link};
 ghost use Rattle.ldmodel.specs.Project.{Project};
-ghost use Rattle.ldi_stream.specs.Heads.{aimed, announced, edit_of, query_of};
+ghost use Rattle.ldi_stream.specs.Heads.{change_to, announced, edit_of, query_of};
 ghost use Rattle.ldi_stream.specs.Ran.{FaultsCounted, Flushed, world};
 ghost use Rattle.ldi_stream.specs.Stepped.{CountsFailure, EditStepped, Stepped, Writes};
 
@@ -14,7 +14,7 @@ use crate::Status;
 use crate::answer::{write_bytes, write_linked, write_malformed, write_refused};
 use crate::devices::{Sink, Source};
 use crate::fault::{RunFault, WriteFault};
-use crate::head::{Aim, CommandHead, EditHead, Query, read_head};
+use crate::head::{CommandHead, EditHead, PayloadTarget, Query, read_head};
 use crate::line::{LineEnd, MAX_LINE, read_line};
 use crate::payload::{Payload, read_payload};
 use ldmodel::edit::{Edit, EditRefusal};
@@ -54,18 +54,18 @@ fn make_edit<W: Sink, L: Linker>(
 fn use_payload<W: Sink, L: Linker>(
     sink: &mut W,
     linker: &mut L,
-    aim: Aim<'_>,
+    target: PayloadTarget<'_>,
     bytes: Vec<u8>,
 ) -> Result<(), WriteFault>
     ensures text { (answer : List ℕ) × Writes (W.written sink.old) (W.written sink.new) answer result
-        × EditReply (L.project linker.old) (aimed aim.entry bytes.items) answer (L.project linker.new) }
+        × EditReply (L.project linker.old) (change_to target.entry bytes.items) answer (L.project linker.new) }
     ensures flushed { OnOk result (W.held sink.new ≡ []) }
     ensures counted { CountsFailure (W.failed sink.old) (W.failed sink.new) result }
 {
-    match aim {
-        Aim::Add { name, at } => make_edit(sink, linker, Edit::Add { name, at, bytes }),
-        Aim::Replace { name } => make_edit(sink, linker, Edit::Replace { name, bytes }),
-        Aim::Script => {
+    match target {
+        PayloadTarget::Add { name, at } => make_edit(sink, linker, Edit::Add { name, at, bytes }),
+        PayloadTarget::Replace { name } => make_edit(sink, linker, Edit::Replace { name, bytes }),
+        PayloadTarget::Script => {
             let text = bytes.as_slice();
             make_edit(sink, linker, Edit::Script { text })
         }
@@ -78,10 +78,10 @@ fn serve_payload<R: Source, W: Sink, L: Linker>(
     source: &mut R,
     sink: &mut W,
     linker: &mut L,
-    aim: Aim<'_>,
+    target: PayloadTarget<'_>,
     count: usize,
 ) -> Result<ServeStep, RunFault>
-    ensures stepped { EditStepped (aimed aim.entry) count
+    ensures stepped { EditStepped (change_to target.entry) count
         (world (R.rest source.old) (W.written sink.old) (L.project linker.old))
         (world (R.rest source.new) (W.written sink.new) (L.project linker.new)) result }
     ensures flushed { Flushed (W.held sink.old) (W.held sink.new) result }
@@ -90,11 +90,11 @@ fn serve_payload<R: Source, W: Sink, L: Linker>(
 {
     match read_payload(alloc, source, count)? {
         Payload::Whole(bytes) => {
-            use_payload(sink, linker, aim, bytes)?;
+            use_payload(sink, linker, target, bytes)?;
             Ok(ServeStep::Next)
         }
-        Payload::NoMemory => {
-            write_refused(sink, EditRefusal::NoMemory)?;
+        Payload::NoMemory(no_memory) => {
+            write_refused(sink, EditRefusal::NoMemory(no_memory))?;
             Ok(ServeStep::Next)
         }
         Payload::Short => {
@@ -120,8 +120,8 @@ fn serve_edit<R: Source, W: Sink, L: Linker>(
         (W.failed sink.old) (W.failed sink.new) result }
 {
     match head {
-        EditHead::WithPayload { aim, count } => {
-            serve_payload(alloc, source, sink, linker, aim, count)
+        EditHead::WithPayload { target, count } => {
+            serve_payload(alloc, source, sink, linker, target, count)
         }
         EditHead::Move { name, to } => {
             make_edit(sink, linker, Edit::Move { name, to })?;

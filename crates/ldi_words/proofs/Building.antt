@@ -1,9 +1,8 @@
 -- What a command is after one more argument, or one more subcommand.
-use Rattle.std.proofs.Common.{◌≡◌, ◌∙◌, ◌||◌, ap, ap₂, false}
-use Rattle.clap.specs.Words.{AddsArg, AddsSubcommand, App, Rule, rule_of, with_rule, with_subcommand}
+use Rattle.ldi_words.proofs.Common.{App, IsApp, ap, ap₂, false, ◌||◌, ◌∙◌, ◌≡◌}
+use Rattle.clap.specs.Words.{AddsArg, AddsSubcommand, Rule, rule_of, with_rule, with_subcommand}
 use Rattle.clap.specs.declared.builder.arg.Arg.{Arg}
 use Rattle.clap.specs.declared.builder.command.Command.{Command}
-use Rattle.ldi_words.specs.Command.{IsApp}
 
 pub with_arg : (a : App) (r : Rule) (old new : Command) (x : Arg) → IsApp a old → rule_of x ≡ r → x.global ≡ false
     → AddsArg old x new → IsApp (with_rule a r) new

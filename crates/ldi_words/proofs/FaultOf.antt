@@ -1,20 +1,18 @@
 -- The faults that `words` gives, as its clause says them.
-use Rattle.std.proofs.Common.{◌≡◌, ◌≢◌, List, [], ◌∷◌, Result, Ok, Err, IsErrAnd, MatchResult, true, sym, subst, inl}
-use Rattle.std.proofs.Common.{inr, codes}
+use Rattle.ldi_words.proofs.Common.{App, Choices, Err, HasKind, IsAmong, IsErrAnd, List, MatchResult, Ok, OutOfMemory}
+use Rattle.ldi_words.proofs.Common.{Result, Text, [], codes, inl, inr, subst, sym, takes, true, ◌∷◌, ◌≡◌, ◌≢◌}
 use Rattle.std.specs.Borrow.{Bor}
-use Rattle.clap.specs.Words.{App, Text, kind_of, takes}
+use Rattle.clap.specs.Words.{kind_of}
 use Rattle.clap.specs.Faults.{fault_of}
-use Rattle.clap.specs.Kinds.{HasKind, IsAmong}
 use Rattle.clap.specs.declared.error.Error.{Error}
-use Rattle.clap.specs.declared.error.kind.ErrorKind.TheVariants.{OutOfMemory}
 use Rattle.ldi_words.specs.declared.call.Call.{Call}
 use Rattle.ldi_words.specs.declared.fault.WordsFault.{WordsFault}
 use Rattle.ldi_words.specs.declared.fault.WordsFault.TheVariants.{Memory, Refused}
 use Rattle.ldi_words.specs.Fault.{IsFaultAt, IsFaultOf}
-use Rattle.ldi_words.specs.Command.{Choices}
+use Rattle.growth.specs.Memory.{no_memory}
 
 pub memory_fault : (a : App) (words : List Text) (P : Call → Type 0) (r : Result Call WordsFault)
-    → IsErrAnd r (λ f. f ≡ Memory) → MatchResult r P (IsFaultAt a words)
+    → IsErrAnd r (λ f. f ≡ Memory no_memory) → MatchResult r P (IsFaultAt a words)
 memory_fault a words P (Ok x) is = absurd is
 memory_fault a words P (Err f) is = subst (IsFaultAt a words) (sym is) tt
 
@@ -29,7 +27,7 @@ pub refused_fault : (a : App) (words : List Text) (P : Call → Type 0) (r : Res
     → (takes a words ≡ true → kind_of e ≡ OutOfMemory) → HasKind (fault_of a words) e
     → MatchResult r P (IsFaultAt a words)
 refused_fault a words P (Ok x) e is passes kinds = absurd is
-refused_fault a words P (Err Memory) e is passes kinds = tt
+refused_fault a words P (Err (Memory _)) e is passes kinds = tt
 refused_fault a words P (Err (Refused d)) e is passes kinds =
     subst (λ x. IsFaultAt a words (Refused x)) (sym is.0) (λ t. is.1 (passes t), is.1, among e a words is.1 kinds)
 

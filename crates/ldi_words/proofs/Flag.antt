@@ -1,7 +1,5 @@
 -- What `get_flag` says of the rows.
-use Rattle.std.proofs.Common.{◌≡◌, ◌↔◌, Bool, Option, Some, IsTrue, true, false, codes, inl, inr}
-use Rattle.clap.specs.Words.{Text}
-use Rattle.ldi_words.specs.Call.{IsFlag}
+use Rattle.ldi_words.proofs.Common.{Bool, IsFlag, IsTrue, Option, Some, Text, codes, false, inl, inr, true, ◌↔◌, ◌≡◌}
 
 -- a flag is set where its text is `true`
 pub flag_says : (stated : Option Text) (b : Bool) → IsFlag stated → (stated ≡ Some (codes "true") → b ≡ true)

@@ -1,25 +1,20 @@
 -- The rows at the end of a walk without a fault hold values which pass.
-use Rattle.std.proofs.Common.{◌≡◌, ◌&&◌, ℕ, Bool, true, false, zero, suc, List, [], ◌∷◌, length, drop, Option, Some}
-use Rattle.std.proofs.Common.{None, is_some}
-use Rattle.std.specs.Prelude.{if◌then◌else◌, cond, encode_utf8, slice_get}
-use Rattle.std.specs.List.{find, fold}
-use Rattle.std.specs.Option.{option_map_or}
-use Rattle.std.specs.Str.{bytes_eq, chars}
+use Rattle.ldi_words.proofs.Common.{Bool, Kinds, List, None, Option, Shape, Some, Text, TooManyValues, [], bytes_eq}
+use Rattle.ldi_words.proofs.Common.{cond, drop, encode_utf8, false, find, fold, if◌then◌else◌, is_some, length}
+use Rattle.ldi_words.proofs.Common.{option_map_or, or_else, slice_get, suc, true, zero, ℕ, ◌&&◌, ◌∷◌, ◌≡◌}
+use Rattle.std.specs.Str.{chars}
 use Rattle.clap.specs.Lexer.{long_of, short_of}
-use Rattle.clap.specs.Kinds.{Kinds, or_else}
 use Rattle.clap.specs.Faults.{bundle_fault, bundle_step_fault, check_fault, default_fault, defaults_fault}
 use Rattle.clap.specs.Faults.{flag_word_fault, flags_fault, level_fault, long_fault, option_fault, other_fault}
 use Rattle.clap.specs.Faults.{positional_fault, react_fault, settle_fault, short_fault, step_fault, stray_fault}
 use Rattle.clap.specs.Faults.{turn_fault, use_fault, walk_fault, word_fault}
-use Rattle.clap.specs.Simple.{Shape}
-use Rattle.clap.specs.declared.error.kind.ErrorKind.TheVariants.{TooManyValues}
-use Rattle.clap.specs.Walk.{Held, Names, Outcome, Row, Rule, Step, Text, Waiting, Walk, after_flag, after_step}
-use Rattle.clap.specs.Walk.{arg_by_id, arg_by_index, arg_by_long, arg_by_short, attached_value, bundle, bundle_met}
-use Rattle.clap.specs.Walk.{bundle_step, done, waits, plain, refused, idle, option, positional, next, trailing}
-use Rattle.clap.specs.Walk.{subcommand, value, flag_met, is_pending, long_met, long_or_other, nothing_held, option_met}
-use Rattle.clap.specs.Walk.{option_word, plain_word, reacted, rows_after, settled, settled_rows, short_met}
-use Rattle.clap.specs.Walk.{short_or_plain, subcommand_met, subcommand_or_other, takes_several, takes_values}
-use Rattle.clap.specs.Walk.{to_positional, used_by_id, walk, walk_from, walked, walked_from, with_default, word_met}
+use Rattle.clap.specs.Walk.{Held, Names, Outcome, Row, Rule, Step, Waiting, Walk, after_flag, after_step, arg_by_id}
+use Rattle.clap.specs.Walk.{arg_by_index, arg_by_long, arg_by_short, attached_value, bundle, bundle_met, bundle_step}
+use Rattle.clap.specs.Walk.{done, waits, plain, refused, idle, option, positional, next, trailing, subcommand, value}
+use Rattle.clap.specs.Walk.{flag_met, is_pending, long_met, long_or_other, nothing_held, option_met, option_word}
+use Rattle.clap.specs.Walk.{plain_word, reacted, rows_after, settled, settled_rows, short_met, short_or_plain}
+use Rattle.clap.specs.Walk.{subcommand_met, subcommand_or_other, takes_several, takes_values, to_positional, used_by_id}
+use Rattle.clap.specs.Walk.{walk, walk_from, walked, walked_from, with_default, word_met}
 use Rattle.ldi_words.proofs.Good.{AllGood, IsFine, default_good, either_way, none_of, used_good}
 
 -- ---- the rules that are found

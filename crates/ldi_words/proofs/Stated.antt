@@ -1,30 +1,21 @@
 -- What `clap` states for words in which it finds no fault: a subcommand, with all that it must be given.
-use Rattle.std.proofs.Common.{◌≡◌, ◌∙◌, ◌<◌, ◌&&◌, ◌||◌, ℕ, Bool, true, false, not, List, [], ◌∷◌, ◌++◌, length, drop}
-use Rattle.std.proofs.Common.{Option, Some, None, IsSome, is_some, refl, sym, ap, subst, arith, inl, inr, true≢false}
-use Rattle.std.proofs.Common.{codes, unwrap_or}
-use Rattle.std.specs.Prelude.{if◌then◌else◌, cond, option_and_then, option_map, slice_get}
-use Rattle.std.specs.List.{find, fold, list_all, list_any}
-use Rattle.std.specs.Option.{option_map_or}
-use Rattle.std.specs.Str.{bytes_eq}
+use Rattle.ldi_words.proofs.Common.{Bool, Choices, DefaultValue, IsFlag, IsSome, Kinds, List, ListsOrphans}
+use Rattle.ldi_words.proofs.Common.{NamesOrphans, None, Option, Reading, Shape, Some, StatesCall, StatesFiles}
+use Rattle.ldi_words.proofs.Common.{StatesOptions, Text, ValueSource, [], ap, arith, both, built, bytes_eq, codes, cond}
+use Rattle.ldi_words.proofs.Common.{drop, entered, false, find, fold, if◌then◌else◌, inl, inr, is_given, is_some}
+use Rattle.ldi_words.proofs.Common.{label_of, ldi, length, list_all, list_any, list_any-map, names_of, new_shape, not}
+use Rattle.ldi_words.proofs.Common.{option_and_then, option_map, option_map_or, refl, rows_at, slice_get, subcommand_of}
+use Rattle.ldi_words.proofs.Common.{subst, sym, true, true≢false, unwrap_or, ℕ, ◌&&◌, ◌++◌, ◌<◌, ◌||◌, ◌∙◌, ◌∷◌, ◌≡◌}
 use Rattle.std.proofs.lemmas.Slice.Eq.{bytes_eq-Decides}
-use Rattle.clap.proofs.WalkLemmas.{both, list_any-map}
 use Rattle.clap.specs.Facts.{explicit_source}
 use Rattle.clap.specs.Faults.{check_fault, entered_fault, fault_of, level_fault}
-use Rattle.clap.specs.Kinds.{Kinds}
-use Rattle.clap.specs.Simple.{Shape, built, entered, label_of, new_shape, names_of, rows_at, subcommand_of}
-use Rattle.clap.specs.Takes.{is_given}
 use Rattle.clap.specs.ValueTests.{accepts}
 use Rattle.clap.specs.Values.{read_as}
-use Rattle.clap.specs.Walk.{Row, Rule, Text, answers_to, arg_by_id, default_rows, first_of, has_row, is_empty}
-use Rattle.clap.specs.Walk.{more_values, nothing_held, one_of, reading_by, row_text, rows_after, settled, walk}
-use Rattle.clap.specs.Walk.{with_default, with_values}
-use Rattle.clap.specs.declared.builder.value_parser.Reading.{Reading}
+use Rattle.clap.specs.Walk.{Row, Rule, answers_to, arg_by_id, default_rows, first_of, has_row, is_empty, more_values}
+use Rattle.clap.specs.Walk.{nothing_held, one_of, reading_by, row_text, rows_after, settled, walk, with_default}
+use Rattle.clap.specs.Walk.{with_values}
 use Rattle.clap.specs.declared.builder.value_parser.ValueParser.TheVariants as vp
 use Rattle.clap.specs.declared.error.kind.ErrorKind.{ErrorKind}
-use Rattle.clap.specs.declared.parser.matches.ValueSource.{ValueSource}
-use Rattle.clap.specs.declared.parser.matches.ValueSource.TheVariants.{DefaultValue}
-use Rattle.ldi_words.specs.Call.{IsFlag, NamesOrphans, StatesCall, StatesFiles, StatesOptions}
-use Rattle.ldi_words.specs.Command.{Choices, ListsOrphans, ldi}
 use Rattle.ldi_words.proofs.Good.{AllGood, IsGood, passes}
 use Rattle.ldi_words.proofs.GoodWalk.{AllFine, level_good}
 

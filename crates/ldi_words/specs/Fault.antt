@@ -11,13 +11,13 @@ use Rattle.ldi_words.specs.declared.fault.WordsFault.TheVariants.{Memory, Refuse
 
 -- memory ran out, or the fault has a kind that `clap` states for the words, which it does not take
 abbrev pub IsFaultAt : App → List Text → WordsFault → Type 0
-IsFaultAt a words Memory = ⊤
+IsFaultAt a words (Memory _) = ⊤
 IsFaultAt a words (Refused e) =
     (takes a words ≢ true) × (kind_of e ≢ OutOfMemory) × IsAmong (kind_of e) (fault_of a words)
 
 -- the fault that an error of `clap` comes to
 abbrev pub IsFaultOf : Error → WordsFault → Type 0
-IsFaultOf e Memory = kind_of e ≡ OutOfMemory
+IsFaultOf e (Memory _) = kind_of e ≡ OutOfMemory
 IsFaultOf e (Refused d) = (d ≡ e) × (kind_of e ≢ OutOfMemory)
 
 -- the status after help, the version or a refusal
@@ -28,5 +28,5 @@ status_of_kind _ = 2
 
 -- the status after a fault
 abbrev pub exit_status : WordsFault → ℕ
-exit_status Memory = 4
+exit_status (Memory _) = 4
 exit_status (Refused e) = status_of_kind (kind_of e)

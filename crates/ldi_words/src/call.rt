@@ -2,7 +2,7 @@
 
 use ldmodel::options::Options;
 
-/// A call of one of the two programs.
+/// A call of `ldi`: one of its subcommands, with its arguments.
 #[derive(Debug, Drop)]
 pub enum Call {
     /// `ldi session`: link again after each edit that comes by standard input.

@@ -8,7 +8,8 @@ ghost use Rattle.ldi_words.specs.Command.{script_rule, image_rule, map_rule, obj
 ghost use Rattle.ldi_words.specs.Command.{ldi, link_app, session_app, with_options};
 
 use clap::{Arg, ArgAction, Command};
-use std::alloc::{AllocError, Global};
+use growth::{NoMemory, words};
+use std::alloc::Global;
 
 /// What `ldi --version` prints after the name.
 const VERSION: &str = "0.2.0";
@@ -20,7 +21,7 @@ Example: ldi link -T image.ld -o image --Map image.map start.o main.o
 Standard error, and the exit status:
   F12 main.o .text 0000000000000001 f  the link has faults; each has a line (1)
   main.o: refused 4 M                  not an object that ldi takes; `readobj main.o` says why (2)
-  script: refused 5 M                  not a script that ldi takes; `readscript image.ld` says why (2)
+  script: refused 5 M                  not a script that ldi takes; `ldi-adapt --check image.ld` says why (2)
   main.o: refused 1 0                  the object is named twice (2)
   main.o: refused 6 0                  over a limit: name, size or number of objects (2)
   device                               a file cannot be read or written, or there is no seed for hash tables (3)
@@ -125,52 +126,50 @@ fn add_options<'a>(
     alloc: Global,
     command: Command<'a>,
     orphan_values: &'a [&'a str],
-) -> Result<Command<'a>, AllocError>
+) -> Result<Command<'a>, NoMemory>
     ensures { IfOk result (λ c. (a : App) → IsApp a command.entry
         → IsApp (with_options orphan_values.entry a) c) }
 {
-    command
-        .arg(gc_arg(alloc))?
-        .arg(entry_arg(alloc))?
-        .arg(orphans_arg(alloc, orphan_values))
+    let command = words::arg(command, gc_arg(alloc))?;
+    let command = words::arg(command, entry_arg(alloc))?;
+    words::arg(command, orphans_arg(alloc, orphan_values))
 }
 
 /// `ldi session`.
-fn session_command<'a>(
-    alloc: Global,
-    orphan_values: &'a [&'a str],
-) -> Result<Command<'a>, AllocError>
+fn session_command<'a>(alloc: Global, orphan_values: &'a [&'a str]) -> Result<Command<'a>, NoMemory>
     ensures { IfOk result (IsApp (session_app orphan_values.entry)) }
 {
     let session = Command::new(alloc, "session")
         .about("Reads edits and queries from standard input and links again after each edit")
         .after_help("Example: ldi session --gc-sections -e _start < commands > answers");
-    add_options(alloc, session, orphan_values)?.arg(deferred_arg(alloc))
+    let session = add_options(alloc, session, orphan_values)?;
+    words::arg(session, deferred_arg(alloc))
 }
 
 /// `ldi link`.
-fn link_command<'a>(alloc: Global, orphan_values: &'a [&'a str]) -> Result<Command<'a>, AllocError>
+fn link_command<'a>(alloc: Global, orphan_values: &'a [&'a str]) -> Result<Command<'a>, NoMemory>
     ensures { IfOk result (IsApp (link_app orphan_values.entry)) }
 {
     let link = Command::new(alloc, "link")
         .about("Links objects once, from files to files")
-        .after_help(LINK_HELP)
-        .arg(script_arg(alloc))?
-        .arg(image_arg(alloc))?
-        .arg(map_arg(alloc))?;
-    add_options(alloc, link, orphan_values)?.arg(objects_arg(alloc))
+        .after_help(LINK_HELP);
+    let link = words::arg(link, script_arg(alloc))?;
+    let link = words::arg(link, image_arg(alloc))?;
+    let link = words::arg(link, map_arg(alloc))?;
+    let link = add_options(alloc, link, orphan_values)?;
+    words::arg(link, objects_arg(alloc))
 }
 
 /// `ldi`, which is given one of its two subcommands.
-pub(crate) fn ldi_command<'a>(alloc: Global) -> Result<Command<'a>, AllocError>
+pub(crate) fn ldi_command<'a>(alloc: Global) -> Result<Command<'a>, NoMemory>
     ensures { IfOk result (λ c. (choices : Choices) × ListsOrphans choices × IsApp (ldi choices) c) }
 {
     let orphan_values = ORPHANS.as_slice();
-    Command::new(alloc, "ldi")
+    let command = Command::new(alloc, "ldi")
         .about("A static linker for ELF-64 objects of x86-64 that links again after every edit")
         .version(VERSION)
         .subcommand_required(true)
-        .disable_help_subcommand(true)
-        .subcommand(session_command(alloc, orphan_values)?)?
-        .subcommand(link_command(alloc, orphan_values)?)
+        .disable_help_subcommand(true);
+    let command = words::subcommand(command, session_command(alloc, orphan_values)?)?;
+    words::subcommand(command, link_command(alloc, orphan_values)?)
 }

@@ -3,7 +3,7 @@
 ghost use Rattle.std.specs.Prelude.{◌≡◌, ◌⊎◌};
 
 use clap::error::ErrorKind;
-use std::alloc::AllocError;
+use growth::{NoMemory, words};
 
 /// The status after help or the version.
 const SHOWN: u8 = 0;
@@ -18,19 +18,19 @@ const NO_MEMORY: u8 = 4;
 #[derive(Debug, Drop)]
 pub enum WordsFault {
     /// Out of memory.
-    Memory,
+    Memory(NoMemory),
     /// `clap` refused the words, or they ask for help or the version. The error's text is for the user.
     Refused(clap::Error),
 }
 
-impl From<AllocError> for WordsFault {
+impl From<NoMemory> for WordsFault {
     ghost use Rattle.std.specs.Prelude.{◌≡◌};
     ghost use Rattle.ldi_words.specs.declared.fault.WordsFault.TheVariants.{Memory};
 
-    ghost from_gives = { λ _ fault. fault ≡ Memory };
+    ghost from_gives = { λ no_memory fault. fault ≡ Memory no_memory };
 
-    fn from(_error: AllocError) -> WordsFault {
-        WordsFault::Memory
+    fn from(no_memory: NoMemory) -> WordsFault {
+        WordsFault::Memory(no_memory)
     }
 }
 
@@ -40,10 +40,9 @@ impl From<clap::Error> for WordsFault {
     ghost from_gives = { IsFaultOf };
 
     fn from(error: clap::Error) -> WordsFault {
-        if error.kind() == ErrorKind::OutOfMemory {
-            WordsFault::Memory
-        } else {
-            WordsFault::Refused(error)
+        match words::of_words(&error) {
+            Some(no_memory) => WordsFault::Memory(no_memory),
+            None => WordsFault::Refused(error),
         }
     }
 }
@@ -56,7 +55,7 @@ impl WordsFault {
         ensures { result ≡ exit_status self.now }
     {
         match self {
-            WordsFault::Memory => NO_MEMORY,
+            WordsFault::Memory(_) => NO_MEMORY,
             WordsFault::Refused(error) => match error.kind() {
                 ErrorKind::DisplayHelp | ErrorKind::DisplayVersion => SHOWN,
                 _ => REFUSED,

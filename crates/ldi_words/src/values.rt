@@ -8,16 +8,17 @@ ghost use Rattle.ldi_words.specs.Call.{NamesOrphans, StatesCall, StatesFiles, St
 
 use crate::call::Call;
 use clap::ArgMatches;
+use growth::{NoMemory, string, vec};
 use ldmodel::options::{Options, Orphans};
-use std::alloc::{AllocError, Global};
+use std::alloc::Global;
 
 /// The value of `-e`, if it is given.
-fn entry_of(alloc: Global, matches: &ArgMatches<'_>) -> Result<Option<Vec<u8>>, AllocError>
+fn entry_of(alloc: Global, matches: &ArgMatches<'_>) -> Result<Option<Vec<u8>>, NoMemory>
     ensures { IfOk result (λ entry. option_map (λ v. v.items) entry
         ≡ first_value (found_of matches.now) (codes "entry")) }
 {
     match matches.get_str("entry") {
-        Some(symbol) => Ok(Some(symbol.as_bytes().to_vec(alloc)?)),
+        Some(symbol) => Ok(Some(vec::to_vec(symbol.as_bytes(), alloc)?)),
         None => Ok(None),
     }
 }
@@ -35,7 +36,7 @@ fn orphans_of(matches: &ArgMatches<'_>) -> Orphans
 }
 
 /// The options that both subcommands take.
-fn options_of(alloc: Global, matches: &ArgMatches<'_>) -> Result<Options, AllocError>
+fn options_of(alloc: Global, matches: &ArgMatches<'_>) -> Result<Options, NoMemory>
     requires { StatesOptions (rows_of (found_of matches.now)) }
     ensures { IfOk result (HasOptions (rows_of (found_of matches.now))) }
 {
@@ -45,38 +46,38 @@ fn options_of(alloc: Global, matches: &ArgMatches<'_>) -> Result<Options, AllocE
 }
 
 /// The value of an argument that has one.
-fn required_file(alloc: Global, matches: &ArgMatches<'_>, id: &str) -> Result<String, AllocError>
+fn required_file(alloc: Global, matches: &ArgMatches<'_>, id: &str) -> Result<String, NoMemory>
     requires { IsSome (first_value (found_of matches.now) id.now) }
     ensures { IfOk result (λ file. first_value (found_of matches.now) id.now
         ≡ Some (string_bytes file)) }
 {
-    String::from_str(alloc, matches.get_str(id).unwrap())
+    string::from_str(alloc, matches.get_str(id).unwrap())
 }
 
 /// The value of `--Map`, if it is given.
-fn map_file_of(alloc: Global, matches: &ArgMatches<'_>) -> Result<Option<String>, AllocError>
+fn map_file_of(alloc: Global, matches: &ArgMatches<'_>) -> Result<Option<String>, NoMemory>
     ensures { IfOk result (λ file. option_map string_bytes file
         ≡ first_value (found_of matches.now) (codes "map")) }
 {
     match matches.get_str("map") {
-        Some(name) => Ok(Some(String::from_str(alloc, name)?)),
+        Some(name) => Ok(Some(string::from_str(alloc, name)?)),
         None => Ok(None),
     }
 }
 
 /// Copies of names.
-fn copies(alloc: Global, names: &[&str]) -> Result<Vec<String>, AllocError>
+fn copies(alloc: Global, names: &[&str]) -> Result<Vec<String>, NoMemory>
     ensures { IfOk result (λ v. map string_bytes v.items ≡ texts names.now) }
 {
-    let mut copies = Vec::with_capacity(alloc, names.len())?;
+    let mut copies = vec::with_capacity(alloc, names.len())?;
     for name in names {
-        copies.push(String::from_str(alloc, name)?)?;
+        vec::push(&mut copies, string::from_str(alloc, name)?)?;
     }
     Ok(copies)
 }
 
 /// The names of the objects.
-fn objects_of(alloc: Global, matches: &ArgMatches<'_>) -> Result<Vec<String>, AllocError>
+fn objects_of(alloc: Global, matches: &ArgMatches<'_>) -> Result<Vec<String>, NoMemory>
     ensures { IfOk result (λ v. map string_bytes v.items
         ≡ unwrap_or (option_map raw_values (matched_of (found_of matches.now) (codes "objects"))) []) }
 {
@@ -87,7 +88,7 @@ fn objects_of(alloc: Global, matches: &ArgMatches<'_>) -> Result<Vec<String>, Al
 }
 
 /// The call of `ldi link`.
-fn link_of(alloc: Global, matches: &ArgMatches<'_>) -> Result<Call, AllocError>
+fn link_of(alloc: Global, matches: &ArgMatches<'_>) -> Result<Call, NoMemory>
     requires options { StatesOptions (rows_of (found_of matches.now)) }
     requires files { StatesFiles (rows_of (found_of matches.now)) }
     ensures { IfOk result (IsCallOf (Some (codes "link", rows_of (found_of matches.now)))) }
@@ -102,7 +103,7 @@ fn link_of(alloc: Global, matches: &ArgMatches<'_>) -> Result<Call, AllocError>
 }
 
 /// The call of `ldi session`.
-fn session_of(alloc: Global, matches: &ArgMatches<'_>) -> Result<Call, AllocError>
+fn session_of(alloc: Global, matches: &ArgMatches<'_>) -> Result<Call, NoMemory>
     requires options { StatesOptions (rows_of (found_of matches.now)) }
     requires deferred { IsFlag (one_of (codes "deferred") (rows_of (found_of matches.now))) }
     ensures { IfOk result (IsCallOf (Some (codes "session", rows_of (found_of matches.now)))) }
@@ -116,7 +117,7 @@ fn session_of(alloc: Global, matches: &ArgMatches<'_>) -> Result<Call, AllocErro
 }
 
 /// The call that the matches of `ldi` hold.
-pub(crate) fn call_of(alloc: Global, matches: &ArgMatches<'_>) -> Result<Call, AllocError>
+pub(crate) fn call_of(alloc: Global, matches: &ArgMatches<'_>) -> Result<Call, NoMemory>
     requires { StatesCall (subcommand_rows_of matches.now) }
     ensures { IfOk result (IsCallOf (subcommand_rows_of matches.now)) }
 {

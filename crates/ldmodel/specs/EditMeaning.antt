@@ -7,7 +7,7 @@ use Rattle.ldmodel.specs.declared.edit.Edit.{Edit}
 use Rattle.ldmodel.specs.declared.edit.Edit.TheVariants as edit
 use Rattle.ldmodel.specs.declared.edit.EditRefusal.{EditRefusal}
 use Rattle.ldmodel.specs.declared.edit.EditRefusal.TheVariants as refusal
-use Rattle.ldmodel.specs.declared.edit.Linked.{Linked}
+use Rattle.ldmodel.specs.declared.edit.LinkSummary.{LinkSummary}
 
 abbrev pub change_of : Edit → Change
 change_of (edit.Add name at bytes) = Add name.now at bytes.items
@@ -23,8 +23,8 @@ refusal_of refusal.PastEnd = model.PastEnd
 refusal_of (refusal.NotAnObject why) = model.NotAnObject why
 refusal_of (refusal.NotAScript why) = model.NotAScript why
 refusal_of refusal.Limit = model.Limit
-refusal_of refusal.NoMemory = model.NoMemory
+refusal_of (refusal.NoMemory _) = model.NoMemory
 
 -- what an accepted edit comes to: the status of the link of the next project, and the length of its image
-abbrev pub linked_of : Link → Linked
+abbrev pub linked_of : Link → LinkSummary
 linked_of l = record { status = l.status; length = length l.image }

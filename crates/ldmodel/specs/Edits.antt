@@ -17,6 +17,7 @@ use Rattle.ldscript.specs.declared.refusal.ScriptRefusal.TheVariants as reader
 use Rattle.ldscript.specs.statements.declared.statement.Statement.{Statement}
 use Rattle.ldmodel.specs.declared.edit.TheConstants.{MAX_OBJECTS, MAX_OBJECT_NAME, MAX_PAYLOAD}
 use Rattle.ldmodel.specs.Project.{Project, NamedObject}
+use Rattle.growth.specs.Memory.{no_memory}
 
 -- an edit, apart from where its bytes lie: an object is added before a place, from 0 to the number of objects; the
 -- object of a name becomes another, in its place; it goes to a place of the list without it; it is removed; the script
@@ -147,7 +148,7 @@ RefusesObject bytes refusal = (why : ObjectRefusal) × (object_refusal bytes ≡
 -- bytes that are no script; out of memory is no such refusal
 abbrev pub RefusesScript : List ℕ → Refusal → Type 0
 RefusesScript text refusal =
-    (why : ScriptRefusal) × (why ≢ reader.NoMemory) × IsRefusal text why × (refusal ≡ NotAScript why)
+    (why : ScriptRefusal) × (why ≢ reader.NoMemory no_memory) × IsRefusal text why × (refusal ≡ NotAScript why)
 
 -- what the readers refuse, where no early refusal applies
 abbrev pub Refuses : Project → Change → Refusal → Type 0

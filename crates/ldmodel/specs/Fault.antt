@@ -24,9 +24,9 @@ pub data Fault : Type 0 where
   -- an address, an end or `.` is 2^64 or more
   PastAddressSpace : (line : ℕ) → Fault
   -- an output section shares an address with an earlier one
-  AddressesMeet : (section earlier : List ℕ) → Fault
+  AddressesOverlap : (section earlier : List ℕ) → Fault
   -- the same of their load addresses
-  LoadAddressesMeet : (section earlier : List ℕ) → Fault
+  LoadAddressesOverlap : (section earlier : List ℕ) → Fault
   -- the image would have this length
   ImageTooLong : (length : ℕ) → Fault
   -- a relocation against a name that nothing defines

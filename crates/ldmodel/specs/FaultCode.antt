@@ -22,7 +22,7 @@ use Rattle.ldmodel.specs.declared.fault.Definer as code_definer
 use Rattle.ldmodel.specs.declared.fault.Definer.TheVariants as definer
 use Rattle.ldmodel.specs.declared.fault.Fault as code
 use Rattle.ldmodel.specs.declared.fault.Fault.TheVariants as variant
-use Rattle.ldmodel.specs.declared.fault.SiteKey.{SiteKey}
+use Rattle.ldmodel.specs.declared.fault.SiteRef.{SiteRef}
 use Rattle.ldmodel.specs.declared.sections.Part.{Part}
 use Rattle.ldmodel.specs.declared.sections.Part.TheVariants.{InTable, InCommon}
 
@@ -60,7 +60,7 @@ pub record SitePlace : Type 0 where
   pub section : SectionIndex
   pub entry : ℕ
 
-abbrev pub place_of : (number : ℕ → ℕ) → SiteKey → SitePlace
+abbrev pub place_of : (number : ℕ → ℕ) → SiteRef → SitePlace
 place_of number t = record { object = number t.object.0; section = t.section; entry = t.entry }
 
 abbrev pub relocation_at : Project → SitePlace → Option Relocation
@@ -116,10 +116,10 @@ fault_of project number (variant.MovedBack line) = fault.MovedBack line
 fault_of project number (variant.RegionFull x r) =
     fault.RegionFull (name_of_output project x.0) (name_of_region project r.0)
 fault_of project number (variant.PastAddressSpace line) = fault.PastAddressSpace line
-fault_of project number (variant.AddressesMeet x y) =
-    fault.AddressesMeet (name_of_output project x.0) (name_of_output project y.0)
-fault_of project number (variant.LoadAddressesMeet x y) =
-    fault.LoadAddressesMeet (name_of_output project x.0) (name_of_output project y.0)
+fault_of project number (variant.AddressesOverlap x y) =
+    fault.AddressesOverlap (name_of_output project x.0) (name_of_output project y.0)
+fault_of project number (variant.LoadAddressesOverlap x y) =
+    fault.LoadAddressesOverlap (name_of_output project x.0) (name_of_output project y.0)
 fault_of project number (variant.ImageTooLong length) = fault.ImageTooLong length
 fault_of project number (variant.UndefinedSymbol t) = undefined_at project (place_of number t)
 fault_of project number (variant.TargetNotInOutput t) = missing_at project (place_of number t)

@@ -15,7 +15,7 @@ pub mod Reach
 pub mod Live
 pub mod Sorting
 pub mod Rows
-pub mod HandedOver
+pub mod CodeValues
 pub mod Chain
 pub mod Each
 pub mod Arithmetic

@@ -47,7 +47,7 @@ max_image_length = 2 ^ 28
 abbrev pub of_length : ℕ → Layout → Result Layout (List Fault)
 of_length length layout = if nat_lt max_image_length length then Err (ImageTooLong length ∷ []) else Ok layout
 
--- a layout in which no output sections meet
+-- a layout in which no output sections overlap
 abbrev pub without_overlaps : Project → Layout → List Fault → Result Layout (List Fault)
 without_overlaps project layout [] = of_length (image_length project layout) layout
 without_overlaps project layout (first ∷ rest) = Err (first ∷ rest)
@@ -56,7 +56,7 @@ abbrev pub laid_out : Project → Result Layout Fault → Result Layout (List Fa
 laid_out project (Err fault) = Err (fault ∷ [])
 laid_out project (Ok layout) = without_overlaps project layout (overlaps layout.sections)
 
--- the layout, or its faults: the first of the placement; else the output sections that meet; else the length
+-- the layout, or its faults: the first of the placement; else the output sections that overlap; else the length
 unfoldable pub layout : Project → Result Layout (List Fault)
 layout project = laid_out project (placement project.script (rows project) (provided project))
 

@@ -5,6 +5,7 @@ ghost use Rattle.ldmodel.specs.EditMeaning.{refusal_of};
 ghost use Rattle.ldmodel.specs.Edits.{inner_number, edit_refusal_number};
 
 use elfobj::ObjectRefusal;
+use growth::NoMemory;
 use ldscript::ScriptRefusal;
 
 /// The greatest number of bytes that an object or a script may have: 2^26.
@@ -54,7 +55,7 @@ pub enum Edit<'a> {
 
 /// The answer to an accepted edit.
 #[derive(Clone, Copy, Debug, PartialEq, Eq)]
-pub struct Linked {
+pub struct LinkSummary {
     /// 0 for a good link, 1 for one with faults.
     pub status: u8,
     /// The length of the image in bytes.
@@ -77,7 +78,7 @@ pub enum EditRefusal {
     /// 6: the name, the bytes or the number of objects is outside the limits.
     Limit,
     /// 7: out of memory.
-    NoMemory,
+    NoMemory(NoMemory),
 }
 
 impl EditRefusal {
@@ -92,7 +93,7 @@ impl EditRefusal {
             EditRefusal::NotAnObject(_) => 4,
             EditRefusal::NotAScript(_) => 5,
             EditRefusal::Limit => 6,
-            EditRefusal::NoMemory => 7,
+            EditRefusal::NoMemory(_) => 7,
         }
     }
 

@@ -3,7 +3,7 @@
 
 use crate::names::{Entry, ObjectPlace};
 use crate::placed::{OutputIndex, RegionIndex};
-use crate::sections::SectionKey;
+use crate::sections::SectionRef;
 use elfobj::section::SectionIndex;
 
 /// A name that the script's expressions mention: its index among all mentions, in the order of the text.
@@ -25,7 +25,7 @@ pub enum Definer {
 
 /// A relocation: its object, section and entry.
 #[derive(Clone, Copy, Debug, PartialEq, Eq)]
-pub struct SiteKey {
+pub struct SiteRef {
     /// The object.
     pub object: ObjectPlace,
     /// The section that it relocates.
@@ -47,7 +47,7 @@ pub enum Fault {
     /// `F2 NAME`: nothing defines the entry symbol.
     UndefinedEntry,
     /// `F3 OBJECT SECTION`: no input statement takes this input section.
-    Orphan(SectionKey),
+    Orphan(SectionRef),
     /// `F4 LINE NAME`: an expression names a symbol or an output section that is not complete there.
     NotReady {
         /// The line of the statement.
@@ -78,14 +78,14 @@ pub enum Fault {
         line: u32,
     },
     /// `F9 SECTION EARLIER`: two output sections share an address.
-    AddressesMeet {
+    AddressesOverlap {
         /// The later one.
         section: OutputIndex,
         /// The first one that it overlaps.
         earlier: OutputIndex,
     },
     /// `F10 SECTION EARLIER`: two output sections share a load address.
-    LoadAddressesMeet {
+    LoadAddressesOverlap {
         /// The later one.
         section: OutputIndex,
         /// The first one that it overlaps.
@@ -97,15 +97,15 @@ pub enum Fault {
         length: u128,
     },
     /// `F12 OBJECT SECTION OFFSET NAME`: nothing defines the symbol of a relocation.
-    UndefinedSymbol(SiteKey),
+    UndefinedSymbol(SiteRef),
     /// `F13 OBJECT SECTION OFFSET INDEX`: the section of a relocation's symbol is not in the output.
-    TargetNotInOutput(SiteKey),
+    TargetNotInOutput(SiteRef),
     /// `F13 entry`: the section of the entry symbol is not in the output.
     EntryNotInOutput,
     /// `F14 OBJECT SECTION OFFSET TYPE VALUE`: the value of a relocation is out of the range of its kind.
     FieldOverflow {
         /// The relocation.
-        site: SiteKey,
+        site: SiteRef,
         /// The value of the relocation, modulo 2^64.
         value: u64,
     },

@@ -2,13 +2,12 @@
 //!
 //! - `edit`, `options`, `linker`: edits, their answers and limits; options; the trait of linkers;
 //! - `names`, `sections`, `rows`, `placed`, `segment`, `target`, `fault`, `script_symbol`: what layers exchange;
-//! - `given`: whether a directive assigns or provides; `impossible`: the error of a case that cannot occur.
+//! - `given`: whether a directive assigns or provides.
 #![tactic(auto)]
 
 pub mod edit;
 pub mod fault;
 pub mod given;
-pub mod impossible;
 pub mod linker;
 pub mod names;
 pub mod options;
@@ -19,4 +18,4 @@ pub mod sections;
 pub mod segment;
 pub mod target;
 
-pub use elfobj::{memory, meter};
+pub use elfobj::meter;

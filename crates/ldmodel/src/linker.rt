@@ -7,7 +7,7 @@ ghost use Rattle.ldmodel.specs.Edits.{Change, After, RefusedAs};
 ghost use Rattle.ldmodel.specs.Link.{link};
 ghost use Rattle.ldmodel.specs.Project.{Project};
 
-use crate::edit::{Edit, EditRefusal, Linked};
+use crate::edit::{Edit, EditRefusal, LinkSummary};
 use elfobj::Meter;
 
 /// A linker holds a project, changes it by edits, and has its link.
@@ -24,7 +24,7 @@ pub trait Linker {
     /// # Errors
     ///
     /// The refusal; nothing has changed then. `NoMemory` never replaces `InUse`, `Unknown`, `PastEnd` or `Limit`.
-    fn apply(&mut self, edit: Edit<'_>, meter: &mut Meter) -> Result<Linked, EditRefusal>
+    fn apply(&mut self, edit: Edit<'_>, meter: &mut Meter) -> Result<LinkSummary, EditRefusal>
         ensures accepted { IfOk result (λ l. After (project self.old) (change_of edit.entry) (Ok (project self.new))) }
         ensures linked { IfOk result (λ l. l ≡ linked_of (link (project self.new))) }
         ensures counted { OnOk result (bound (project self.old) (change_of edit.entry) (project self.new) meter.old

@@ -1,6 +1,6 @@
 //! Rows: the input sections of an output section, in their order.
 
-use crate::sections::SectionKey;
+use crate::sections::SectionRef;
 use elfobj::section::SectionKind;
 
 /// An input statement: its index among all of the script.
@@ -15,7 +15,7 @@ pub struct Piece {
     /// Its kind; `Nobits` for a common block. It is beside the other short field, since fields lie in this order.
     pub kind: SectionKind,
     /// The input section.
-    pub section: SectionKey,
+    pub section: SectionRef,
     /// `sh_flags`; `SHF_ALLOC` and `SHF_WRITE` for a common block.
     pub flags: u64,
     /// How many bytes it takes in memory, at most 2^31.

@@ -15,7 +15,7 @@ pub enum Part {
 
 /// An input section: an object, and which part of it.
 #[derive(Clone, Copy, Debug, PartialEq, Eq)]
-pub struct SectionKey {
+pub struct SectionRef {
     /// The object.
     pub object: ObjectPlace,
     /// The part of the object.

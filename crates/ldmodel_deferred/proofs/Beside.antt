@@ -65,7 +65,7 @@ same_edits old last (AskChanges ∷ cs) out (next {mid = mid} answer rest r more
 
 -- ---- queries right after a link
 
-still_settled : (old new : Holding) → IsSettled old → new ≡ record old { given = new.given } → IsSettled new
+still_settled : (old new : Holding) → IsSettled old → new ≡ record old { sent = new.sent } → IsSettled new
 still_settled old new settled same =
     ap (λ (h : Holding). h.link) same ∙ (settled ∙ ap (λ (h : Holding). link h.project) (sym same))
 
@@ -90,17 +90,17 @@ asked_when_settled old new Faults answer settled r = (
 -- ---- a link after each edit
 
 -- a query of the link of the project
-pub asked_settled : (p : Project) (query : Query) (answer given : List ℕ) → session.Reply p (Ask query) answer p
-    → (after : List ℕ) × QueryReply (settled p given) query answer (settled p after)
-asked_settled p Image answer given r = ((link p).image, (r.0, refl, inl refl))
-asked_settled p Map answer given r = (given, (r.0, refl))
-asked_settled p Faults answer given r = (given, (r.0, refl))
+pub asked_settled : (p : Project) (query : Query) (answer sent : List ℕ) → session.Reply p (Ask query) answer p
+    → (after : List ℕ) × QueryReply (settled p sent) query answer (settled p after)
+asked_settled p Image answer sent r = ((link p).image, (r.0, refl, inl refl))
+asked_settled p Map answer sent r = (sent, (r.0, refl))
+asked_settled p Faults answer sent r = (sent, (r.0, refl))
 
-asked_on : (p q : Project) (query : Query) (answer given : List ℕ) → session.Reply p (Ask query) answer q
-    → (after : List ℕ) × QueryReply (settled p given) query answer (settled q after)
-asked_on p q query answer given r =
-    subst (λ (x : Project). (after : List ℕ) × QueryReply (settled p given) query answer (settled x after)) (sym r.1)
-    (asked_settled p query answer given (r.0, refl))
+asked_on : (p q : Project) (query : Query) (answer sent : List ℕ) → session.Reply p (Ask query) answer q
+    → (after : List ℕ) × QueryReply (settled p sent) query answer (settled q after)
+asked_on p q query answer sent r =
+    subst (λ (x : Project). (after : List ℕ) × QueryReply (settled p sent) query answer (settled x after)) (sym r.1)
+    (asked_settled p query answer sent (r.0, refl))
 
 staged : (p q : Project) (change : Change) (answer : List ℕ) → EditReply p change answer q
     → (other : List ℕ) × StageReply p change other q
@@ -111,27 +111,27 @@ staged p q change answer (session.out_of_memory lacks) = (refused_line NoMemory,
 abbrev Follows : Holding → List Command → Project → Type 0
 Follows old cs last = (other after : List ℕ) × Replies old cs other (settled last after)
 
-pub same_with_links : (p last : Project) (cs : List commands.Command) (out given : List ℕ)
-    → session.Replies p cs out last → Follows (settled p given) (with_links cs) last
-same_with_links p last [] out given session.none = ([], given, none)
-same_with_links p last (Edit change ∷ cs) out given (session.next {mid = mid} answer rest r more) =
+pub same_with_links : (p last : Project) (cs : List commands.Command) (out sent : List ℕ)
+    → session.Replies p cs out last → Follows (settled p sent) (with_links cs) last
+same_with_links p last [] out sent session.none = ([], sent, none)
+same_with_links p last (Edit change ∷ cs) out sent (session.next {mid = mid} answer rest r more) =
     let first = staged p mid change answer r in
-    let later = same_with_links mid last cs rest given more in (
+    let later = same_with_links mid last cs rest sent more in (
       first.0 ++ (linked_line (link mid) ++ later.0),
       later.1,
-      next {mid = holding mid (link p) given} first.0 _ (first.1, refl)
-          (next {mid = settled mid given} (linked_line (link mid)) later.0 linked later.2),
+      next {mid = holding mid (link p) sent} first.0 _ (first.1, refl)
+          (next {mid = settled mid sent} (linked_line (link mid)) later.0 linked later.2),
     )
-same_with_links p last (Ask query ∷ cs) out given (session.next {mid = mid} answer rest r more) =
-    let first = asked_on p mid query answer given r in
+same_with_links p last (Ask query ∷ cs) out sent (session.next {mid = mid} answer rest r more) =
+    let first = asked_on p mid query answer sent r in
     let later = same_with_links mid last cs rest first.0 more in
     (answer ++ later.0, later.1, next answer later.0 first.1 later.2)
 
 -- ---- what has changed
 
-pub all_is_new : (given image : List ℕ) (ranges : List ByteRange) → AreChanges [] image ranges
-    → AreChanges given image ranges
-all_is_new given image ranges all = record {
+pub all_is_new : (sent image : List ℕ) (ranges : List ByteRange) → AreChanges [] image ranges
+    → AreChanges sent image ranges
+all_is_new sent image ranges all = record {
   within = all.within;
   same = λ at inside outside.
       let empty : None ≡ slice_get image at = all.same at inside outside in

@@ -18,10 +18,10 @@ use Rattle.ldmodel_deferred.specs.declared.changes.ByteRange.{ByteRange}
 pub record Holding : Type 0 where
   pub project : Project
   pub link : Link
-  pub given : List ℕ
+  pub sent : List ℕ
 
 abbrev pub holding : Project → Link → List ℕ → Holding
-holding project link given = record { project = project; link = link; given = given }
+holding project link sent = record { project = project; link = link; sent = sent }
 
 -- at first: the link of the project without objects
 abbrev pub at_first : LinkOptions → Holding
@@ -39,14 +39,14 @@ pub data StageReply (project : Project) (change : Change) : List ℕ → Project
   out_of_memory : MayLackMemory project change → StageReply project change (refused_line NoMemory) project
 
 -- the image was answered; it is remembered, unless there is no memory for it
-abbrev pub Remembers : (given image : List ℕ) → Type 0
-Remembers given image = (given ≡ image) ⊎ (given ≡ [])
+abbrev pub Remembers : (sent image : List ℕ) → Type 0
+Remembers sent image = (sent ≡ image) ⊎ (sent ≡ [])
 
 -- a query is of the last link
 abbrev pub QueryReply : Holding → Query → List ℕ → Holding → Type 0
 QueryReply old Image answer new =
-    (answer ≡ bytes_answer old.link.image) × (new ≡ record old { given = new.given })
-    × Remembers new.given old.link.image
+    (answer ≡ bytes_answer old.link.image) × (new ≡ record old { sent = new.sent })
+    × Remembers new.sent old.link.image
 QueryReply old Map answer new = (answer ≡ bytes_answer old.link.map) × (new ≡ old)
 QueryReply old Faults answer new = (answer ≡ bytes_answer old.link.faults) × (new ≡ old)
 
@@ -63,10 +63,10 @@ pub data LinkReply (old : Holding) : List ℕ → Holding → Type 0 where
 -- `changes` gives the image of the last link where it differs from the one that was answered last
 pub record ChangesReply (old : Holding) (answer : List ℕ) (new : Holding) : Type 0 where
   pub ranges : List ByteRange
-  pub changes : AreChanges old.given old.link.image ranges
+  pub changes : AreChanges old.sent old.link.image ranges
   pub answers : answer ≡ changes_answer old.link.image ranges
-  pub same : new ≡ record old { given = new.given }
-  pub remembers : Remembers new.given old.link.image
+  pub same : new ≡ record old { sent = new.sent }
+  pub remembers : Remembers new.sent old.link.image
 
 abbrev pub Reply : Holding → Command → List ℕ → Holding → Type 0
 Reply old (Basic command) answer new = BasicReply old command answer new
@@ -122,4 +122,4 @@ with_links (command ∷ rest) = linked_after command (with_links rest)
 
 -- what is held where a session without the option holds a project, and these bytes were answered last
 abbrev pub settled : Project → List ℕ → Holding
-settled project given = holding project (link project) given
+settled project sent = holding project (link project) sent

@@ -14,10 +14,10 @@ abbrev pub IsOutside : ℕ → List ByteRange → Type 0
 IsOutside at [] = Unit {0}
 IsOutside at (range ∷ rest) = ((at < range.offset) ⊎ (range.offset + range.count ≤ at)) × IsOutside at rest
 
--- outside the ranges the image has the byte that `given` has there
-pub record AreChanges (given image : List ℕ) (ranges : List ByteRange) : Type 0 where
+-- outside the ranges the image has the byte that `sent` has there
+pub record AreChanges (sent image : List ℕ) (ranges : List ByteRange) : Type 0 where
   pub within : AreWithin (length image) ranges
-  pub same : (at : ℕ) → at < length image → IsOutside at ranges → slice_get given at ≡ slice_get image at
+  pub same : (at : ℕ) → at < length image → IsOutside at ranges → slice_get sent at ≡ slice_get image at
 
 -- `OFFSET COUNT`
 abbrev pub range_line : ByteRange → List ℕ

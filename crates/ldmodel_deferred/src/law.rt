@@ -43,16 +43,16 @@ pub fn asked_when_settled()
 /// What a stream without the option leads to, a deferred one leads to with `link` after each edit, and there is then
 /// the same link: each query has the same answer.
 pub fn same_with_links()
-    ensures replies { (project last : Project) (commands : List session_commands.Command) (out given : List ℕ)
+    ensures replies { (project last : Project) (commands : List session_commands.Command) (out sent : List ℕ)
         → session.Replies project commands out last
-        → (other after : List ℕ) × Replies (settled project given) (with_links commands) other (settled last after) }
-    ensures queries { (project : Project) (query : Query) (answer given : List ℕ)
+        → (other after : List ℕ) × Replies (settled project sent) (with_links commands) other (settled last after) }
+    ensures queries { (project : Project) (query : Query) (answer sent : List ℕ)
         → session.Reply project (Ask query) answer project
-        → (after : List ℕ) × QueryReply (settled project given) query answer (settled project after) }
+        → (after : List ℕ) × QueryReply (settled project sent) query answer (settled project after) }
 {}
 
 /// What has changed since no byte was answered has changed since any other image.
 pub fn all_is_new()
-    ensures { (given image : List ℕ) (ranges : List ByteRange) → AreChanges [] image ranges
-        → AreChanges given image ranges }
+    ensures { (sent image : List ℕ) (ranges : List ByteRange) → AreChanges [] image ranges
+        → AreChanges sent image ranges }
 {}

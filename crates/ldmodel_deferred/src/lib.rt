@@ -1,5 +1,5 @@
-//! The definition of a deferred session (`specs`): edits are accepted or refused without a link, `link` links the project
-//! of that moment, and `changes` answers what has changed in the image.
+//! The definition of a deferred session (`specs`): edits are accepted or refused without a link, `link` links the
+//! project of that moment, and `changes` answers what has changed in the image.
 //!
 //! - `linker`: the trait of linkers that link when they are asked;
 //! - `changes`: ranges of an image;

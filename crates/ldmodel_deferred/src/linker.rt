@@ -7,8 +7,8 @@ ghost use Rattle.ldmodel.specs.Link.{Link, link};
 ghost use Rattle.ldmodel.specs.Project.{Project};
 
 use elfobj::Meter;
-use ldmodel::edit::{Edit, EditRefusal, Linked};
-use ldmodel::memory::NoMemory;
+use growth::NoMemory;
+use ldmodel::edit::{Edit, EditRefusal, LinkSummary};
 
 /// A linker that holds a project, changes it by edits, and links it when it is asked. The queries are of its last link.
 pub trait DeferredLinker {
@@ -34,7 +34,7 @@ pub trait DeferredLinker {
     /// # Errors
     ///
     /// If memory runs out; the last link stays.
-    fn make_link(&mut self, meter: &mut Meter) -> Result<Linked, NoMemory>
+    fn make_link(&mut self, meter: &mut Meter) -> Result<LinkSummary, NoMemory>
         ensures linked { IfOk result (λ l. l ≡ linked_of (link (project self.old))) }
         ensures last { OnOk result (last self.new ≡ link (project self.old)) }
         ensures unlinked { OnErr result (last self.new ≡ last self.old) }

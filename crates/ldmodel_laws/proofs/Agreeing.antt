@@ -1,14 +1,9 @@
 -- Values in scopes that agree.
-use Rattle.std.proofs.Common.{◌≡◌, ℕ, ◌∙◌, sym, ap, Bool, true, false, cond, List, Option, Some, None, Result, Ok, Err}
-use Rattle.std.proofs.Common.{refl}
-use Rattle.std.proofs.Common.{subst}
-use Rattle.std.specs.Option.{option_map}
+use Rattle.ldmodel_laws.proofs.Common.{Bool, DoAgree, Err, Expr, List, None, Ok, Option, Result, Some, and_then, ap}
+use Rattle.ldmodel_laws.proofs.Common.{cond, false, option_map, refl, subst, sym, true, value, ℕ, ◌∙◌, ◌≡◌}
 use Rattle.ldscript.specs.terms.Expressions as expression
-use Rattle.ldscript.specs.terms.Expressions.{Expr}
-use Rattle.ldmodel.specs.Chain.{and_then}
-use Rattle.ldmodel.specs.Value.{Scope, ValueFault, value, named, is_true, unary_value, binary_value}
-use Rattle.ldmodel.specs.Value.{decides_alone, aligned, asked_of_region, asked_of_section}
-use Rattle.ldmodel_laws.specs.Bounds.{DoAgree}
+use Rattle.ldmodel.specs.Value.{Scope, ValueFault, named, is_true, unary_value, binary_value, decides_alone, aligned}
+use Rattle.ldmodel.specs.Value.{asked_of_region, asked_of_section}
 
 -- where both are numbers, they are the same
 abbrev Same : Result ℕ ValueFault → Result ℕ ValueFault → Type 0

@@ -1,50 +1,23 @@
 -- Statements lead to layouts that differ in symbols alone from layouts that do.
-use Rattle.std.proofs.Common.{◌≡◌, ℕ, ◌+◌, ◌==◌, nat_lt, List, [], ◌∷◌, ◌++◌, Bool, true, false, cond, Option, Some}
-use Rattle.std.proofs.Common.{None}
-use Rattle.std.proofs.Common.{Result, Ok, Err, refl, sym, ap, subst, ◌∙◌, bytes_eq}
-use Rattle.std.proofs.lemmas.List.{append-nil}
-use Rattle.std.specs.List.{list_any}
-use Rattle.std.specs.Option.{option_map, option_or}
-use Rattle.std.specs.Prelude.{find}
-use Rattle.std.proofs.lemmas.Bool.{or_parts}
+use Rattle.ldmodel_laws.proofs.Common.{Advance, Align, BodyCommand, BodyStatement, Bool, Directive, DoAgree, DotCommand}
+use Rattle.ldmodel_laws.proofs.Common.{DotForm, Err, Expr, Fault, Layout, List, MovedBack, None, Offset, Ok, Option}
+use Rattle.ldmodel_laws.proofs.Common.{Piece, Result, ScriptSymbol, Some, Width, [], address, and_then, ap, append-nil}
+use Rattle.ldmodel_laws.proofs.Common.{byte_count, bytes_eq, bytes_eq-Decides, cond, directives_of, dot_form, false}
+use Rattle.ldmodel_laws.proofs.Common.{find, list_any, little_bytes, nat_lt, noted, number, option_map, option_or}
+use Rattle.ldmodel_laws.proofs.Common.{or_parts, refl, scope_of, subst, sym, symbol_named, true, value, value_at}
+use Rattle.ldmodel_laws.proofs.Common.{with_symbol, ℕ, ◌++◌, ◌+◌, ◌==◌, ◌∙◌, ◌∷◌, ◌≡◌}
 use Rattle.std.proofs.lemmas.List.Folds.{find-append}
-use Rattle.std.proofs.lemmas.Slice.Eq.{bytes_eq-Decides}
-use Rattle.byteorder.specs.Endian.{little_bytes}
-use Rattle.ldscript.specs.terms.DotForms.{DotForm, Advance, Align, Offset, dot_form}
 use Rattle.ldscript.specs.terms.Expressions as expression
-use Rattle.ldscript.specs.terms.Expressions.{Expr}
-use Rattle.ldscript.specs.statements.Numbering.{directives_of}
-use Rattle.ldscript.specs.statements.Widths.{byte_count}
-use Rattle.ldscript.specs.statements.declared.directive.Directive.{Directive}
 use Rattle.ldscript.specs.statements.declared.directive.Directive.TheVariants as directive
 use Rattle.ldscript.specs.statements.declared.directive.Assignment.{Assignment}
-use Rattle.ldscript.specs.statements.declared.directive.DotCommand.{DotCommand}
 use Rattle.ldscript.specs.statements.declared.directive.DotCommand.TheVariants.{Set, Add}
-use Rattle.ldscript.specs.statements.declared.section.BodyCommand.{BodyCommand}
 use Rattle.ldscript.specs.statements.declared.section.BodyCommand.TheVariants as body
-use Rattle.ldscript.specs.statements.declared.section.BodyStatement.{BodyStatement}
-use Rattle.ldscript.specs.statements.declared.section.Width.{Width}
-use Rattle.ldmodel.specs.Placement.{
-  assigned,
-  directive_step,
-  Body,
-  piece_placed,
-  piece_start,
-  pieces_placed,
-  input_step,
-}
-use Rattle.ldmodel.specs.Placement.{with_dot, with_data, data_step, moved_on, advanced, set_to, dot_step}
+use Rattle.ldmodel.specs.Placement.{assigned, directive_step, Body, piece_placed, piece_start, pieces_placed}
+use Rattle.ldmodel.specs.Placement.{input_step, with_dot, with_data, data_step, moved_on, advanced, set_to, dot_step}
 use Rattle.ldmodel.specs.Placement.{body_command_step, body_step}
-use Rattle.ldmodel.specs.Chain.{and_then}
-use Rattle.ldmodel.specs.Fault.{Fault, MovedBack}
-use Rattle.ldmodel.specs.Layout.{Layout, ScriptSymbol, address, noted, number, scope_of, symbol_named}
-use Rattle.ldmodel.specs.Layout.{value_at, with_symbol}
-use Rattle.ldmodel.specs.Rows.{Piece}
-use Rattle.ldmodel.specs.Value.{ValueFault, value}
+use Rattle.ldmodel.specs.Value.{ValueFault}
 use Rattle.ldmodel_laws.specs.Alike.{AreAlike, AreBodiesAlike, AreNew, AreSymbolsAlike, given_names, names_given}
-use Rattle.ldmodel_laws.specs.Alike.{value_in}
-use Rattle.ldmodel_laws.specs.Alike.{with_symbols}
-use Rattle.ldmodel_laws.specs.Bounds.{DoAgree}
+use Rattle.ldmodel_laws.specs.Alike.{value_in, with_symbols}
 use Rattle.ldmodel_laws.proofs.Agreeing.{values_agree}
 use Rattle.ldmodel_laws.proofs.Effects.{came}
 

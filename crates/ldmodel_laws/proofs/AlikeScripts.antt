@@ -1,25 +1,14 @@
 -- The layouts of a script in which other PROVIDEs are in force differ in symbols alone, as far as the rows are the
 -- same.
-use Rattle.std.proofs.Common.{◌≡◌, ◌≢◌, ℕ, ◌≤◌, List, [], ◌∷◌, ◌++◌, length, false}
-use Rattle.std.proofs.Common.{Ok, refl, sym, ap, subst, ◌∙◌, append_assoc, arith, bytes_eq}
-use Rattle.std.proofs.lemmas.List.{append-nil}
-use Rattle.ldscript.specs.Script.{IsSound}
-use Rattle.ldscript.specs.statements.Numbering.{DirectiveAt, all_directives, item_directives}
-use Rattle.ldscript.specs.statements.Numbering.{items_directives}
-use Rattle.ldscript.specs.statements.Numbering.{top_directives}
+use Rattle.ldmodel_laws.proofs.Common.{DirectiveAt, EachLater, IsSound, Item, Layout, List, Ok, Piece, Region}
+use Rattle.ldmodel_laws.proofs.Common.{Statement, [], all_directives, and_then, ap, append-nil, append_assoc, arith}
+use Rattle.ldmodel_laws.proofs.Common.{bytes_eq, false, item_directives, items_directives, length, nothing_placed}
+use Rattle.ldmodel_laws.proofs.Common.{number, refl, run, subst, sym, top_directives, ℕ, ◌++◌, ◌∙◌, ◌∷◌, ◌≡◌, ◌≢◌, ◌≤◌}
 use Rattle.ldscript.specs.statements.declared.statement.Command.{Command}
 use Rattle.ldscript.specs.statements.declared.statement.Command.TheVariants as top
-use Rattle.ldscript.specs.statements.declared.statement.Item.{Item}
-use Rattle.ldscript.specs.statements.declared.statement.Region.{Region}
-use Rattle.ldscript.specs.statements.declared.statement.Statement.{Statement}
-use Rattle.ldmodel.specs.Placement.{directive_step}
-use Rattle.ldmodel.specs.Chain.{and_then, run}
-use Rattle.ldmodel.specs.Layout.{Layout, nothing_placed, number}
-use Rattle.ldmodel.specs.Placement.{command_step, item_step, region_step, statement_step, with_region}
-use Rattle.ldmodel.specs.Rows.{Piece}
+use Rattle.ldmodel.specs.Placement.{directive_step, command_step, item_step, region_step, statement_step, with_region}
 use Rattle.ldmodel_laws.specs.Alike.{AreAlike, AreNew, AreSameBefore, AreSymbolsAlike, IsPartedAt, LeadTo, given_names}
 use Rattle.ldmodel_laws.specs.Alike.{names_given}
-use Rattle.ldmodel_laws.specs.Spread.{EachLater}
 use Rattle.ldmodel_laws.proofs.Alike.{Both, IsSame, both_ok, both_then, directive_both, having, number_both}
 use Rattle.ldmodel_laws.proofs.AlikeSections.{item_fewer, items_alike}
 use Rattle.ldmodel_laws.proofs.Effects.{came, directive_named, kept_same, named_kept, region_kept, run_by}

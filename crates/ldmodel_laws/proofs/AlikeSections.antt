@@ -1,29 +1,18 @@
 -- Output sections, and statements of SECTIONS, lead to layouts that differ in symbols alone from layouts that do.
-use Rattle.std.proofs.Common.{◌≡◌, ℕ, ◌+◌, ◌≤◌, List, [], ◌∷◌, ◌++◌, length, Option, Some, None}
-use Rattle.std.proofs.Common.{Result, Ok, Err, refl, sym, ap, subst, ◌∙◌, arith, length-append}
-use Rattle.std.proofs.lemmas.List.{append-nil}
-use Rattle.std.specs.Prelude.{slice_index_or}
-use Rattle.ldscript.specs.terms.Expressions.{Expr}
-use Rattle.ldscript.specs.statements.Numbering.{directives_in, directives_of, item_directives}
-use Rattle.ldscript.specs.statements.declared.directive.DotCommand.{DotCommand}
+use Rattle.ldmodel_laws.proofs.Common.{BodyStatement, DotCommand, Err, Expr, Fault, Item, ItemCommand, Layout, List}
+use Rattle.ldmodel_laws.proofs.Common.{None, Ok, Option, OutputSection, Piece, PieceTo, PlacedOutput, Result}
+use Rattle.ldmodel_laws.proofs.Common.{ScriptSymbol, Some, [], address, and_then, ap, append-nil, arith, directives_in}
+use Rattle.ldmodel_laws.proofs.Common.{directives_of, item_directives, length, length-append, noted, number, refl, run}
+use Rattle.ldmodel_laws.proofs.Common.{slice_index_or, subst, sym, ℕ, ◌++◌, ◌+◌, ◌∙◌, ◌∷◌, ◌≡◌, ◌≤◌}
 use Rattle.ldscript.specs.statements.declared.directive.DotCommand.TheVariants.{Set, Add}
-use Rattle.ldscript.specs.statements.declared.section.BodyStatement.{BodyStatement}
 use Rattle.ldscript.specs.statements.declared.section.Load.{Load}
 use Rattle.ldscript.specs.statements.declared.section.Load.TheVariants.{Unstated, At, InRegion}
-use Rattle.ldscript.specs.statements.declared.section.OutputSection.{OutputSection}
-use Rattle.ldscript.specs.statements.declared.statement.Item.{Item}
-use Rattle.ldscript.specs.statements.declared.statement.ItemCommand.{ItemCommand}
 use Rattle.ldscript.specs.statements.declared.statement.ItemCommand.TheVariants as item
 use Rattle.ldmodel.specs.Arithmetic.{plus_modulo}
-use Rattle.ldmodel.specs.Placement.{directive_step, Body, body_step}
-use Rattle.ldmodel.specs.Chain.{and_then, run}
-use Rattle.ldmodel.specs.Fault.{Fault}
-use Rattle.ldmodel.specs.Layout.{Layout, PlacedOutput, ScriptSymbol, address, noted, number}
-use Rattle.ldmodel.specs.Placement.{free_dot_step, item_command_step, item_step, next_row, opened, section_step}
-use Rattle.ldmodel.specs.Rows.{Piece}
-use Rattle.ldmodel.specs.Placement.{find_region, load_region, placed_section, section_end, with_room, with_section}
-use Rattle.ldmodel.specs.Placement.{Given, Head, given, given_alignment, given_load, head_of, load_address}
-use Rattle.ldmodel.specs.Placement.{number_if_given, section_start, widest}
+use Rattle.ldmodel.specs.Placement.{directive_step, Body, body_step, free_dot_step, item_command_step, item_step}
+use Rattle.ldmodel.specs.Placement.{next_row, opened, section_step, find_region, load_region, placed_section}
+use Rattle.ldmodel.specs.Placement.{section_end, with_room, with_section, Given, Head, given, given_alignment}
+use Rattle.ldmodel.specs.Placement.{given_load, head_of, load_address, number_if_given, section_start, widest}
 use Rattle.ldmodel_laws.specs.Alike.{AreAlike, AreBodiesAlike, AreSameBefore, AreSymbolsAlike, given_names, names_given}
 use Rattle.ldmodel_laws.proofs.Alike.{
   Both,
@@ -36,7 +25,6 @@ use Rattle.ldmodel_laws.proofs.Alike.{
   number_both,
 }
 use Rattle.ldmodel_laws.proofs.Alike.{same_both}
-use Rattle.ldmodel_laws.specs.Placed.{PieceTo}
 use Rattle.ldmodel_laws.proofs.Effects.{came, directive_named, free_dot_kept, named_kept, run_by, Quiet, added, onward}
 use Rattle.ldmodel_laws.proofs.Effects.{renamed, still, command_by, section_placed}
 use Rattle.ldmodel_laws.proofs.Mentioned.{names_on}

@@ -1,26 +1,17 @@
 -- Fields of an input section share no byte and lie in it.
-use Rattle.std.proofs.Common.{◌≡◌, ℕ, ◌<◌, ◌≤◌, Bool, true, false, cond, min, max, nat_lt, List, [], ◌∷◌}
-use Rattle.std.proofs.Common.{length, map, filter, Option, Some, None, Ok, Err, refl, ap, ◌∙◌, subst, arith, All}
-use Rattle.std.specs.List.{filter_map, cons_option}
-use Rattle.byteorder.specs.Endian.{little_bytes}
+use Rattle.ldmodel_laws.proofs.Common.{All, Bool, Each, EachLater, Err, IsWithin, Layout, LinkedSection, List}
+use Rattle.ldmodel_laws.proofs.Common.{NamedObject, None, NotDefined, NotInOutput, Number, Ok, Option, Patch, Project}
+use Rattle.ldmodel_laws.proofs.Common.{Relocation, Site, Some, SymbolValue, [], ap, arith, cond, cons_option, false}
+use Rattle.ldmodel_laws.proofs.Common.{field_of, fields_of, filter, filter_map, is_evaluated, length, little_bytes, map}
+use Rattle.ldmodel_laws.proofs.Common.{max, min, nat_lt, patch_end, patch_of, refl, site_field, site_field_with}
+use Rattle.ldmodel_laws.proofs.Common.{site_value, subst, true, width, ℕ, ◌<◌, ◌∙◌, ◌∷◌, ◌≡◌, ◌≤◌}
 use Rattle.elfobj.specs.Profile as object
-use Rattle.elfobj.specs.RelocationKinds.{width}
 use Rattle.elfobj.specs.Relocations.{meets, field_end}
-use Rattle.elfobj.specs.Sections.{LinkedSection}
-use Rattle.elfobj.specs.declared.relocation.Relocation.{Relocation}
 use Rattle.elfobj.specs.declared.relocation.RelocationKind.{RelocationKind}
 use Rattle.elfobj.specs.declared.relocation.RelocationKind.TheVariants as kind
-use Rattle.emit_fields.specs.Fields.{field_of, fits, relocation_value}
+use Rattle.emit_fields.specs.Fields.{fits, relocation_value}
 use Rattle.emit_fields.specs.Patches as patches
-use Rattle.emit_fields.specs.Patches.{patch_end, IsWithin}
-use Rattle.emit_fields.specs.declared.patch.Patch.{Patch}
-use Rattle.ldmodel.specs.Each.{Each}
-use Rattle.ldmodel.specs.Layout.{Layout}
-use Rattle.ldmodel.specs.Project.{NamedObject, Project}
-use Rattle.ldmodel.specs.Relocations.{Site, is_evaluated, site_value, site_place, site_field, site_field_with}
-use Rattle.ldmodel.specs.Relocations.{field_or_overflow, patch_of, fields_of}
-use Rattle.ldmodel.specs.SymbolValues.{SymbolValue, Number, NotDefined, NotInOutput}
-use Rattle.ldmodel_laws.specs.Spread.{EachLater}
+use Rattle.ldmodel.specs.Relocations.{site_place, field_or_overflow}
 use Rattle.ldmodel_laws.proofs.EachOf.{each_of_all, all_of_each, later_of_pairs, pairs_of_later}
 
 -- where a field stands

@@ -1,22 +1,14 @@
 -- The byte of the image by cases that stand in one another is that of the first case of `Image`.
-use Rattle.std.proofs.Common.{◌≡◌, ℕ, ◌+◌, ◌-◌, Bool, true, false, cond, List, [], ◌∷◌, length, find, slice_index}
-use Rattle.std.proofs.Common.{Option, Some, None, refl}
-use Rattle.std.specs.Prelude.{nat_lt}
-use Rattle.std.specs.Option.{option_and_then, option_map, option_map_or}
-use Rattle.elfobj.specs.Sections.{LinkedSection}
-use Rattle.elfobj.specs.declared.section.SectionIndex.{SectionIndex}
-use Rattle.emit_fields.specs.Patches.{patch_covers, patched_byte}
-use Rattle.emit_fields.specs.declared.patch.Patch.{Patch}
-use Rattle.ldmodel.specs.Image.{byte_at, covering_data, covering_piece, data_byte, field_byte, file_headers}
-use Rattle.ldmodel.specs.Image.{file_section_at, first_of, gap_byte, linked_part, object_named, own_byte}
-use Rattle.ldmodel.specs.Image.{piece_field_byte, placed_byte, section_case, section_numbered, tail_at, tail_case}
-use Rattle.ldmodel.specs.Layout.{Layout, PlacedData, PlacedPiece, PlacedOutput}
-use Rattle.ldmodel.specs.Project.{NamedObject, Project}
-use Rattle.ldmodel.specs.Relocations.{fields_of}
+use Rattle.ldmodel_laws.proofs.Common.{Bool, InCommon, InTable, Layout, LinkedSection, List, NamedObject, None, Option}
+use Rattle.ldmodel_laws.proofs.Common.{Part, Patch, PlacedData, PlacedOutput, PlacedPiece, Project, SectionIndex, Some}
+use Rattle.ldmodel_laws.proofs.Common.{[], byte_at, cond, covering_data, covering_piece, false, fields_of, file_headers}
+use Rattle.ldmodel_laws.proofs.Common.{file_section_at, find, length, nat_lt, object_named, option_and_then, option_map}
+use Rattle.ldmodel_laws.proofs.Common.{option_map_or, patch_covers, patched_byte, refl, section_numbered, slice_index}
+use Rattle.ldmodel_laws.proofs.Common.{tail_at, true, ℕ, ◌+◌, ◌-◌, ◌∷◌, ◌≡◌}
+use Rattle.ldmodel.specs.Image.{data_byte, field_byte, first_of, gap_byte, linked_part, own_byte, piece_field_byte}
+use Rattle.ldmodel.specs.Image.{placed_byte, section_case, tail_case}
 use Rattle.ldmodel.specs.SectionHeaders.{FilePart}
 use Rattle.ldmodel.specs.Segments.{SectionInFile}
-use Rattle.ldmodel.specs.declared.sections.Part.{Part}
-use Rattle.ldmodel.specs.declared.sections.Part.TheVariants.{InTable, InCommon}
 use Rattle.ldmodel_laws.specs.ByteCases.{byte_among, byte_past_headers, object_byte, output_byte, part_byte}
 use Rattle.ldmodel_laws.specs.ByteCases.{section_byte}
 

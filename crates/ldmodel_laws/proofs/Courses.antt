@@ -1,11 +1,10 @@
 -- Edits one after the other lead to one project or to one first refusal.
-use Rattle.std.proofs.Common.{◌≡◌, ◌≢◌, ℕ, suc, List, [], ◌∷◌, Result, Ok, Err, refl, sym, ap, ◌∙◌, subst}
-use Rattle.ldmodel.specs.Edits.{After, AreNamesDistinct, Change, Refusal}
-use Rattle.ldmodel.specs.Link.{link}
+use Rattle.ldmodel_laws.proofs.Common.{AreNamesDistinct, Change, Err, List, Ok, Project, Result, [], ap, empty_project}
+use Rattle.ldmodel_laws.proofs.Common.{link, refl, subst, suc, sym, ℕ, ◌∙◌, ◌∷◌, ◌≡◌, ◌≢◌}
+use Rattle.ldmodel.specs.Edits.{After, Refusal}
 use Rattle.ldmodel.specs.LinkCommand.{Course, ended, refused, accepted, LinkAnswer, Linked, RefusedAt, NoMemory}
 use Rattle.ldmodel.specs.LinkCommand.{LinkAnswers, ObjectFile, RefusedEdit, link_edits}
 use Rattle.ldmodel.specs.Options.{LinkOptions}
-use Rattle.ldmodel.specs.Project.{Project, empty_project}
 
 abbrev OneOutcome : Type 0
 OneOutcome = (p : Project) (c : Change) (x y : Result Project Refusal) → After p c x → After p c y → x ≡ y

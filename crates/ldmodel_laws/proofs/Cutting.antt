@@ -1,12 +1,12 @@
 -- No spelling of a command begins another, so no stream is cut into commands in two ways.
-use Rattle.std.proofs.Common.{◌≡◌, ◌≢◌, ℕ, zero, suc, ◌+◌, ◌%◌, ◌^◌, Bool, true, false, not, ◌&&◌, ◌==◌, ◌<◌, List, []}
-use Rattle.std.proofs.Common.{◌∷◌, ◌++◌, length, codes, decimal, flat_map, refl, sym, ap, arith, ◌∙◌, append_assoc}
+use Rattle.ldmodel_laws.proofs.Common.{Bool, Change, List, [], and_parts, ap, append_assoc, arith, codes, decimal}
+use Rattle.ldmodel_laws.proofs.Common.{eq-eqb, false, false≢true, flat_map, length, not, refl, suc, sym, true, zero, ℕ}
+use Rattle.ldmodel_laws.proofs.Common.{◌%◌, ◌&&◌, ◌++◌, ◌+◌, ◌<◌, ◌==◌, ◌^◌, ◌∙◌, ◌∷◌, ◌≡◌, ◌≢◌}
 use Rattle.std.proofs.lemmas.Fmt.{decimal_by_steps, decimal_injective}
-use Rattle.std.proofs.lemmas.Bool.{false≢true, eq-eqb, and_parts}
 use Rattle.ldmodel.specs.Commands.{Query, Image, Map, Faults, Command, Edit, Ask, edit_line, query_line, line}
 use Rattle.ldmodel.specs.Commands.{edit_payload, payload, spelling, HasNo, IsWord, IsPayload, HasWords, IsCommand}
 use Rattle.ldmodel.specs.Commands.{AreCommands, BeginsCommand}
-use Rattle.ldmodel.specs.Edits.{Change, Add, Replace, Move, Remove, SetScript}
+use Rattle.ldmodel.specs.Edits.{Add, Replace, Move, Remove, SetScript}
 
 no_append : (b : ℕ) (xs ys : List ℕ) → HasNo b xs → HasNo b ys → HasNo b (xs ++ ys)
 no_append b [] ys h k = k

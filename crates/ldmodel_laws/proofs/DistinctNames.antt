@@ -1,16 +1,12 @@
 -- The names of objects stay pairwise different.
-use Rattle.std.proofs.Common.{◌≡◌, ℕ, ◌+◌, ◌<◌, ◌≤◌, List, [], ◌∷◌, length, get_or, refl, ap, sym, ◌∙◌, subst, arith}
-use Rattle.std.proofs.Common.{Bool, true, false, cond, set, Option, Some, None, Ok}
-use Rattle.std.specs.Prelude.{bytes_eq}
-use Rattle.std.specs.List.{count_by, insert, remove, list_any}
-use Rattle.std.proofs.lemmas.Slice.Eq.{bytes_eq-Decides}
-use Rattle.std.proofs.lemmas.Bool.{or_parts}
+use Rattle.ldmodel_laws.proofs.Common.{AreNamesDistinct, Bool, Change, List, NamedObject, None, Ok, Option, Project}
+use Rattle.ldmodel_laws.proofs.Common.{Some, [], ap, arith, bytes_eq, bytes_eq-Decides, cond, count_by, false, get_or}
+use Rattle.ldmodel_laws.proofs.Common.{insert, length, list_any, or_parts, refl, remove, set, subst, sym, true, ℕ, ◌+◌}
+use Rattle.ldmodel_laws.proofs.Common.{◌<◌, ◌∙◌, ◌∷◌, ◌≡◌, ◌≤◌}
 use Rattle.std.proofs.lemmas.List.Quantifiers.{position-Some}
 use Rattle.std.proofs.lemmas.List.Sums.{sum_by-cons, sum_by-insert, sum_by-remove, sum_by-set}
-use Rattle.ldmodel.specs.Project.{Project, NamedObject}
-use Rattle.ldmodel.specs.Edits.{Change, Add, Replace, Move, Remove, SetScript, Refusal, InUse, has_name, place_of}
-use Rattle.ldmodel.specs.Edits.{is_in_use, AreNamesDistinct, early_refusal, new_object, unnamed, replaced, moved}
-use Rattle.ldmodel.specs.Edits.{removed, After}
+use Rattle.ldmodel.specs.Edits.{Add, Replace, Move, Remove, SetScript, Refusal, InUse, has_name, place_of, is_in_use}
+use Rattle.ldmodel.specs.Edits.{early_refusal, new_object, unnamed, replaced, moved, removed, After}
 
 -- 1 where the test passes
 abbrev one_if : Bool → ℕ

@@ -1,21 +1,13 @@
 -- `.` is kept before each statement of SECTIONS and of a body, once and in their order.
-use Rattle.std.proofs.Common.{◌≡◌, ℕ, suc, ◌+◌, List, [], ◌∷◌, ◌++◌, length, Ok, refl, sym, ap, ◌∙◌, subst, arith}
-use Rattle.std.proofs.Common.{append_assoc, append-nil, length-append}
-use Rattle.ldscript.specs.statements.Numbering.{items, items_of}
-use Rattle.ldscript.specs.statements.declared.section.BodyStatement.{BodyStatement}
-use Rattle.ldscript.specs.statements.declared.section.OutputSection.{OutputSection}
+use Rattle.ldmodel_laws.proofs.Common.{BodyStatement, Item, ItemCommand, Layout, List, Ok, OutputSection, Piece}
+use Rattle.ldmodel_laws.proofs.Common.{PieceTo, Statement, [], ap, append-nil, append_assoc, arith, items, items_of}
+use Rattle.ldmodel_laws.proofs.Common.{length, length-append, noted, nothing_placed, refl, subst, suc, sym, ℕ, ◌++◌}
+use Rattle.ldmodel_laws.proofs.Common.{◌+◌, ◌∙◌, ◌∷◌, ◌≡◌}
 use Rattle.ldscript.specs.statements.declared.statement.Command.{Command}
 use Rattle.ldscript.specs.statements.declared.statement.Command.TheVariants as top
-use Rattle.ldscript.specs.statements.declared.statement.Item.{Item}
-use Rattle.ldscript.specs.statements.declared.statement.ItemCommand.{ItemCommand}
 use Rattle.ldscript.specs.statements.declared.statement.ItemCommand.TheVariants as item
-use Rattle.ldscript.specs.statements.declared.statement.Statement.{Statement}
-use Rattle.ldmodel.specs.Placement.{Body, body_step}
-use Rattle.ldmodel.specs.Layout.{Layout, noted, nothing_placed}
-use Rattle.ldmodel.specs.Placement.{command_step, item_command_step, item_step, next_row, opened, placement}
-use Rattle.ldmodel.specs.Placement.{region_step, statement_step}
-use Rattle.ldmodel.specs.Rows.{Piece}
-use Rattle.ldmodel_laws.specs.Placed.{PieceTo}
+use Rattle.ldmodel.specs.Placement.{Body, body_step, command_step, item_command_step, item_step, next_row, opened}
+use Rattle.ldmodel.specs.Placement.{placement, region_step, statement_step}
 use Rattle.ldmodel_laws.specs.Spread.{Notes, dots_of, dots_of_all, dots_of_command, dots_in}
 use Rattle.ldmodel_laws.proofs.Effects.{run_by, Kept, kept_same, Quiet, still, renamed, onward, added, named_kept}
 use Rattle.ldmodel_laws.proofs.Effects.{directive_named, free_dot_kept, region_kept, SectionPlaced, section_placed}

@@ -1,10 +1,7 @@
 -- What holds of each member of a list, or of each two, in lists that are made of others.
-use Rattle.std.proofs.Common.{◌≡◌, ℕ, zero, suc, Bool, true, false, cond, List, [], ◌∷◌, ◌++◌, map, filter, refl}
-use Rattle.std.proofs.Common.{flat_map, Some, slice_get, arith, ap, ◌∙◌, ◌||◌}
-use Rattle.std.specs.List.{All, AllPairs, AllZip, list_any}
-use Rattle.ldmodel.specs.Each.{Each}
-use Rattle.ldmodel.specs.Sorting.{insert_by, sort_by}
-use Rattle.ldmodel_laws.specs.Spread.{EachLater}
+use Rattle.ldmodel_laws.proofs.Common.{All, AllPairs, AllZip, Bool, Each, EachLater, List, Some, [], ap, arith, cond}
+use Rattle.ldmodel_laws.proofs.Common.{false, filter, flat_map, insert_by, list_any, map, refl, slice_get, sort_by, suc}
+use Rattle.ldmodel_laws.proofs.Common.{true, zero, ℕ, ◌++◌, ◌||◌, ◌∙◌, ◌∷◌, ◌≡◌}
 
 pub each_always : {X : Type 0} (P : X → Type 0) → ((x : X) → P x) → (xs : List X) → Each P xs
 each_always P h [] = tt

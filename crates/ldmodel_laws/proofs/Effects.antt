@@ -1,34 +1,20 @@
 -- What one statement does to a layout and to the body of an output section.
-use Rattle.std.proofs.Common.{◌≡◌, ℕ, ◌+◌, ◌%◌, ◌^◌, ◌≤◌, ◌==◌, nat_lt, Bool, true, false, cond, List, [], ◌∷◌, length}
-use Rattle.std.proofs.Common.{Option, Some, None, Result, Ok, Err, refl, ap, ◌∙◌, subst, arith, bytes_eq}
-use Rattle.std.specs.List.{list_any}
-use Rattle.std.proofs.lemmas.Bool.{ltb-false}
-use Rattle.byteorder.specs.Endian.{little_bytes}
-use Rattle.ldscript.specs.terms.DotForms.{DotForm, Advance, Align, Offset, dot_form}
+use Rattle.ldmodel_laws.proofs.Common.{Advance, Align, BodyCommand, Bool, Directive, DotCommand, DotForm, Err, Expr}
+use Rattle.ldmodel_laws.proofs.Common.{Fault, Layout, List, MovedBack, None, Offset, Ok, Option, OutputSection}
+use Rattle.ldmodel_laws.proofs.Common.{PastAddressSpace, Piece, PieceTo, PlacedOutput, Region, Result, Some, Width, []}
+use Rattle.ldmodel_laws.proofs.Common.{address, and_then, ap, arith, byte_count, bytes_eq, cond, dot_form, false}
+use Rattle.ldmodel_laws.proofs.Common.{length, list_any, little_bytes, ltb-false, nat_lt, number, past_inputs, refl}
+use Rattle.ldmodel_laws.proofs.Common.{run, subst, true, with_symbol, ℕ, ◌%◌, ◌+◌, ◌==◌, ◌^◌, ◌∙◌, ◌∷◌, ◌≡◌, ◌≤◌}
 use Rattle.ldscript.specs.terms.Expressions as expression
-use Rattle.ldscript.specs.terms.Expressions.{Expr}
-use Rattle.ldscript.specs.statements.Widths.{byte_count}
-use Rattle.ldscript.specs.statements.declared.directive.Directive.{Directive}
 use Rattle.ldscript.specs.statements.declared.directive.Directive.TheVariants as directive
 use Rattle.ldscript.specs.statements.declared.directive.Assignment.{Assignment}
-use Rattle.ldscript.specs.statements.declared.directive.DotCommand.{DotCommand}
 use Rattle.ldscript.specs.statements.declared.directive.DotCommand.TheVariants.{Set, Add}
-use Rattle.ldscript.specs.statements.declared.section.BodyCommand.{BodyCommand}
 use Rattle.ldscript.specs.statements.declared.section.BodyCommand.TheVariants as body
-use Rattle.ldscript.specs.statements.declared.section.OutputSection.{OutputSection}
-use Rattle.ldscript.specs.statements.declared.section.Width.{Width}
 use Rattle.ldscript.specs.statements.declared.section.Width.TheVariants.{Byte, Short, Long, Quad}
-use Rattle.ldscript.specs.statements.declared.statement.Region.{Region}
 use Rattle.ldmodel.specs.Placement.{assigned, directive_step, Body, piece_placed, pieces_placed, body_command_step}
 use Rattle.ldmodel.specs.Placement.{with_dot, with_data, data_step, moved_on, advanced, set_to, dot_step, body_step}
-use Rattle.ldmodel.specs.Chain.{and_then, run}
-use Rattle.ldmodel.specs.Fault.{Fault, MovedBack, PastAddressSpace}
-use Rattle.ldmodel.specs.Layout.{Layout, PlacedOutput, address, number, with_symbol}
-use Rattle.ldmodel.specs.Placement.{free_dot_step, region_step, section_step, opened, with_region}
-use Rattle.ldmodel.specs.Rows.{Piece}
-use Rattle.ldmodel.specs.Placement.{section_end, placed_section, with_section, with_room, find_region, load_region}
-use Rattle.ldmodel.specs.Placement.{Head, head_of}
-use Rattle.ldmodel_laws.specs.Placed.{PieceTo, past_inputs}
+use Rattle.ldmodel.specs.Placement.{free_dot_step, region_step, section_step, opened, with_region, section_end}
+use Rattle.ldmodel.specs.Placement.{placed_section, with_section, with_room, find_region, load_region, Head, head_of}
 use Rattle.ldmodel_laws.proofs.Placements.{piece_to}
 
 -- a value comes of another

@@ -1,17 +1,12 @@
--- Output sections with file bytes do not meet in the image.
-use Rattle.std.proofs.Common.{◌≡◌, ⊎_elim, ℕ, ◌+◌, ◌-◌, ◌<◌, ◌≤◌, ◌==◌, Bool, true, false, cond, not, List, []}
-use Rattle.std.proofs.Common.{◌∷◌, ◌++◌, length, map, filter, flat_map, fold, refl, sym, ap, ◌∙◌, subst, arith}
-use Rattle.std.proofs.Math.Nat.{eq-zero-or-pos}
-use Rattle.std.proofs.lemmas.List.Elements.{filter-append}
-use Rattle.std.proofs.lemmas.Bool.{eqb-true, eq-eqb, false≢true, leb-true, and_parts}
-use Rattle.ldmodel.specs.Each.{Each}
+-- Output sections with file bytes do not overlap in the image.
+use Rattle.ldmodel_laws.proofs.Common.{Bool, Each, EachLater, List, PlacedOutput, Segment, [], and_parts, ap, arith}
+use Rattle.ldmodel_laws.proofs.Common.{cond, eq-eqb, eq-zero-or-pos, eqb-true, false, false≢true, filter, filter-append}
+use Rattle.ldmodel_laws.proofs.Common.{flat_map, fold, groups, leb-true, length, map, not, refl, segments, subst, sym}
+use Rattle.ldmodel_laws.proofs.Common.{true, ℕ, ⊎_elim, ◌++◌, ◌+◌, ◌-◌, ◌<◌, ◌==◌, ◌∙◌, ◌∷◌, ◌≡◌, ◌≤◌}
 use Rattle.ldmodel_laws.specs.FileLayout.{Neighbours, IsTogether, Shares}
-use Rattle.ldmodel.specs.Layout.{PlacedOutput}
-use Rattle.ldmodel.specs.Segments.{Group, Segment, SectionInFile, in_file, in_segment, headers_end}
-use Rattle.ldmodel.specs.Segments.{segment_start, end_of, reach, file_size, file_end, segments, group_sections, groups}
-use Rattle.ldmodel.specs.Segments.{begun, begun_from, nonempty}
+use Rattle.ldmodel.specs.Segments.{Group, SectionInFile, in_file, in_segment, headers_end, segment_start, end_of, reach}
+use Rattle.ldmodel.specs.Segments.{file_size, file_end, group_sections, begun, begun_from, nonempty}
 use Rattle.ldmodel_laws.specs.FileOrder.{with_file_bytes, end_in_file, AreInFileOrder}
-use Rattle.ldmodel_laws.specs.Spread.{EachLater}
 use Rattle.ldmodel_laws.proofs.Grouped.{is_grouping}
 use Rattle.ldmodel_laws.proofs.Segmented.{same_count}
 use Rattle.ldmodel_laws.proofs.EachOf.{each_imply, each_and, each_append, each_filter, later_filter, each_parts}

@@ -1,12 +1,9 @@
 -- The one member of a list that passes a test is the one that is found.
-use Rattle.std.proofs.Common.{◌≡◌, ◌⊎◌, inl, inr, ⊎_elim, Bool, true, false, cond, ◌&&◌, List, [], ◌∷◌, map}
-use Rattle.std.proofs.Common.{filter, find, flat_map, Option, Some, None, refl, sym, ap, ◌∙◌, subst}
-use Rattle.std.specs.List.{Contains, cons_option, filter_map}
-use Rattle.std.specs.Option.{option_map}
-use Rattle.ldmodel.specs.Each.{Each}
-use Rattle.ldmodel_laws.specs.Spread.{EachLater}
+use Rattle.ldmodel_laws.proofs.Common.{Bool, Contains, Contains-append_cases, Contains-append_left}
+use Rattle.ldmodel_laws.proofs.Common.{Contains-append_right, Each, EachLater, List, None, Option, Some, [], ap, cond}
+use Rattle.ldmodel_laws.proofs.Common.{cons_option, false, filter, filter_map, find, flat_map, inl, inr, map}
+use Rattle.ldmodel_laws.proofs.Common.{option_map, refl, subst, sym, true, ⊎_elim, ◌&&◌, ◌∙◌, ◌∷◌, ◌≡◌, ◌⊎◌}
 use Rattle.ldmodel_laws.proofs.Members.{here, later, first_or_later, none_in_nil}
-use Rattle.std.proofs.lemmas.List.Elements.{Contains-append_right, Contains-append_left, Contains-append_cases}
 
 pub member_of : {X : Type 0} (P : X → Type 0) (xs : List X) (x : X) → Each P xs → Contains xs x → P x
 member_of P [] x h c = absurd (none_in_nil x c)

@@ -1,16 +1,15 @@
 -- The first input statement that takes a section.
-use Rattle.std.proofs.Common.{◌≡◌, ◌+◌, ◌↔◌, ℕ, Bool, true, false, cond, not, List, [], ◌∷◌, ◌++◌, length, refl, ap}
-use Rattle.std.proofs.Common.{sym, ◌∙◌, subst, ⊎_elim, arith, Option, Some, None, MatchOption}
-use Rattle.std.specs.List.{Contains, list_any, position, position_from}
-use Rattle.std.proofs.lemmas.Bool.{and_parts, and_from, true≢false, false_from_ne_true, not_from_false, not-true}
+use Rattle.ldmodel_laws.proofs.Common.{Bool, Contains, InputStatementAt, List, MatchOption, None, Option, Some}
+use Rattle.ldmodel_laws.proofs.Common.{Statement, [], and_from, and_parts, ap, arith, cond, false, false_from_ne_true}
+use Rattle.ldmodel_laws.proofs.Common.{first_match, input_statements, is_match, length, list_any, not, not-true}
+use Rattle.ldmodel_laws.proofs.Common.{not_from_false, position, position_from, refl, subst, sym, true, true≢false, ℕ}
+use Rattle.ldmodel_laws.proofs.Common.{⊎_elim, ◌++◌, ◌+◌, ◌↔◌, ◌∙◌, ◌∷◌, ◌≡◌}
 use Rattle.std.proofs.lemmas.Iterator.Adapters.{position_from-zero}
-use Rattle.ldscript.specs.terms.Matching.{Matches, is_match}
+use Rattle.ldscript.specs.terms.Matching.{Matches}
 use Rattle.ldscript.specs.terms.Parts as pattern
-use Rattle.ldscript.specs.statements.Numbering.{InputStatementAt, input_statements}
 use Rattle.ldscript.specs.statements.declared.input.Input.{Input}
 use Rattle.ldscript.specs.statements.declared.input.SectionWord.{SectionWord}
-use Rattle.ldscript.specs.statements.declared.statement.Statement.{Statement}
-use Rattle.ldmodel.specs.FirstMatch.{first_match, is_any_match, word_takes, takes}
+use Rattle.ldmodel.specs.FirstMatch.{is_any_match, word_takes, takes}
 use Rattle.ldmodel_laws.specs.FirstMatches.{WordTakes, Takes, IsFirstMatch, IsUnmatched}
 use Rattle.ldmodel_laws.proofs.Members.{Passes, none_in_nil, first_or_later, in_any, any_in}
 

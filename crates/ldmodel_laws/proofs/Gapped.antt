@@ -1,12 +1,10 @@
 -- Where the gap of an address begins.
-use Rattle.std.proofs.Common.{◌≡◌, ℕ, ◌+◌, ◌≤◌, ◌<◌, max, Bool, true, false, cond, not, ◌==◌, nat_le, List, [], ◌∷◌}
-use Rattle.std.proofs.Common.{◌++◌, length, map, find, filter, fold, Some, None, ◌⊎◌, inl, inr, ⊎_elim, refl, sym, ◌∙◌}
-use Rattle.std.proofs.Common.{subst, arith, if◌then◌else◌}
-use Rattle.std.specs.List.{Contains}
-use Rattle.ldmodel.specs.Each.{Each}
+use Rattle.ldmodel_laws.proofs.Common.{Bool, Contains, Each, List, None, PlacedData, PlacedOutput, PlacedPiece, Some}
+use Rattle.ldmodel_laws.proofs.Common.{[], arith, cond, covers, false, filter, find, fold, if◌then◌else◌, inl, inr}
+use Rattle.ldmodel_laws.proofs.Common.{length, map, max, nat_le, not, refl, subst, sym, true, ℕ, ⊎_elim, ◌++◌, ◌+◌, ◌<◌}
+use Rattle.ldmodel_laws.proofs.Common.{◌==◌, ◌∙◌, ◌∷◌, ◌≡◌, ◌≤◌, ◌⊎◌}
 use Rattle.ldmodel_laws.specs.Gaps.{IsBare, IsGapStart}
-use Rattle.ldmodel.specs.Image.{covers, ends_in, gap_start}
-use Rattle.ldmodel.specs.Layout.{PlacedOutput, PlacedPiece, PlacedData}
+use Rattle.ldmodel.specs.Image.{ends_in, gap_start}
 use Rattle.ldmodel_laws.proofs.Members.{here, later}
 
 -- the last of a start and of the ends that are not past an address

@@ -1,38 +1,20 @@
 -- A link without faults is good: its layout is spread, and each of its sites has a field.
-use Rattle.std.proofs.Common.{◌≡◌, ℕ, ◌^◌, ◌==◌, nat_lt, Bool, true, false, cond, ◌&&◌, List, [], ◌∷◌}
-use Rattle.std.proofs.Common.{◌++◌, map, flat_map, find, Option, Some, None, Result, Ok, Err, refl, sym, ap, ◌∙◌, subst}
-use Rattle.std.proofs.Common.{bytes_eq}
-use Rattle.std.specs.List.{Contains, filter_map}
-use Rattle.std.specs.Option.{option_map_or}
+use Rattle.ldmodel_laws.proofs.Common.{AreNamesDistinct, AreNumbered, Bool, Contains, Differ, Each, EachLater, Err}
+use Rattle.ldmodel_laws.proofs.Common.{Fault, HasField, ImageTooLong, InCommon, InTable, IsFaultless, IsGood, Layout}
+use Rattle.ldmodel_laws.proofs.Common.{LinkedSection, List, NamedObject, None, Ok, Option, Part, PlacedOutput}
+use Rattle.ldmodel_laws.proofs.Common.{PlacedPiece, Project, Result, SectionIndex, Site, Some, [], and_from, and_parts}
+use Rattle.ldmodel_laws.proofs.Common.{ap, bytes_eq, bytes_eq-Decides, cond, entries_in, entry_point, eqb-true, false}
+use Rattle.ldmodel_laws.proofs.Common.{filter_map, find, flat_map, image_length, is_part, is_same_part, layout}
+use Rattle.ldmodel_laws.proofs.Common.{linked_pieces, map, map-append, nat_lt, object_named, option_map_or, overlaps}
+use Rattle.ldmodel_laws.proofs.Common.{placed_part, placed_pieces, refl, relocation_faults, rows, section_numbered}
+use Rattle.ldmodel_laws.proofs.Common.{segments, site_field, sites, sites_at, sites_of_section, subst, sym, true}
+use Rattle.ldmodel_laws.proofs.Common.{true≢false, ℕ, ◌&&◌, ◌++◌, ◌==◌, ◌^◌, ◌∙◌, ◌∷◌, ◌≡◌}
 use Rattle.std.specs.Result.{result_err}
-use Rattle.std.proofs.lemmas.Bool.{true≢false, eqb-true, and_parts, and_from}
-use Rattle.std.proofs.lemmas.Slice.Eq.{bytes_eq-Decides}
-use Rattle.std.proofs.lemmas.List.{map-append}
-use Rattle.elfobj.specs.Sections.{LinkedSection}
-use Rattle.elfobj.specs.declared.section.SectionIndex.{SectionIndex}
-use Rattle.ldmodel.specs.Fault.{Fault, ImageTooLong}
-use Rattle.ldmodel.specs.Edits.{AreNamesDistinct}
-use Rattle.ldmodel.specs.Each.{Each}
-use Rattle.ldmodel.specs.Image.{object_named, section_numbered}
-use Rattle.ldmodel.specs.Layout.{Layout, PlacedPiece, PlacedOutput}
-use Rattle.ldmodel.specs.Link.{laid_out, layout, of_length, without_overlaps}
+use Rattle.ldmodel.specs.Link.{laid_out, of_length, without_overlaps}
 use Rattle.ldmodel.specs.Names.{provided}
-use Rattle.ldmodel.specs.Overlaps.{overlaps}
 use Rattle.ldmodel.specs.Placement.{placement}
-use Rattle.ldmodel.specs.Project.{NamedObject, Project}
-use Rattle.ldmodel.specs.Relocations.{Site, entry_fault, relocation_faults, site_field, sites, sites_at}
-use Rattle.ldmodel.specs.Relocations.{sites_of_section}
-use Rattle.ldmodel.specs.Rows.{rows}
-use Rattle.ldmodel.specs.SectionHeaders.{image_length}
-use Rattle.ldmodel.specs.Sections.{is_same_part}
-use Rattle.ldmodel.specs.Segments.{segments}
-use Rattle.ldmodel.specs.Stayed.{GoodLink, LinkedPiece, linked_piece, linked_pieces, link_pieces, sites_in}
-use Rattle.ldmodel.specs.SymbolValues.{entry_point, is_part, placed_part, placed_pieces}
-use Rattle.ldmodel.specs.declared.sections.Part.{Part}
-use Rattle.ldmodel.specs.declared.sections.Part.TheVariants.{InTable, InCommon}
-use Rattle.ldmodel_laws.specs.PlacedOnce.{AreNumbered, Differ}
-use Rattle.ldmodel_laws.specs.Spread.{EachLater, entries_in}
-use Rattle.ldmodel_laws.specs.Untouched.{HasField, IsFaultless, IsGood}
+use Rattle.ldmodel.specs.Relocations.{entry_fault}
+use Rattle.ldmodel.specs.Stayed.{GoodLink, LinkedPiece, linked_piece, link_pieces, sites_in}
 use Rattle.ldmodel_laws.proofs.Finding.{NotBoth, each_member, find_only, flat_map_in, in_flat_map, in_map, none_in}
 use Rattle.ldmodel_laws.proofs.Members.{here, later, none_in_nil}
 use Rattle.ldmodel_laws.proofs.OnceInRows.{is_one, once_in_rows}

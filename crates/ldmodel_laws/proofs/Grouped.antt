@@ -1,9 +1,8 @@
 -- The groups of a list of output sections are the one way to cut it exactly where neighbours do not share a segment.
-use Rattle.std.proofs.Common.{◌≡◌, Bool, true, false, List, [], ◌∷◌, ◌++◌, flat_map, refl, ap, sym, ◌∙◌, if◌then◌else◌}
+use Rattle.ldmodel_laws.proofs.Common.{Bool, Each, List, PlacedOutput, [], ap, false, flat_map, groups, if◌then◌else◌}
+use Rattle.ldmodel_laws.proofs.Common.{refl, sym, true, ◌++◌, ◌∙◌, ◌∷◌, ◌≡◌}
 use Rattle.ldmodel_laws.specs.FileLayout.{Neighbours, IsTogether, AreApart, IsGrouping, Shares}
-use Rattle.ldmodel.specs.Each.{Each}
-use Rattle.ldmodel.specs.Layout.{PlacedOutput}
-use Rattle.ldmodel.specs.Segments.{Group, groups, with_front, group_sections, shares_segment}
+use Rattle.ldmodel.specs.Segments.{Group, with_front, group_sections, shares_segment}
 
 abbrev alone : PlacedOutput → Group
 alone q = record { first = q; others = [] }

@@ -1,32 +1,20 @@
 -- Input sections, and the fields of their sites, in the image.
-use Rattle.std.proofs.Common.{◌≡◌, ◌↔◌, ◌⊎◌, inl, inr, ℕ, ◌+◌, ◌-◌, ◌<◌, ◌≤◌, ◌==◌, nat_le, nat_lt, Bool, true, false}
-use Rattle.std.proofs.Common.{cond, not, ◌&&◌, List, [], ◌∷◌, length, map, filter, slice_index, Option, Some}
-use Rattle.std.proofs.Common.{None, Ok, refl, sym, ap, ◌∙◌, subst, arith, bytes_eq, max, min}
-use Rattle.std.specs.Int.{next_multiple_of}
-use Rattle.std.specs.List.{Contains}
-use Rattle.std.specs.Option.{option_map_or}
-use Rattle.std.proofs.lemmas.Bool.{true≢false, lt-ltb, le-leb, leb-true, ltb-true, and_parts, and_from}
+use Rattle.ldmodel_laws.proofs.Common.{AreNamed, Bool, Contains, EachLater, HasField, InCommon, InTable, IsGood, Layout}
+use Rattle.ldmodel_laws.proofs.Common.{LinkedSection, List, NamedObject, None, Ok, Option, Part, Patch, PlacedOutput}
+use Rattle.ldmodel_laws.proofs.Common.{PlacedPiece, Project, Relocation, Segment, Site, Some, [], and_from, and_parts}
+use Rattle.ldmodel_laws.proofs.Common.{ap, arith, byte_at, bytes_eq, cond, false, fields_of, filter, image_length, inl}
+use Rattle.ldmodel_laws.proofs.Common.{inr, is_evaluated, le-leb, leb-true, length, linked_pieces, lt-ltb, ltb-true}
+use Rattle.ldmodel_laws.proofs.Common.{map, max, min, nat_le, nat_lt, next_multiple_of, not, object_named}
+use Rattle.ldmodel_laws.proofs.Common.{option_map_or, patch_end, patch_of, patched_byte, refl, section_numbered}
+use Rattle.ldmodel_laws.proofs.Common.{segments, site_field, sites_at, slice_index, subst, sym, true, true≢false, width}
+use Rattle.ldmodel_laws.proofs.Common.{ℕ, ◌&&◌, ◌+◌, ◌-◌, ◌<◌, ◌==◌, ◌↔◌, ◌∙◌, ◌∷◌, ◌≡◌, ◌≤◌, ◌⊎◌}
 use Rattle.elfobj.specs.Profile as elf
-use Rattle.elfobj.specs.RelocationKinds.{width}
-use Rattle.elfobj.specs.Sections.{LinkedSection}
-use Rattle.elfobj.specs.declared.relocation.Relocation.{Relocation}
 use Rattle.emit_fields.specs.Patches as patches
-use Rattle.emit_fields.specs.Patches.{patched_byte, patch_end}
-use Rattle.emit_fields.specs.declared.patch.Patch.{Patch}
-use Rattle.ldmodel.specs.Image.{byte_at, object_named, section_numbered}
 use Rattle.ldmodel_laws.specs.ByteCases.{part_byte, section_byte}
-use Rattle.ldmodel.specs.Layout.{Layout, PlacedPiece, PlacedOutput}
-use Rattle.ldmodel.specs.Project.{NamedObject, Project}
-use Rattle.ldmodel.specs.Relocations.{Site, fields_of, is_evaluated, patch_of, site_field, sites_at}
-use Rattle.ldmodel.specs.SectionHeaders.{Tables, header_part, image_length, tables}
-use Rattle.ldmodel.specs.Segments.{SectionInFile, Segment, file_offset, in_file, loaded_end, segments}
-use Rattle.ldmodel.specs.Stayed.{FileRange, GoodLink, LinkedPiece, has_stayed, linked_piece, linked_pieces, link_pieces}
-use Rattle.ldmodel.specs.Stayed.{range_in, same_piece, sites_in, stayed}
-use Rattle.ldmodel.specs.declared.sections.Part.{Part}
-use Rattle.ldmodel.specs.declared.sections.Part.TheVariants.{InTable, InCommon}
-use Rattle.ldmodel_laws.specs.ImageBytes.{AreNamed}
-use Rattle.ldmodel_laws.specs.Spread.{EachLater}
-use Rattle.ldmodel_laws.specs.Untouched.{HasField, IsGood}
+use Rattle.ldmodel.specs.SectionHeaders.{Tables, header_part, tables}
+use Rattle.ldmodel.specs.Segments.{SectionInFile, file_offset, in_file, loaded_end}
+use Rattle.ldmodel.specs.Stayed.{FileRange, GoodLink, LinkedPiece, has_stayed, linked_piece, link_pieces, range_in}
+use Rattle.ldmodel.specs.Stayed.{same_piece, sites_in, stayed}
 use Rattle.ldmodel_laws.proofs.Apart.{fields_apart, some_width}
 use Rattle.ldmodel_laws.proofs.Finding.{NotBoth, find_only, flat_map_in, in_flat_map, in_map, map_in}
 use Rattle.ldmodel_laws.proofs.Finding.{member_of, filter_map_in}

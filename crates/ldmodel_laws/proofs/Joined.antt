@@ -1,15 +1,10 @@
 -- Joined lists: of pairs in either order, of the one member that passes a test, and of those that pass and the others.
-use Rattle.std.proofs.Common.{◌≡◌, Bool, true, false, cond, not, ◌&&◌, List, [], ◌∷◌, ◌++◌, filter, find, flat_map}
-use Rattle.std.proofs.Common.{Some, refl, sym, ap, ◌∙◌, subst, append_assoc}
-use Rattle.std.specs.List.{Contains}
-use Rattle.std.specs.List.Sorted.{IsPermutation}
-use Rattle.std.specs.Option.{option_map_or}
+use Rattle.ldmodel_laws.proofs.Common.{Bool, Contains, Each, EachLater, IsPermutation, List, Some, [], ap, append_assoc}
+use Rattle.ldmodel_laws.proofs.Common.{cond, false, filter, filter-append, find, flat_map, not, option_map_or, refl}
+use Rattle.ldmodel_laws.proofs.Common.{subst, sym, true, ◌&&◌, ◌++◌, ◌∙◌, ◌∷◌, ◌≡◌}
 use Rattle.std.proofs.lemmas.List.Sorted.{IsPermutation-append, IsPermutation-append_comm, IsPermutation-append_left}
 use Rattle.std.proofs.lemmas.List.Sorted.{IsPermutation-append_right, IsPermutation-refl, IsPermutation-sym}
 use Rattle.std.proofs.lemmas.List.Sorted.{IsPermutation-trans}
-use Rattle.std.proofs.lemmas.List.Elements.{filter-append}
-use Rattle.ldmodel.specs.Each.{Each}
-use Rattle.ldmodel_laws.specs.Spread.{EachLater}
 use Rattle.ldmodel_laws.proofs.Finding.{NotBoth}
 use Rattle.ldmodel_laws.proofs.Members.{here, later}
 

@@ -1,11 +1,7 @@
 -- Live sections.
-use Rattle.std.proofs.Common.{◌≡◌, ◌↔◌, Bool, true, false, List, [], ◌∷◌, filter, cond, refl, ap, sym, subst}
-use Rattle.std.specs.List.{Contains}
-use Rattle.ldmodel.specs.Gathering.{candidates}
-use Rattle.ldmodel.specs.Live.{is_root, live, refers_to}
-use Rattle.ldmodel.specs.Project.{Project}
-use Rattle.ldmodel.specs.Reach.{Path, reached}
-use Rattle.ldmodel.specs.Sections.{InputSection}
+use Rattle.ldmodel_laws.proofs.Common.{Bool, Contains, InputSection, List, Path, Project, [], ap, candidates, cond}
+use Rattle.ldmodel_laws.proofs.Common.{false, filter, live, reached, refl, subst, sym, true, ◌↔◌, ◌∷◌, ◌≡◌}
+use Rattle.ldmodel.specs.Live.{is_root, refers_to}
 use Rattle.ldmodel_laws.proofs.Reaching.{reached_by_path, reached_in_order}
 
 collected_is : (p : Project) → p.options.gc ≡ true → live p ≡ reached (is_root p) (refers_to p) (candidates p)

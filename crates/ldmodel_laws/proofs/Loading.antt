@@ -1,6 +1,6 @@
 -- An output section has file bytes exactly where it is loaded.
-use Rattle.std.proofs.Common.{◌≡◌, ℕ, ◌-◌, ◌==◌, ◌&&◌, Bool, true, false, cond, not, refl, sym, ap}
-use Rattle.ldscript.specs.statements.declared.section.OutputSection.{OutputSection}
+use Rattle.ldmodel_laws.proofs.Common.{Bool, OutputSection, ap, cond, false, not, refl, sym, true, ℕ, ◌&&◌, ◌-◌, ◌==◌}
+use Rattle.ldmodel_laws.proofs.Common.{◌≡◌}
 use Rattle.ldmodel.specs.Placement.{Body, Head, has_contents, placed_section}
 
 loaded : (size : ℕ) (empty some : Bool) → (size == 0) ≡ empty

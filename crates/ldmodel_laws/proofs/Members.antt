@@ -1,8 +1,7 @@
 -- Members of lists, of filtered lists, and of lists in which some member passes a test.
-use Rattle.std.proofs.Common.{◌≡◌, ◌<◌, ◌≤◌, ◌⊎◌, ℕ, zero, suc, Bool, true, false, cond, List, [], ◌∷◌, length, filter}
-use Rattle.std.proofs.Common.{refl, ap, sym, ◌∙◌, subst, inl, inr, ⊎_elim, arith, get_or, Some, slice_get}
-use Rattle.std.specs.List.{Contains, list_any}
-use Rattle.std.proofs.lemmas.Bool.{or_cases, or_left, or_right, true≢false}
+use Rattle.ldmodel_laws.proofs.Common.{Bool, Contains, List, Some, [], ap, arith, cond, false, filter, get_or, inl, inr}
+use Rattle.ldmodel_laws.proofs.Common.{length, list_any, or_cases, or_left, or_right, refl, slice_get, subst, suc, sym}
+use Rattle.ldmodel_laws.proofs.Common.{true, true≢false, zero, ℕ, ⊎_elim, ◌<◌, ◌∙◌, ◌∷◌, ◌≡◌, ◌≤◌, ◌⊎◌}
 use Rattle.std.proofs.lemmas.Option.{same_Some}
 
 pub here : {X : Type 0} (x : X) (xs : List X) → Contains (x ∷ xs) x

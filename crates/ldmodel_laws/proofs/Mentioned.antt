@@ -1,33 +1,20 @@
 -- In a script without a clash no symbol is given a value twice, and no two output sections have one name.
-use Rattle.std.proofs.Common.{◌≡◌, ◌≢◌, ◌∙◌, ℕ, List, [], ◌∷◌, ◌++◌, map, append_assoc, refl, sym, ap, subst, bytes_eq}
-use Rattle.std.proofs.Common.{false}
-use Rattle.std.specs.List.{Contains}
-use Rattle.std.proofs.lemmas.Bool.{false_from_ne_true}
-use Rattle.std.proofs.lemmas.List.{append-nil, map-append}
-use Rattle.std.proofs.lemmas.List.Elements.{Contains-append_left, Contains-push}
-use Rattle.std.proofs.lemmas.Slice.Eq.{bytes_eq-Decides}
-use Rattle.ldscript.specs.Script.{IsSound}
+use Rattle.ldmodel_laws.proofs.Common.{BodyCommand, BodyStatement, Contains, Contains-append_left, Contains-push}
+use Rattle.ldmodel_laws.proofs.Common.{Directive, DirectiveAt, Each, EachLater, IsSound, Item, ItemCommand, List}
+use Rattle.ldmodel_laws.proofs.Common.{OutputSection, OutputSectionAt, Statement, [], all_directives, ap, append-nil}
+use Rattle.ldmodel_laws.proofs.Common.{append_assoc, bytes_eq, bytes_eq-Decides, directives_in, directives_of, false}
+use Rattle.ldmodel_laws.proofs.Common.{false_from_ne_true, item_directives, item_sections, items, items_directives}
+use Rattle.ldmodel_laws.proofs.Common.{items_of, map, map-append, output_sections, refl, sections_in, subst, sym}
+use Rattle.ldmodel_laws.proofs.Common.{top_directives, ℕ, ◌++◌, ◌∙◌, ◌∷◌, ◌≡◌, ◌≢◌}
 use Rattle.ldscript.specs.statements.Mentions.{Clashes, Mention, SectionNamed, SymbolGiven, in_body, in_body_command}
 use Rattle.ldscript.specs.statements.Mentions.{in_directive, in_item_command, in_items, in_load_head, in_load_tail}
 use Rattle.ldscript.specs.statements.Mentions.{in_optional, in_region_name, in_section, in_top_command, mentions}
-use Rattle.ldscript.specs.statements.Numbering.{DirectiveAt, OutputSectionAt, all_directives, directives_in}
-use Rattle.ldscript.specs.statements.Numbering.{directives_of, item_directives, item_sections, items, items_directives}
-use Rattle.ldscript.specs.statements.Numbering.{items_of, output_sections, sections_in, top_directives}
-use Rattle.ldscript.specs.statements.declared.directive.Directive.{Directive}
 use Rattle.ldscript.specs.statements.declared.directive.Directive.TheVariants as directive
-use Rattle.ldscript.specs.statements.declared.section.BodyCommand.{BodyCommand}
 use Rattle.ldscript.specs.statements.declared.section.BodyCommand.TheVariants as body
-use Rattle.ldscript.specs.statements.declared.section.BodyStatement.{BodyStatement}
-use Rattle.ldscript.specs.statements.declared.section.OutputSection.{OutputSection}
 use Rattle.ldscript.specs.statements.declared.statement.Command.{Command}
 use Rattle.ldscript.specs.statements.declared.statement.Command.TheVariants as top
-use Rattle.ldscript.specs.statements.declared.statement.Item.{Item}
-use Rattle.ldscript.specs.statements.declared.statement.ItemCommand.{ItemCommand}
 use Rattle.ldscript.specs.statements.declared.statement.ItemCommand.TheVariants as item
-use Rattle.ldscript.specs.statements.declared.statement.Statement.{Statement}
-use Rattle.ldmodel.specs.Each.{Each}
 use Rattle.ldmodel_laws.specs.Alike.{given_names, names_given}
-use Rattle.ldmodel_laws.specs.Spread.{EachLater}
 use Rattle.ldmodel_laws.proofs.EachOf.{each_always, each_into_map, later_imply, later_of_map}
 
 pub other_name : (n k : List ℕ) → n ≢ k → bytes_eq n k ≡ false

@@ -1,11 +1,7 @@
 -- The least multiple of a number not below another: there is one, and no other.
-use Rattle.std.proofs.Common.{◌≡◌, ℕ, ◌+◌, ◌*◌, ◌-◌, ◌%◌, ◌/◌, ◌≤◌, ◌<◌, ap, ◌∙◌, ⊎_elim, arith}
-use Rattle.std.specs.Int.{next_multiple_of}
+use Rattle.ldmodel_laws.proofs.Common.{IsLeastMultiple, ap, arith, cases_lt, div-add-mod', eq-zero-or-pos}
+use Rattle.ldmodel_laws.proofs.Common.{next_multiple_of, ℕ, ⊎_elim, ◌%◌, ◌*◌, ◌+◌, ◌-◌, ◌/◌, ◌<◌, ◌∙◌, ◌≡◌, ◌≤◌}
 use Rattle.std.proofs.Math.Nat.{mod_self, mod-lt, mod-eq_of_lt, mul-mod_left, mul-le-mul_right, sub-zero}
-use Rattle.std.proofs.Math.Nat.{eq-zero-or-pos}
-use Rattle.std.proofs.lemmas.Nat.{div-add-mod'}
-use Rattle.std.proofs.lemmas.Bool.{cases_lt}
-use Rattle.ldmodel_laws.specs.Placed.{IsLeastMultiple}
 
 -- two multiples, of which one is less, are at least as far apart as the number
 apart : (a m n : ℕ) → m % a ≡ 0 → n % a ≡ 0 → m < n → m + a ≤ n

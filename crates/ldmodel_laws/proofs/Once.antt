@@ -1,28 +1,17 @@
 -- Each input section stands in the rows once.
-use Rattle.std.proofs.Common.{◌≡◌, ◌⊎◌, inl, inr, ⊎_elim, ℕ, ◌+◌, ◌<◌, ◌≤◌, ◌==◌, Bool, true, false, cond, not, ◌&&◌}
-use Rattle.std.proofs.Common.{List, [], ◌∷◌, map, flat_map, count_by, Option, Some, None, refl, sym, ap, ◌∙◌, subst}
-use Rattle.std.proofs.Common.{arith, bytes_eq}
-use Rattle.std.specs.List.{Contains, enumerate_from, filter_map, cons_option}
-use Rattle.std.proofs.lemmas.Bool.{false≢true, eqb-true, and_right}
-use Rattle.std.proofs.lemmas.Slice.Eq.{bytes_eq-Decides}
-use Rattle.elfobj.specs.Sections.{LinkedSection}
-use Rattle.elfobj.specs.Symbols.{NamedSymbol}
-use Rattle.ldmodel.specs.Edits.{AreNamesDistinct, has_name}
-use Rattle.ldmodel.specs.Each.{Each}
-use Rattle.ldmodel.specs.Gathering.{candidates, is_discarded}
-use Rattle.ldmodel.specs.InputSections.{block_at, block_of, common_block, common_blocks, input_sections, is_same_entry}
-use Rattle.ldmodel.specs.InputSections.{linked_input, object_inputs}
-use Rattle.ldmodel.specs.Live.{live}
+use Rattle.ldmodel_laws.proofs.Common.{AreNamesDistinct, AreNumbered, Bool, Contains, Contains-append_cases, Each}
+use Rattle.ldmodel_laws.proofs.Common.{EachLater, InCommon, InTable, InputSection, LinkedSection, List, NamedObject}
+use Rattle.ldmodel_laws.proofs.Common.{NamedSymbol, None, Option, Project, Some, [], and_right, ap, arith, bytes_eq}
+use Rattle.ldmodel_laws.proofs.Common.{bytes_eq-Decides, candidates, cond, cons_option, count_by, enumerate_from}
+use Rattle.ldmodel_laws.proofs.Common.{eqb-true, false, false≢true, filter_map, flat_map, inl, input_sections, inr}
+use Rattle.ldmodel_laws.proofs.Common.{insert_by, is_discarded, is_same_part, live, map, not, refl, sort_by, subst, sym}
+use Rattle.ldmodel_laws.proofs.Common.{true, ℕ, ⊎_elim, ◌&&◌, ◌+◌, ◌<◌, ◌==◌, ◌∙◌, ◌∷◌, ◌≡◌, ◌≤◌, ◌⊎◌}
+use Rattle.ldmodel.specs.Edits.{has_name}
+use Rattle.ldmodel.specs.InputSections.{block_at, block_of, common_block, common_blocks, is_same_entry, linked_input}
+use Rattle.ldmodel.specs.InputSections.{object_inputs}
 use Rattle.ldmodel.specs.Names.{Decision, Strong, Script, Common, Weak, Provided, Undefined, Duplicate, decision}
-use Rattle.ldmodel.specs.Project.{NamedObject, Project}
-use Rattle.ldmodel.specs.Sections.{InputSection, is_same_part}
-use Rattle.ldmodel.specs.Sorting.{insert_by, sort_by}
-use Rattle.ldmodel.specs.declared.sections.Part.TheVariants.{InTable, InCommon}
-use Rattle.ldmodel_laws.specs.PlacedOnce.{AreNumbered}
-use Rattle.ldmodel_laws.specs.Spread.{EachLater}
 use Rattle.ldmodel_laws.proofs.FileOrder.{later_both}
 use Rattle.std.proofs.lemmas.List.Sums.{sum_by-cons}
-use Rattle.std.proofs.lemmas.List.Elements.{Contains-append_cases}
 use Rattle.ldmodel_laws.proofs.Finding.{ComesOf, each_member, in_filter_map, in_flat_map, in_map}
 use Rattle.ldmodel_laws.proofs.Finding.{member_of}
 use Rattle.ldmodel_laws.proofs.Liveness.{in_order}

@@ -1,25 +1,14 @@
 -- No two entries of the rows are of one input section.
-use Rattle.std.proofs.Common.{◌≡◌, ◌⊎◌, inl, inr, ℕ, zero, suc, ◌+◌, ◌<◌, ◌≤◌, ◌==◌, Bool, true, false, cond, ◌&&◌}
-use Rattle.std.proofs.Common.{List, [], ◌∷◌, ◌++◌, length, map, filter, flat_map, Option, Some, None, refl, sym, ap}
-use Rattle.std.proofs.Common.{◌∙◌, subst, arith, bytes_eq}
-use Rattle.std.specs.List.{Contains, enumerate_from, range_with_len}
-use Rattle.std.specs.Option.{option_map_or}
-use Rattle.std.proofs.lemmas.Bool.{true≢false, eqb-true, and_parts, and_from}
-use Rattle.std.proofs.lemmas.Slice.Eq.{bytes_eq-Decides}
-use Rattle.ldscript.specs.statements.Numbering.{InputStatementAt, input_statements, output_sections}
+use Rattle.ldmodel_laws.proofs.Common.{AreNamesDistinct, AreNumbered, Bool, Contains, Differ, Each, EachLater}
+use Rattle.ldmodel_laws.proofs.Common.{InDiscard, InSection, InputSection, InputStatementAt, List, None, Option, Part}
+use Rattle.ldmodel_laws.proofs.Common.{Piece, Project, Some, [], and_from, and_parts, ap, arith, below, bytes_eq}
+use Rattle.ldmodel_laws.proofs.Common.{bytes_eq-Decides, cond, enumerate_from, eqb-true, false, filter, first_match}
+use Rattle.ldmodel_laws.proofs.Common.{flat_map, inl, input_statements, inr, is_in_section, is_same_part, length, live}
+use Rattle.ldmodel_laws.proofs.Common.{map, option_map_or, output_sections, piece_of, range_with_len, refl, rows}
+use Rattle.ldmodel_laws.proofs.Common.{sorted_pieces, subst, suc, sym, taken, true, true≢false, zero, ℕ, ◌&&◌, ◌++◌}
+use Rattle.ldmodel_laws.proofs.Common.{◌+◌, ◌<◌, ◌==◌, ◌∙◌, ◌∷◌, ◌≡◌, ◌≤◌, ◌⊎◌}
 use Rattle.ldscript.specs.statements.declared.place.InputPlace.{InputPlace}
-use Rattle.ldscript.specs.statements.declared.place.InputPlace.TheVariants.{InSection, InDiscard}
-use Rattle.ldmodel.specs.Edits.{AreNamesDistinct}
-use Rattle.ldmodel.specs.Each.{Each}
-use Rattle.ldmodel.specs.FirstMatch.{first_match}
-use Rattle.ldmodel.specs.Live.{live}
-use Rattle.ldmodel.specs.Project.{Project}
-use Rattle.ldmodel.specs.Rows.{Piece, below, is_in_section, is_taken_by, piece_of, pieces_in, row, rows, sorted_pieces}
-use Rattle.ldmodel.specs.Rows.{taken}
-use Rattle.ldmodel.specs.Sections.{InputSection, is_same_part}
-use Rattle.ldmodel.specs.declared.sections.Part.{Part}
-use Rattle.ldmodel_laws.specs.PlacedOnce.{AreNumbered, Differ}
-use Rattle.ldmodel_laws.specs.Spread.{EachLater}
+use Rattle.ldmodel.specs.Rows.{is_taken_by, pieces_in, row}
 use Rattle.ldmodel_laws.proofs.Finding.{each_member, in_flat_map, in_map, member_of}
 use Rattle.ldmodel_laws.proofs.Members.{first_or_later, in_filter, none_in_nil}
 use Rattle.ldmodel_laws.proofs.Once.{Apart, later_flat_map, later_map, live_apart, rising, sorted, sorted_in}

@@ -1,16 +1,13 @@
 -- Sorting by insertion puts a list in order, and no other list is the same one in that order.
-use Rattle.std.proofs.Common.{◌≡◌, ◌<◌, ◌+◌, zero, suc, Bool, true, false, cond, not, List, [], ◌∷◌, length, get_or}
-use Rattle.std.proofs.Common.{filter, refl, ap, sym, ◌∙◌, ◌↔◌, subst, arith, Option, Some, None}
-use Rattle.std.specs.List.{Contains}
-use Rattle.std.specs.List.Sorted.{IsSortedBy, ties}
+use Rattle.ldmodel_laws.proofs.Common.{Bool, Contains, IsOrdered, IsSortedBy, List, None, Option, Piece, Some, []}
+use Rattle.ldmodel_laws.proofs.Common.{and_parts, ap, arith, below, cond, false, false≢true, filter, get_or, insert_by}
+use Rattle.ldmodel_laws.proofs.Common.{length, not, not-true, piece_alignment, refl, sort_by, subst, suc, sym, ties}
+use Rattle.ldmodel_laws.proofs.Common.{true, zero, ◌+◌, ◌<◌, ◌↔◌, ◌∙◌, ◌∷◌, ◌≡◌}
 use Rattle.std.specs.Cmp.{IsStrictWeakOrder}
 use Rattle.std.specs.Cmp.Lexicographic.{nat_list_cmp_total}
-use Rattle.std.proofs.lemmas.Bool.{false≢true, and_parts, not-true}
 use Rattle.std.proofs.lemmas.List.Sorted.{sorted_far, ranks_by, IsStrictWeakOrder-flip, IsStrictWeakOrder-by_number}
 use Rattle.ldscript.specs.statements.declared.input.Sort.{Sort}
 use Rattle.ldscript.specs.statements.declared.input.Sort.TheVariants.{ByName, ByAlignment}
-use Rattle.ldmodel.specs.Rows.{Piece, below, piece_alignment}
-use Rattle.ldmodel.specs.Sorting.{insert_by, sort_by, IsOrdered}
 use Rattle.ldmodel_laws.proofs.Members.{here, later}
 
 -- what a filter has first, its list contains

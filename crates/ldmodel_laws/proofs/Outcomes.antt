@@ -1,21 +1,16 @@
 -- No edit has two outcomes.
-use Rattle.std.proofs.Common.{◌≡◌, ◌≢◌, ◌∙◌, ℕ, List, Result, Ok, Err, false, inl, inr, refl, sym, ap, subst, arith}
-use Rattle.std.proofs.lemmas.Bool.{true≢false}
-use Rattle.ldscript.specs.tokens.Tokens.{Lexeme}
-use Rattle.ldscript.specs.tokens.Modes.{IsCut}
+use Rattle.ldmodel_laws.proofs.Common.{Change, Err, HasClash, IsCut, IsRefusal, IsScript, IsTree, Lexeme, List, Ok}
+use Rattle.ldmodel_laws.proofs.Common.{Project, Result, ScriptRefusal, Statement, ap, arith, false, has_misplaced_dot}
+use Rattle.ldmodel_laws.proofs.Common.{inl, inr, refl, subst, sym, true≢false, ℕ, ◌∙◌, ◌≡◌, ◌≢◌}
 use Rattle.ldscript.specs.tokens.Limits.{IsTokens, IsTokenRefusal, IsWithinLimits, tokens_of}
 use Rattle.ldscript.specs.tokens.declared.refusal.TokenRefusal.TheVariants as token
-use Rattle.ldscript.specs.statements.Dots.{has_misplaced_dot}
-use Rattle.ldscript.specs.statements.Mentions.{HasClash}
-use Rattle.ldscript.specs.statements.declared.statement.Statement.{Statement}
 use Rattle.ldscript.specs.Grammar.{script}
-use Rattle.ldscript.specs.Script.{IsTree, IsNoTree, IsClashing, IsMisplacing, IsScript, IsRefusal}
-use Rattle.ldscript.specs.declared.refusal.ScriptRefusal.{ScriptRefusal}
+use Rattle.ldscript.specs.Script.{IsNoTree, IsClashing, IsMisplacing}
 use Rattle.ldscript.specs.declared.refusal.ScriptRefusal.TheVariants.{NotTokens, NotAScript, Repeated, MisplacedDot}
 use Rattle.ldscript.specs.declared.refusal.ScriptRefusal.TheVariants.{Limit, NoMemory}
-use Rattle.ldmodel.specs.Project.{Project}
-use Rattle.ldmodel.specs.Edits.{Change, Add, Replace, Move, Remove, SetScript, Refusal, NotAScript, Accepts, Refuses}
+use Rattle.ldmodel.specs.Edits.{Add, Replace, Move, Remove, SetScript, Refusal, NotAScript, Accepts, Refuses}
 use Rattle.ldmodel.specs.Edits.{RefusesObject, RefusesScript, After}
+use Rattle.growth.specs.Memory.{no_memory}
 
 abbrev pub OneCut : Type 0
 OneCut = (text : List ℕ) (ls ms : List Lexeme) → IsCut text ls → IsCut text ms → ls ≡ ms
@@ -97,47 +92,49 @@ module _ (one_cut : OneCut) (one_tree : OneTree) (text : List ℕ) where
   not_misplacing s t none x =
       true≢false (sym x.misplaced ∙ ap has_misplaced_dot (one_tree text x.statements s x.tree t) ∙ none)
 
-  read_not_refused : (s : List Statement) (why : ScriptRefusal) → why ≢ NoMemory → IsScript text s → IsRefusal text why
+  read_not_refused : (s : List Statement) (why : ScriptRefusal) → why ≢ NoMemory no_memory
+      → IsScript text s → IsRefusal text why
       → ⊥
   read_not_refused s NotTokens n x y = not_no_tokens x.tree.lexemes x.tree.tokens y
   read_not_refused s NotAScript n x y = not_no_tree s x.tree y
   read_not_refused s Repeated n x y = not_clashing s x.tree x.no_clash y
   read_not_refused s MisplacedDot n x y = not_misplacing s x.tree x.no_misplaced_dot y
   read_not_refused s Limit n x y = not_past_limits x.tree.lexemes x.tree.tokens y
-  read_not_refused s NoMemory n x y = n refl
+  read_not_refused s (NoMemory _) n x y = n refl
 
-  one_why : (a b : ScriptRefusal) → a ≢ NoMemory → b ≢ NoMemory → IsRefusal text a → IsRefusal text b → a ≡ b
+  one_why : (a b : ScriptRefusal) → a ≢ NoMemory no_memory → b ≢ NoMemory no_memory → IsRefusal text a → IsRefusal
+      text b → a ≡ b
   one_why NotTokens NotTokens m n x y = refl
   one_why NotTokens NotAScript m n x y = absurd (not_no_tokens y.lexemes y.tokens x)
   one_why NotTokens Repeated m n x y = absurd (not_no_tokens y.tree.lexemes y.tree.tokens x)
   one_why NotTokens MisplacedDot m n x y = absurd (not_no_tokens y.tree.lexemes y.tree.tokens x)
   one_why NotTokens Limit m n x y = absurd (no_tokens_or_limit x y)
-  one_why NotTokens NoMemory m n x y = absurd (n refl)
+  one_why NotTokens (NoMemory _) m n x y = absurd (n refl)
   one_why NotAScript NotTokens m n x y = absurd (not_no_tokens x.lexemes x.tokens y)
   one_why NotAScript NotAScript m n x y = refl
   one_why NotAScript Repeated m n x y = absurd (not_no_tree y.statements y.tree x)
   one_why NotAScript MisplacedDot m n x y = absurd (not_no_tree y.statements y.tree x)
   one_why NotAScript Limit m n x y = absurd (not_past_limits x.lexemes x.tokens y)
-  one_why NotAScript NoMemory m n x y = absurd (n refl)
+  one_why NotAScript (NoMemory _) m n x y = absurd (n refl)
   one_why Repeated NotTokens m n x y = absurd (not_no_tokens x.tree.lexemes x.tree.tokens y)
   one_why Repeated NotAScript m n x y = absurd (not_no_tree x.statements x.tree y)
   one_why Repeated Repeated m n x y = refl
   one_why Repeated MisplacedDot m n x y = absurd (not_clashing y.statements y.tree y.no_clash x)
   one_why Repeated Limit m n x y = absurd (not_past_limits x.tree.lexemes x.tree.tokens y)
-  one_why Repeated NoMemory m n x y = absurd (n refl)
+  one_why Repeated (NoMemory _) m n x y = absurd (n refl)
   one_why MisplacedDot NotTokens m n x y = absurd (not_no_tokens x.tree.lexemes x.tree.tokens y)
   one_why MisplacedDot NotAScript m n x y = absurd (not_no_tree x.statements x.tree y)
   one_why MisplacedDot Repeated m n x y = absurd (not_clashing x.statements x.tree x.no_clash y)
   one_why MisplacedDot MisplacedDot m n x y = refl
   one_why MisplacedDot Limit m n x y = absurd (not_past_limits x.tree.lexemes x.tree.tokens y)
-  one_why MisplacedDot NoMemory m n x y = absurd (n refl)
+  one_why MisplacedDot (NoMemory _) m n x y = absurd (n refl)
   one_why Limit NotTokens m n x y = absurd (no_tokens_or_limit y x)
   one_why Limit NotAScript m n x y = absurd (not_past_limits y.lexemes y.tokens x)
   one_why Limit Repeated m n x y = absurd (not_past_limits y.tree.lexemes y.tree.tokens x)
   one_why Limit MisplacedDot m n x y = absurd (not_past_limits y.tree.lexemes y.tree.tokens x)
   one_why Limit Limit m n x y = refl
-  one_why Limit NoMemory m n x y = absurd (n refl)
-  one_why NoMemory b m n x y = absurd (m refl)
+  one_why Limit (NoMemory _) m n x y = absurd (n refl)
+  one_why (NoMemory _) b m n x y = absurd (m refl)
 
   one_script : (p q r : Project) → Accepts p (SetScript text) q → Accepts p (SetScript text) r → q ≡ r
   one_script p q r x y = x.2 ∙ ap (λ s. record p { script = s }) (one_tree text x.0 y.0 x.1.tree y.1.tree) ∙ sym y.2

@@ -1,20 +1,11 @@
 -- The rows of a project are, output section by output section, what its input statements have.
-use Rattle.std.proofs.Common.{◌≡◌, ℕ, zero, suc, ◌+◌, ◌≤◌, ◌==◌, Bool, true, false, List, [], ◌∷◌, ◌++◌, length}
-use Rattle.std.proofs.Common.{map, Ok, refl, sym, ap, ◌∙◌, arith, append-nil}
-use Rattle.std.specs.List.{range_with_len}
-use Rattle.std.proofs.lemmas.Bool.{eq-eqb, eqb-true}
-use Rattle.ldscript.specs.statements.Numbering.{InputStatementAt, items, inputs_in, item_inputs, inputs_from}
-use Rattle.ldscript.specs.statements.Numbering.{item_sections, sections_in}
-use Rattle.ldscript.specs.statements.declared.place.InputPlace.TheVariants.{InSection}
-use Rattle.ldscript.specs.statements.declared.statement.Item.{Item}
-use Rattle.ldscript.specs.statements.declared.statement.ItemCommand.{ItemCommand}
+use Rattle.ldmodel_laws.proofs.Common.{Bool, Each, InSection, InputStatementAt, Item, ItemCommand, Layout, List, Ok}
+use Rattle.ldmodel_laws.proofs.Common.{Piece, Project, [], ap, append-nil, arith, below, entries_in, eq-eqb, eqb-true}
+use Rattle.ldmodel_laws.proofs.Common.{false, inputs_from, inputs_in, item_inputs, item_sections, items, length, map}
+use Rattle.ldmodel_laws.proofs.Common.{piece_of, range_with_len, refl, rows, sections_in, sorted_pieces, suc, sym}
+use Rattle.ldmodel_laws.proofs.Common.{taken, true, zero, ℕ, ◌++◌, ◌+◌, ◌==◌, ◌∙◌, ◌∷◌, ◌≡◌, ◌≤◌}
 use Rattle.ldscript.specs.statements.declared.statement.ItemCommand.TheVariants as item
-use Rattle.ldmodel.specs.Each.{Each}
-use Rattle.ldmodel.specs.Layout.{Layout}
 use Rattle.ldmodel.specs.Placement.{placement}
-use Rattle.ldmodel.specs.Project.{Project}
-use Rattle.ldmodel.specs.Rows.{Piece, sorted_pieces, taken, below, piece_of, rows}
-use Rattle.ldmodel_laws.specs.Spread.{entries_in}
 use Rattle.ldmodel_laws.proofs.RowParts.{IsOf, in_rows, of_all, in_none, in_all, in_append, StandsIn, stands_in}
 use Rattle.ldmodel_laws.proofs.RowParts.{stands_discarded, stands_later}
 use Rattle.ldmodel_laws.proofs.RowsPlaced.{coming, all_placed}

@@ -1,26 +1,17 @@
 -- The byte of the image in an input section with file bytes.
-use Rattle.std.proofs.Common.{◌≡◌, ℕ, suc, ◌+◌, ◌-◌, ◌*◌, ◌<◌, ◌≤◌, ◌==◌, nat_lt, nat_le, Bool, true, false, cond, not}
-use Rattle.std.proofs.Common.{◌&&◌, List, [], ◌∷◌, ◌++◌, length, map, filter, find, flat_map, slice_index, Some, refl}
-use Rattle.std.proofs.Common.{sym, ap, ◌∙◌, subst, arith, bytes_eq, length-append}
-use Rattle.std.specs.List.{Contains}
-use Rattle.std.specs.Option.{option_map_or}
-use Rattle.std.proofs.lemmas.Bool.{true≢false, lt-ltb, le-leb, le-ltb, ltb-true, leb-true, eqb-true}
-use Rattle.std.proofs.lemmas.Bool.{and_parts, and_from}
-use Rattle.std.proofs.lemmas.Slice.Eq.{bytes_eq-Decides}
-use Rattle.std.proofs.lemmas.List.{map-append}
-use Rattle.ldmodel.specs.Each.{Each}
+use Rattle.ldmodel_laws.proofs.Common.{AreNamed, Bool, Contains, Each, EachLater, IsSpread, Layout, List, PlacedOutput}
+use Rattle.ldmodel_laws.proofs.Common.{PlacedPiece, Project, Segment, Some, [], and_from, and_parts, ap, arith, byte_at}
+use Rattle.ldmodel_laws.proofs.Common.{bytes_eq, bytes_eq-Decides, cond, covering_data, covering_piece, covers}
+use Rattle.ldmodel_laws.proofs.Common.{eqb-true, false, file_headers, file_section_at, filter, find, flat_map, groups}
+use Rattle.ldmodel_laws.proofs.Common.{insert_by, le-leb, le-ltb, leb-true, length, length-append, lt-ltb, ltb-true}
+use Rattle.ldmodel_laws.proofs.Common.{map, map-append, nat_le, nat_lt, not, offset_in_file, option_map_or, piece_end}
+use Rattle.ldmodel_laws.proofs.Common.{refl, segments, slice_index, sort_by, subst, suc, sym, tail_at, true, true≢false}
+use Rattle.ldmodel_laws.proofs.Common.{ℕ, ◌&&◌, ◌*◌, ◌++◌, ◌+◌, ◌-◌, ◌<◌, ◌==◌, ◌∙◌, ◌∷◌, ◌≡◌, ◌≤◌}
 use Rattle.ldmodel.specs.Headers.{elf_header, program_header, program_headers, ascending}
-use Rattle.ldmodel.specs.Image.{byte_at, covering_data, covering_piece, covers, file_headers, file_section_at, tail_at}
-use Rattle.ldmodel.specs.Layout.{Layout, PlacedPiece, PlacedOutput}
-use Rattle.ldmodel.specs.Project.{Project}
-use Rattle.ldmodel.specs.Segments.{Group, Segment, SectionInFile, file_offset, groups, headers_end}
-use Rattle.ldmodel.specs.Segments.{in_file, in_segment, loaded_end, begun, begun_from, file_end, nonempty}
-use Rattle.ldmodel.specs.Segments.{group_sections, segments}
-use Rattle.ldmodel.specs.Sorting.{insert_by, sort_by}
+use Rattle.ldmodel.specs.Segments.{Group, SectionInFile, file_offset, headers_end, in_file, in_segment, loaded_end}
+use Rattle.ldmodel.specs.Segments.{begun, begun_from, file_end, nonempty, group_sections}
 use Rattle.ldmodel_laws.specs.ByteCases.{byte_among, byte_past_headers, output_byte, part_byte}
 use Rattle.ldmodel_laws.specs.FileOrder.{AreInFileOrder, end_in_file}
-use Rattle.ldmodel_laws.specs.ImageBytes.{AreNamed, offset_in_file}
-use Rattle.ldmodel_laws.specs.Spread.{EachLater, IsSpread, piece_end}
 use Rattle.ldmodel_laws.proofs.ByteCases.{by_cases}
 use Rattle.ldmodel_laws.proofs.FileOrder.{files_in_order}
 use Rattle.ldmodel_laws.proofs.Finding.{Comes, NotBoth, find_filter, find_only, in_map}

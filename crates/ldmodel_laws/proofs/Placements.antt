@@ -1,32 +1,20 @@
 -- The placement of a script is what the equations between neighbours say, at each depth.
-use Rattle.std.proofs.Common.{◌≡◌, ◌↔◌, ℕ, ◌+◌, ◌^◌, ◌<◌, ◌≤◌, Bool, true, false, List, [], ◌∷◌, ◌++◌, Result, Ok, Err}
-use Rattle.std.proofs.Common.{refl, sym, ap, ◌∙◌, subst, cond, ◌==◌, nat_lt, arith}
-use Rattle.std.proofs.lemmas.Bool.{ltb-true, ltb-false, lt-ltb, le-ltb}
-use Rattle.ldscript.specs.statements.declared.section.BodyCommand.{BodyCommand}
+use Rattle.ldmodel_laws.proofs.Common.{BodyCommand, Bool, Err, Fault, IsLeastMultiple, ItemCommand, Layout, List, Ok}
+use Rattle.ldmodel_laws.proofs.Common.{OutputSection, PastAddressSpace, Piece, PieceTo, Result, Statement, [], and_then}
+use Rattle.ldmodel_laws.proofs.Common.{ap, arith, cond, false, le-ltb, lt-ltb, ltb-false, ltb-true, nat_lt, noted}
+use Rattle.ldmodel_laws.proofs.Common.{nothing_placed, past_inputs, piece_alignment, refl, run, subst, sym, true}
+use Rattle.ldmodel_laws.proofs.Common.{with_piece, ℕ, ◌++◌, ◌+◌, ◌<◌, ◌==◌, ◌^◌, ◌↔◌, ◌∙◌, ◌∷◌, ◌≡◌, ◌≤◌}
 use Rattle.ldscript.specs.statements.declared.section.BodyCommand.TheVariants as body
-use Rattle.ldscript.specs.statements.declared.section.OutputSection.{OutputSection}
 use Rattle.ldscript.specs.statements.declared.statement.Command.{Command}
 use Rattle.ldscript.specs.statements.declared.statement.Command.TheVariants as top
-use Rattle.ldscript.specs.statements.declared.statement.ItemCommand.{ItemCommand}
 use Rattle.ldscript.specs.statements.declared.statement.ItemCommand.TheVariants as item
-use Rattle.ldscript.specs.statements.declared.statement.Statement.{Statement}
 use Rattle.ldmodel.specs.Placement.{Body, body_command_step, body_step, piece_placed, piece_start, pieces_placed}
-use Rattle.ldmodel.specs.Placement.{with_dot}
-use Rattle.ldmodel.specs.Chain.{and_then, run}
-use Rattle.ldmodel.specs.Fault.{Fault, PastAddressSpace}
-use Rattle.ldmodel.specs.Layout.{Layout, noted, nothing_placed}
-use Rattle.ldmodel.specs.Placement.{command_step, item_command_step, item_step, opened, placement, region_step}
-use Rattle.ldmodel.specs.Placement.{section_step, statement_step, next_row}
-use Rattle.ldmodel.specs.Rows.{Piece, piece_alignment}
-use Rattle.ldmodel.specs.Placement.{section_end, Head, head_of}
-use Rattle.ldmodel_laws.specs.Placed.{Pieces, none, other, one_more, PieceFails, first, after_one, InputsTo}
-use Rattle.ldmodel_laws.specs.Placed.{past_inputs}
-use Rattle.ldmodel_laws.specs.Placed.{SectionTo}
+use Rattle.ldmodel.specs.Placement.{with_dot, command_step, item_command_step, item_step, opened, placement}
+use Rattle.ldmodel.specs.Placement.{region_step, section_step, statement_step, next_row, section_end, Head, head_of}
+use Rattle.ldmodel_laws.specs.Placed.{Pieces, none, other, one_more, PieceFails, first, after_one, InputsTo, SectionTo}
 use Rattle.ldmodel_laws.specs.Placed.{BodyCommandTo, BodyCommandAt, BodyTo, BodyAt, SectionAt, in_head, in_body, at_end}
 use Rattle.ldmodel_laws.specs.Placed.{ItemCommandTo, ItemCommandAt, ItemTo, ItemAt, RegionTo, RegionAt, CommandTo}
-use Rattle.ldmodel_laws.specs.Placed.{CommandAt}
-use Rattle.ldmodel_laws.specs.Placed.{IsLeastMultiple, PieceTo, PieceAt, with_piece}
-use Rattle.ldmodel_laws.specs.Placed.{StatementTo, StatementAt, IsPlacement, IsFirstFault}
+use Rattle.ldmodel_laws.specs.Placed.{CommandAt, PieceAt, StatementTo, StatementAt, IsPlacement, IsFirstFault}
 use Rattle.ldmodel_laws.proofs.Multiples.{least_multiple, one_least_multiple}
 use Rattle.ldmodel_laws.proofs.Running.{IsStep, run_of, stop_of, runs_of, stops_of}
 

@@ -1,9 +1,7 @@
 -- What is reached in as many rounds as there are nodes is what paths lead to.
-use Rattle.std.proofs.Common.{◌≡◌, ◌<◌, ◌≤◌, ◌+◌, ◌-◌, ◌⊎◌, ◌↔◌, ℕ, zero, suc, Bool, true, ◌||◌, List, length, filter}
-use Rattle.std.proofs.Common.{refl, ap, sym, ◌∙◌, subst, inl, inr, ⊎_elim, arith}
-use Rattle.std.specs.List.{Contains, list_any}
-use Rattle.std.proofs.lemmas.Bool.{or_cases, or_left, or_right}
-use Rattle.ldmodel.specs.Reach.{reached_in, reached, Path, start, step}
+use Rattle.ldmodel_laws.proofs.Common.{Bool, Contains, List, Path, ap, arith, filter, inl, inr, length, list_any}
+use Rattle.ldmodel_laws.proofs.Common.{or_cases, or_left, or_right, reached, reached_in, refl, start, step, subst, suc}
+use Rattle.ldmodel_laws.proofs.Common.{sym, true, zero, ℕ, ⊎_elim, ◌+◌, ◌-◌, ◌<◌, ◌||◌, ◌↔◌, ◌∙◌, ◌≡◌, ◌≤◌, ◌⊎◌}
 use Rattle.ldmodel_laws.proofs.Members.{Passes, in_filter, filter_in, in_any, any_in, filter_shorter, same_or_longer}
 
 module _ {X : Type 0} (is_start : X → Bool) (leads : X → X → Bool) (nodes : List X) where

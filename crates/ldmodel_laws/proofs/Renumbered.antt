@@ -1,15 +1,11 @@
 -- A decision doesn't depend on the numbers of objects.
-use Rattle.std.proofs.Common.{◌≡◌, ◌+◌, ℕ, suc, Bool, true, false, cond, not, ◌&&◌, ◌||◌, List, [], ◌∷◌, ◌++◌, length}
-use Rattle.std.proofs.Common.{map, filter, refl, ap, sym, ◌∙◌, nat_lt}
-use Rattle.std.specs.Prelude.{max}
-use Rattle.std.specs.List.{list_any, enumerate_from}
-use Rattle.std.proofs.lemmas.List.{map-append}
-use Rattle.elfobj.specs.Symbols.{NamedSymbol}
+use Rattle.ldmodel_laws.proofs.Common.{Bool, List, NamedObject, NamedSymbol, Project, [], ap, cond, enumerate_from}
+use Rattle.ldmodel_laws.proofs.Common.{false, filter, length, list_any, map, map-append, max, nat_lt, not, refl, suc}
+use Rattle.ldmodel_laws.proofs.Common.{sym, true, ℕ, ◌&&◌, ◌++◌, ◌+◌, ◌||◌, ◌∙◌, ◌∷◌, ◌≡◌}
 use Rattle.ldmodel.specs.Names.{Declaration, Decision, Strong, Script, Common, Weak, Provided, Undefined, Duplicate}
 use Rattle.ldmodel.specs.Names.{is_strong, is_common, is_weak, is_undefined, greatest, common_size, common_alignment}
 use Rattle.ldmodel.specs.Names.{for_first, decided, is_local, declaration, all_entries, declarations_in}
 use Rattle.ldmodel.specs.Names.{declarations_of, entries, is_of_name, decision}
-use Rattle.ldmodel.specs.Project.{Project, NamedObject}
 use Rattle.ldmodel.specs.ScriptNames.{is_assigned, is_provided}
 use Rattle.ldmodel_laws.specs.Renumbering.{renumbered, renumbered_decision, renumbered_table, AreTablesOf}
 

@@ -1,25 +1,14 @@
 -- What an input statement takes of a row, and the rows by what each input statement has.
-use Rattle.std.proofs.Common.{◌≡◌, ℕ, suc, ◌+◌, ◌<◌, ◌==◌, Bool, true, false, cond, List, [], ◌∷◌, ◌++◌, length, map}
-use Rattle.std.proofs.Common.{flat_map, Ok, refl, sym, ap, ◌∙◌, subst, arith, append_assoc, append-nil}
-use Rattle.std.specs.List.{enumerate_from}
-use Rattle.std.proofs.lemmas.List.{map-append}
-use Rattle.std.proofs.lemmas.Bool.{eqb-true}
-use Rattle.ldscript.specs.statements.Numbering.{InputStatementAt, inputs_of, inputs_in, item_inputs, inputs_from}
-use Rattle.ldscript.specs.statements.Numbering.{discarded_inputs, item_sections}
+use Rattle.ldmodel_laws.proofs.Common.{BodyCommand, BodyStatement, Bool, Each, InSection, InputStatementAt, Item}
+use Rattle.ldmodel_laws.proofs.Common.{ItemCommand, List, Ok, Piece, PieceTo, PlacedPiece, [], and_then, ap, append-nil}
+use Rattle.ldmodel_laws.proofs.Common.{append_assoc, arith, cond, discarded_inputs, enumerate_from, eqb-true, false}
+use Rattle.ldmodel_laws.proofs.Common.{flat_map, inputs_from, inputs_in, inputs_of, is_in_section, item_inputs}
+use Rattle.ldmodel_laws.proofs.Common.{item_sections, length, map, map-append, refl, subst, suc, sym, true, ℕ, ◌++◌}
+use Rattle.ldmodel_laws.proofs.Common.{◌+◌, ◌<◌, ◌==◌, ◌∙◌, ◌∷◌, ◌≡◌}
 use Rattle.ldscript.specs.statements.declared.input.InputStatement.{InputStatement}
-use Rattle.ldscript.specs.statements.declared.place.InputPlace.TheVariants.{InSection}
-use Rattle.ldscript.specs.statements.declared.section.BodyCommand.{BodyCommand}
 use Rattle.ldscript.specs.statements.declared.section.BodyCommand.TheVariants as body
-use Rattle.ldscript.specs.statements.declared.section.BodyStatement.{BodyStatement}
-use Rattle.ldscript.specs.statements.declared.statement.Item.{Item}
-use Rattle.ldscript.specs.statements.declared.statement.ItemCommand.{ItemCommand}
 use Rattle.ldscript.specs.statements.declared.statement.ItemCommand.TheVariants as item
 use Rattle.ldmodel.specs.Placement.{Body, piece_placed, pieces_placed}
-use Rattle.ldmodel.specs.Chain.{and_then}
-use Rattle.ldmodel.specs.Each.{Each}
-use Rattle.ldmodel.specs.Layout.{PlacedPiece}
-use Rattle.ldmodel.specs.Rows.{Piece, is_in_section}
-use Rattle.ldmodel_laws.specs.Placed.{PieceTo}
 use Rattle.ldmodel_laws.proofs.Effects.{came, Kept, kept_same, kept_all}
 use Rattle.ldmodel_laws.proofs.Placements.{piece_to}
 use Rattle.ldmodel_laws.proofs.EachOf.{each_append}

@@ -1,31 +1,17 @@
 -- Each entry of every row is placed once, in the order of the row.
-use Rattle.std.proofs.Common.{◌≡◌, ℕ, suc, ◌+◌, List, [], ◌∷◌, ◌++◌, length, map, Ok, refl, sym, ap, ◌∙◌, subst, arith}
-use Rattle.std.proofs.Common.{append_assoc, append-nil, length-append}
-use Rattle.std.specs.List.{slice_index_or}
+use Rattle.ldmodel_laws.proofs.Common.{BodyCommand, BodyStatement, Each, InSection, InputStatementAt, Item, ItemCommand}
+use Rattle.ldmodel_laws.proofs.Common.{Layout, List, Ok, OutputSection, Piece, PlacedOutput, Statement, [], ap}
+use Rattle.ldmodel_laws.proofs.Common.{append-nil, append_assoc, arith, entries_in, inputs_in, inputs_of, item_inputs}
+use Rattle.ldmodel_laws.proofs.Common.{item_sections, items, items_of, length, length-append, length-map, map}
+use Rattle.ldmodel_laws.proofs.Common.{map-append, noted, nothing_placed, past_inputs, refl, slice_index_or, subst, suc}
+use Rattle.ldmodel_laws.proofs.Common.{sym, ℕ, ◌++◌, ◌+◌, ◌∙◌, ◌∷◌, ◌≡◌}
 use Rattle.std.proofs.Math.Seq.{get_or-append_seam}
-use Rattle.std.proofs.lemmas.List.{map-append, length-map}
-use Rattle.ldscript.specs.statements.Numbering.{InputStatementAt, items, items_of, inputs_of, inputs_in, item_inputs}
-use Rattle.ldscript.specs.statements.Numbering.{item_sections}
-use Rattle.ldscript.specs.statements.declared.place.InputPlace.TheVariants.{InSection}
-use Rattle.ldscript.specs.statements.declared.section.BodyCommand.{BodyCommand}
 use Rattle.ldscript.specs.statements.declared.section.BodyCommand.TheVariants as body
-use Rattle.ldscript.specs.statements.declared.section.BodyStatement.{BodyStatement}
-use Rattle.ldscript.specs.statements.declared.section.OutputSection.{OutputSection}
 use Rattle.ldscript.specs.statements.declared.statement.Command.{Command}
 use Rattle.ldscript.specs.statements.declared.statement.Command.TheVariants as top
-use Rattle.ldscript.specs.statements.declared.statement.Item.{Item}
-use Rattle.ldscript.specs.statements.declared.statement.ItemCommand.{ItemCommand}
 use Rattle.ldscript.specs.statements.declared.statement.ItemCommand.TheVariants as item
-use Rattle.ldscript.specs.statements.declared.statement.Statement.{Statement}
-use Rattle.ldmodel.specs.Placement.{Body, body_step, body_command_step, pieces_placed}
-use Rattle.ldmodel.specs.Each.{Each}
-use Rattle.ldmodel.specs.Layout.{Layout, PlacedOutput, noted, nothing_placed}
-use Rattle.ldmodel.specs.Placement.{command_step, item_command_step, item_step, next_row, opened, placement}
-use Rattle.ldmodel.specs.Placement.{region_step, statement_step}
-use Rattle.ldmodel.specs.Rows.{Piece}
-use Rattle.ldmodel.specs.Placement.{placed_section}
-use Rattle.ldmodel_laws.specs.Placed.{past_inputs}
-use Rattle.ldmodel_laws.specs.Spread.{entries_in}
+use Rattle.ldmodel.specs.Placement.{Body, body_step, body_command_step, pieces_placed, command_step, item_command_step}
+use Rattle.ldmodel.specs.Placement.{item_step, next_row, opened, placement, region_step, statement_step, placed_section}
 use Rattle.ldmodel_laws.proofs.Effects.{came, run_by, Kept, kept_same, Quiet, still, renamed, onward, added, named_kept}
 use Rattle.ldmodel_laws.proofs.Effects.{
   directive_named,

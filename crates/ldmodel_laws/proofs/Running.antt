@@ -1,7 +1,5 @@
 -- A computation in steps gives what the equations between neighbours say, and the other way round.
-use Rattle.std.proofs.Common.{◌≡◌, List, [], ◌∷◌, Result, Ok, Err, refl}
-use Rattle.ldmodel.specs.Chain.{and_then, run}
-use Rattle.ldmodel.specs.Fault.{Fault}
+use Rattle.ldmodel_laws.proofs.Common.{Err, Fault, List, Ok, Result, [], and_then, refl, run, ◌∷◌, ◌≡◌}
 use Rattle.ldmodel_laws.specs.Placed.{Leads, ended, next, Fails, here, later}
 
 -- what a step gives is what is said of it

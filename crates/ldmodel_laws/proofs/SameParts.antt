@@ -1,9 +1,6 @@
 -- Two parts of an object that pass for the same are equal.
-use Rattle.std.proofs.Common.{◌≡◌, refl, ap, true}
-use Rattle.std.proofs.lemmas.Bool.{eqb-true, eq-eqb, false≢true}
-use Rattle.ldmodel.specs.Sections.{is_same_part}
-use Rattle.ldmodel.specs.declared.sections.Part.{Part}
-use Rattle.ldmodel.specs.declared.sections.Part.TheVariants.{InTable, InCommon}
+use Rattle.ldmodel_laws.proofs.Common.{InCommon, InTable, Part, ap, eq-eqb, eqb-true, false≢true, is_same_part, refl}
+use Rattle.ldmodel_laws.proofs.Common.{true, ◌≡◌}
 
 pub same_part : (q r : Part) → is_same_part q r ≡ true → q ≡ r
 same_part (InTable k) (InTable n) e = ap (λ m. InTable (record { 0 = m })) (eqb-true k.0 n.0 e)

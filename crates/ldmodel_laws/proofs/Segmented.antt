@@ -1,9 +1,8 @@
 -- The segments of a list of output sections are its one file layout.
-use Rattle.std.proofs.Common.{◌≡◌, ℕ, suc, ◌≤◌, List, [], ◌∷◌, length, map, refl, ap, sym, ◌∙◌, subst, arith}
+use Rattle.ldmodel_laws.proofs.Common.{List, PlacedOutput, Segment, [], ap, arith, groups, length, map, refl, segments}
+use Rattle.ldmodel_laws.proofs.Common.{subst, suc, sym, ℕ, ◌∙◌, ◌∷◌, ◌≡◌, ◌≤◌}
 use Rattle.ldmodel_laws.specs.FileLayout.{IsLeastCongruent, BeginFrom, IsFileLayout, IsGrouping}
-use Rattle.ldmodel.specs.Layout.{PlacedOutput}
-use Rattle.ldmodel.specs.Segments.{Group, Segment, groups, segments, begun, begun_from, congruent, file_end}
-use Rattle.ldmodel.specs.Segments.{headers_end, nonempty, segment_start}
+use Rattle.ldmodel.specs.Segments.{Group, begun, begun_from, congruent, file_end, headers_end, nonempty, segment_start}
 use Rattle.ldmodel_laws.proofs.Grouped.{is_grouping, one_grouping}
 
 least : (end at : ℕ) → IsLeastCongruent end at (congruent end at)

@@ -1,34 +1,16 @@
 -- The sites of a link stand in the order of its objects, and in that of its input sections: both have the same ones.
-use Rattle.std.proofs.Common.{◌≡◌, ℕ, ◌==◌, Bool, true, false, cond, ◌&&◌, List, [], ◌∷◌, ◌++◌, map, filter}
-use Rattle.std.proofs.Common.{flat_map, Option, Some, None, refl, sym, ap, ◌∙◌, subst, bytes_eq}
-use Rattle.std.specs.List.{Contains}
-use Rattle.std.specs.List.Sorted.{IsPermutation}
-use Rattle.std.specs.Option.{option_map_or}
-use Rattle.std.proofs.lemmas.Bool.{true≢false, eqb-true, eq-eqb}
+use Rattle.ldmodel_laws.proofs.Common.{AreNamesDistinct, AreNumbered, Bool, Contains, Differ, Each, EachLater, InCommon}
+use Rattle.ldmodel_laws.proofs.Common.{InTable, IsFaultless, IsPermutation, IsPlacedOnce, Layout, LinkedSection, List}
+use Rattle.ldmodel_laws.proofs.Common.{NamedObject, None, Option, Part, PlacedOutput, PlacedPiece, Project}
+use Rattle.ldmodel_laws.proofs.Common.{SectionIndex, Site, Some, [], ap, bytes_eq, bytes_eq-Decides, cond, eq-eqb}
+use Rattle.ldmodel_laws.proofs.Common.{eqb-true, false, filter, filter-append, flat_map, is_part, is_same_part}
+use Rattle.ldmodel_laws.proofs.Common.{linked_pieces, map, object_named, option_map_or, placed_part, placed_pieces}
+use Rattle.ldmodel_laws.proofs.Common.{refl, section_numbered, segments, sites, sites_at, sites_of_section}
+use Rattle.ldmodel_laws.proofs.Common.{sites_outside, subst, sym, true, true≢false, ℕ, ◌&&◌, ◌++◌, ◌==◌, ◌∙◌, ◌∷◌, ◌≡◌}
 use Rattle.std.proofs.lemmas.List.Concat.{flat_map-append}
 use Rattle.std.proofs.lemmas.List.Sorted.{IsPermutation-trans}
 use Rattle.std.proofs.lemmas.List.Folds.{flat_map-map}
-use Rattle.std.proofs.lemmas.List.Elements.{filter-append}
-use Rattle.std.proofs.lemmas.Slice.Eq.{bytes_eq-Decides}
-use Rattle.elfobj.specs.Sections.{LinkedSection}
-use Rattle.elfobj.specs.declared.section.SectionIndex.{SectionIndex}
-use Rattle.ldmodel.specs.Edits.{AreNamesDistinct}
-use Rattle.ldmodel.specs.Each.{Each}
-use Rattle.ldmodel.specs.Image.{object_named, section_numbered}
-use Rattle.ldmodel.specs.Layout.{Layout, PlacedPiece, PlacedOutput}
-use Rattle.ldmodel.specs.Project.{NamedObject, Project}
-use Rattle.ldmodel.specs.Relocations.{Site, sites, sites_at, sites_of_section}
-use Rattle.ldmodel.specs.Sections.{is_same_part}
-use Rattle.ldmodel.specs.Segments.{segments}
-use Rattle.ldmodel.specs.Stayed.{GoodLink, LinkedPiece, has_stayed, linked_piece, linked_pieces, link_pieces, sites_in}
-use Rattle.ldmodel.specs.Stayed.{stayed}
-use Rattle.ldmodel.specs.SymbolValues.{is_part, placed_part, placed_pieces}
-use Rattle.ldmodel.specs.WorkBound.{sites_outside}
-use Rattle.ldmodel.specs.declared.sections.Part.{Part}
-use Rattle.ldmodel.specs.declared.sections.Part.TheVariants.{InTable, InCommon}
-use Rattle.ldmodel_laws.specs.PlacedOnce.{AreNumbered, Differ, IsPlacedOnce}
-use Rattle.ldmodel_laws.specs.Spread.{EachLater}
-use Rattle.ldmodel_laws.specs.Untouched.{IsFaultless}
+use Rattle.ldmodel.specs.Stayed.{GoodLink, LinkedPiece, has_stayed, linked_piece, link_pieces, sites_in, stayed}
 use Rattle.ldmodel_laws.proofs.Finding.{NotBoth, member_of}
 use Rattle.ldmodel_laws.proofs.Goodness.{not_both, of_placement, placed_once}
 use Rattle.ldmodel_laws.proofs.Joined.{exchanged, filter_all, filter_joined, found_joined}

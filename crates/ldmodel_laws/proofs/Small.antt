@@ -1,12 +1,10 @@
 -- The value of an expression is below 2^64.
-use Rattle.std.proofs.Common.{◌≡◌, ℕ, ◌+◌, ◌-◌, ◌*◌, ◌/◌, ◌%◌, ◌^◌, ◌<◌, ◌==◌, nat_lt, nat_le, Bool, true, false, cond}
-use Rattle.std.proofs.Common.{not, List, Option, Some, None, Result, Ok, Err, refl, subst, arith}
+use Rattle.ldmodel_laws.proofs.Common.{Bool, Err, Expr, List, None, Ok, Option, Result, Some, and_le_l, and_then, arith}
+use Rattle.ldmodel_laws.proofs.Common.{cond, false, mod_below, nat_le, nat_lt, next_multiple_of, not, option_map, or_lt}
+use Rattle.ldmodel_laws.proofs.Common.{refl, subst, true, value, ℕ, ◌%◌, ◌*◌, ◌+◌, ◌-◌, ◌/◌, ◌<◌, ◌==◌, ◌^◌, ◌≡◌}
 use Rattle.std.proofs.Math.Nat.{div-le_self, mod-le}
-use Rattle.std.proofs.lemmas.Nat.{mod_below, and_le_l, or_lt}
-use Rattle.std.specs.Int.{is_power_of_two, next_multiple_of}
-use Rattle.std.specs.Option.{option_map}
+use Rattle.std.specs.Int.{is_power_of_two}
 use Rattle.ldscript.specs.terms.Expressions as expression
-use Rattle.ldscript.specs.terms.Expressions.{Expr}
 use Rattle.ldscript.specs.terms.declared.operator.UnaryOperator.{UnaryOperator}
 use Rattle.ldscript.specs.terms.declared.operator.UnaryOperator.TheVariants as unary
 use Rattle.ldscript.specs.terms.declared.operator.BinaryOperator.{BinaryOperator}
@@ -15,10 +13,8 @@ use Rattle.ldscript.specs.terms.declared.expression.RegionQuery.{RegionQuery}
 use Rattle.ldscript.specs.terms.declared.expression.RegionQuery.TheVariants as region
 use Rattle.ldscript.specs.terms.declared.expression.SectionQuery.{SectionQuery}
 use Rattle.ldscript.specs.terms.declared.expression.SectionQuery.TheVariants as section
-use Rattle.ldmodel.specs.Chain.{and_then}
-use Rattle.ldmodel.specs.Value.{Scope, SectionNumbers, RegionNumbers, ValueFault, NotReady, NoValue, value, named}
-use Rattle.ldmodel.specs.Value.{truth, is_true}
-use Rattle.ldmodel.specs.Value.{unary_value, binary_value, decides_alone, divided, aligned, asked_of_region}
+use Rattle.ldmodel.specs.Value.{Scope, SectionNumbers, RegionNumbers, ValueFault, NotReady, NoValue, named, truth}
+use Rattle.ldmodel.specs.Value.{is_true, unary_value, binary_value, decides_alone, divided, aligned, asked_of_region}
 use Rattle.ldmodel.specs.Value.{asked_of_section}
 use Rattle.ldmodel_laws.specs.Bounds.{HasSmallNumbers, IsSmallScope, AreSmallSectionNumbers, AreSmallRegionNumbers}
 

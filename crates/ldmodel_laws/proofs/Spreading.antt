@@ -1,21 +1,14 @@
--- Input sections and data commands of a placement do not meet.
-use Rattle.std.proofs.Common.{◌≡◌, inl, inr, ℕ, ◌+◌, ◌-◌, ◌≤◌, List, [], ◌∷◌, ◌++◌, length, Ok, refl, sym, subst, arith}
-use Rattle.ldscript.specs.statements.declared.section.BodyStatement.{BodyStatement}
-use Rattle.ldscript.specs.statements.declared.section.OutputSection.{OutputSection}
+-- Input sections and data commands of a placement do not overlap.
+use Rattle.ldmodel_laws.proofs.Common.{BodyStatement, Each, EachLater, IsSpread, ItemCommand, Layout, List, Ok}
+use Rattle.ldmodel_laws.proofs.Common.{OutputSection, Piece, PieceTo, PlacedData, PlacedOutput, PlacedPiece, Statement}
+use Rattle.ldmodel_laws.proofs.Common.{[], arith, inl, inr, length, noted, nothing_placed, past_inputs, piece_end, refl}
+use Rattle.ldmodel_laws.proofs.Common.{subst, sym, ℕ, ◌++◌, ◌+◌, ◌-◌, ◌∷◌, ◌≡◌, ◌≤◌}
 use Rattle.ldscript.specs.statements.declared.statement.Command.{Command}
 use Rattle.ldscript.specs.statements.declared.statement.Command.TheVariants as top
-use Rattle.ldscript.specs.statements.declared.statement.ItemCommand.{ItemCommand}
 use Rattle.ldscript.specs.statements.declared.statement.ItemCommand.TheVariants as item
-use Rattle.ldscript.specs.statements.declared.statement.Statement.{Statement}
-use Rattle.ldmodel.specs.Placement.{Body, body_step}
-use Rattle.ldmodel.specs.Each.{Each}
-use Rattle.ldmodel.specs.Layout.{Layout, PlacedOutput, PlacedPiece, PlacedData, noted, nothing_placed}
-use Rattle.ldmodel.specs.Placement.{command_step, item_command_step, item_step, next_row, opened, placement}
-use Rattle.ldmodel.specs.Placement.{region_step, statement_step}
-use Rattle.ldmodel.specs.Rows.{Piece}
-use Rattle.ldmodel.specs.Placement.{placed_section}
-use Rattle.ldmodel_laws.specs.Placed.{PieceTo, past_inputs}
-use Rattle.ldmodel_laws.specs.Spread.{AreApart, AreSpread, EachLater, IsSpread, piece_end, data_end}
+use Rattle.ldmodel.specs.Placement.{Body, body_step, command_step, item_command_step, item_step, next_row, opened}
+use Rattle.ldmodel.specs.Placement.{placement, region_step, statement_step, placed_section}
+use Rattle.ldmodel_laws.specs.Spread.{AreApart, AreSpread, data_end}
 use Rattle.ldmodel_laws.proofs.Effects.{run_by, Kept, kept_same, Named, unchanged, named, Quiet, still, renamed, onward}
 use Rattle.ldmodel_laws.proofs.Effects.{added, named_kept, directive_named, free_dot_kept, region_kept, SectionPlaced}
 use Rattle.ldmodel_laws.proofs.Effects.{section_placed, command_by}

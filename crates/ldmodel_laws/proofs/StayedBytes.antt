@@ -1,23 +1,15 @@
 -- The bytes of the input sections that stayed are no more than those of the image.
-use Rattle.std.proofs.Common.{◌≡◌, ℕ, ◌+◌, ◌-◌, ◌≤◌, ◌==◌, Bool, true, false, cond, not, ◌&&◌, List, [], ◌∷◌, map}
-use Rattle.std.proofs.Common.{filter}
-use Rattle.std.proofs.Common.{flat_map, length, refl, sym, ap, ◌∙◌, subst, arith}
+use Rattle.ldmodel_laws.proofs.Common.{Bool, Contains, Each, EachLater, IsGood, IsSpread, List, PlacedOutput}
+use Rattle.ldmodel_laws.proofs.Common.{PlacedPiece, Segment, [], ap, arith, bytes_stayed, cond, false, filter, flat_map}
+use Rattle.ldmodel_laws.proofs.Common.{image_length, length, linked_pieces, map, not, refl, segments, subst, sym, true}
+use Rattle.ldmodel_laws.proofs.Common.{ℕ, ◌&&◌, ◌+◌, ◌-◌, ◌==◌, ◌∙◌, ◌∷◌, ◌≡◌, ◌≤◌}
 use Rattle.std.specs.Prelude.{sum_by}
-use Rattle.std.specs.List.{Contains}
 use Rattle.std.proofs.lemmas.Bool.Decides.{nat_tests}
 use Rattle.std.proofs.lemmas.List.Sums.{sum_by-append, sum_by-cons}
-use Rattle.ldmodel.specs.Each.{Each}
-use Rattle.ldmodel.specs.Layout.{PlacedPiece, PlacedOutput}
-use Rattle.ldmodel.specs.SectionHeaders.{image_length}
-use Rattle.ldmodel.specs.Segments.{SectionInFile, Segment, file_offset, headers_end, in_file}
-use Rattle.ldmodel.specs.Segments.{loaded_end}
-use Rattle.ldmodel.specs.Segments.{nonempty, segments}
-use Rattle.ldmodel.specs.Stayed.{FileRange, GoodLink, LinkedPiece, has_stayed, linked_piece, linked_pieces, link_pieces}
-use Rattle.ldmodel.specs.Stayed.{range_in, stayed}
-use Rattle.ldmodel.specs.WorkBound.{bytes_stayed}
+use Rattle.ldmodel.specs.Segments.{SectionInFile, file_offset, headers_end, in_file, loaded_end, nonempty}
+use Rattle.ldmodel.specs.Stayed.{FileRange, GoodLink, LinkedPiece, has_stayed, linked_piece, link_pieces, range_in}
+use Rattle.ldmodel.specs.Stayed.{stayed}
 use Rattle.ldmodel_laws.specs.FileOrder.{AreInFileOrder, end_in_file, with_file_bytes}
-use Rattle.ldmodel_laws.specs.Spread.{EachLater, IsSpread}
-use Rattle.ldmodel_laws.specs.Untouched.{IsGood}
 use Rattle.ldmodel_laws.proofs.FileOrder.{files_in_order}
 use Rattle.ldmodel_laws.proofs.Finding.{member_of}
 use Rattle.ldmodel_laws.proofs.InImage.{loaded_in_image}

@@ -1,35 +1,18 @@
 -- Which sites lie in input sections that stayed, by the object and the number of their section; and where an index
 -- finds those that are retargeted.
-use Rattle.std.proofs.Common.{◌≡◌, ◌↔◌, ℕ, Bool, true, false, not, ◌&&◌, List, [], ◌∷◌, ◌++◌, map, filter, flat_map}
-use Rattle.std.proofs.Common.{Option, Some, None, Ok, refl, sym, ap, ◌∙◌, subst, bytes_eq}
-use Rattle.std.specs.List.{Contains}
-use Rattle.std.specs.List.Sorted.{IsPermutation}
-use Rattle.std.specs.Option.{option_map_or}
-use Rattle.std.proofs.lemmas.Bool.{true≢false, and_from}
+use Rattle.ldmodel_laws.proofs.Common.{Bool, Contains, EachLater, HasField, HasSameValue, InCommon, InTable, IsGood}
+use Rattle.ldmodel_laws.proofs.Common.{IsPermutation, IsPlacedOnce, Layout, LinkedSection, List, NamedObject}
+use Rattle.ldmodel_laws.proofs.Common.{NamedSymbol, None, NotDefined, Ok, Option, Part, PlacedOutput, PlacedPiece}
+use Rattle.ldmodel_laws.proofs.Common.{Project, Relocation, Site, Some, Target, [], and_from, ap, bytes_eq}
+use Rattle.ldmodel_laws.proofs.Common.{bytes_eq-Decides, false, filter, flat_map, is_evaluated, is_same_part}
+use Rattle.ldmodel_laws.proofs.Common.{linked_pieces, map, map-append, not, object_named, option_map_or, placed_pieces}
+use Rattle.ldmodel_laws.proofs.Common.{referenced_value, refl, section_numbered, segments, site_field, site_field_with}
+use Rattle.ldmodel_laws.proofs.Common.{site_symbol, site_value, sites, sites_outside, subst, sym, target_of, true}
+use Rattle.ldmodel_laws.proofs.Common.{true≢false, ℕ, ◌&&◌, ◌++◌, ◌↔◌, ◌∙◌, ◌∷◌, ◌≡◌}
 use Rattle.std.proofs.lemmas.List.Sorted.{Contains-permutation, IsPermutation-sym}
-use Rattle.std.proofs.lemmas.Slice.Eq.{bytes_eq-Decides}
-use Rattle.std.proofs.lemmas.List.{map-append}
-use Rattle.elfobj.specs.Sections.{LinkedSection}
-use Rattle.elfobj.specs.Symbols.{NamedSymbol}
-use Rattle.elfobj.specs.declared.relocation.Relocation.{Relocation}
-use Rattle.ldmodel.specs.Image.{object_named, section_numbered}
-use Rattle.ldmodel.specs.Layout.{Layout, PlacedPiece, PlacedOutput}
-use Rattle.ldmodel.specs.Project.{NamedObject, Project}
-use Rattle.ldmodel.specs.Relocations.{Site, site_field_with, is_evaluated, site_field, site_symbol, site_value, sites}
-use Rattle.ldmodel.specs.Sections.{is_same_part}
-use Rattle.ldmodel.specs.Segments.{segments}
-use Rattle.ldmodel.specs.Stayed.{GoodLink, LinkedPiece, has_stayed, has_other_value, linked_piece, linked_pieces}
-use Rattle.ldmodel.specs.Stayed.{link_pieces}
+use Rattle.ldmodel.specs.Stayed.{GoodLink, LinkedPiece, has_stayed, has_other_value, linked_piece, link_pieces}
 use Rattle.ldmodel.specs.Stayed.{retargeted, sites_in, stayed}
-use Rattle.ldmodel.specs.SymbolValues.{NotDefined, placed_pieces}
-use Rattle.ldmodel.specs.Targets.{Target, referenced_value, target_of}
-use Rattle.ldmodel.specs.WorkBound.{sites_outside}
-use Rattle.ldmodel.specs.declared.sections.Part.{Part}
-use Rattle.ldmodel.specs.declared.sections.Part.TheVariants.{InTable, InCommon}
-use Rattle.ldmodel_laws.specs.PlacedOnce.{IsPlacedOnce}
-use Rattle.ldmodel_laws.specs.Spread.{EachLater}
 use Rattle.ldmodel_laws.specs.StayedSites.{HasSites, IsFound, has_part_stayed, is_linked_part, lies_in_stayed}
-use Rattle.ldmodel_laws.specs.Untouched.{HasField, HasSameValue, IsGood}
 use Rattle.ldmodel_laws.proofs.Finding.{ComesOf, flat_map_in, in_flat_map, in_map}
 use Rattle.ldmodel_laws.proofs.Goodness.{placed_once, section_found}
 use Rattle.ldmodel_laws.proofs.InImage.{stayed_both}

@@ -1,18 +1,13 @@
 -- The number of a target decides the value of each symbol that turns on it.
-use Rattle.std.proofs.Common.{◌≡◌, ◌≢◌, ℕ, Bool, true, false, List, Option, Some, None, refl, ap, sym, ◌∙◌}
-use Rattle.std.proofs.Common.{if◌then◌else◌}
-use Rattle.elfobj.specs.Symbols.{NamedSymbol}
+use Rattle.ldmodel_laws.proofs.Common.{Bool, InTable, Layout, List, Name, NamedObject, NamedSymbol, None, NotDefined}
+use Rattle.ldmodel_laws.proofs.Common.{NotInOutput, Number, Option, PlacedPiece, Project, Some, SymbolValue, address_in}
+use Rattle.ldmodel_laws.proofs.Common.{ap, false, if◌then◌else◌, local_target, name_value, number_or_0, option_map_or}
+use Rattle.ldmodel_laws.proofs.Common.{or_weak, own_value, placed_part, referenced_value, refl, sym, target_number}
+use Rattle.ldmodel_laws.proofs.Common.{target_of, true, ℕ, ◌∙◌, ◌≡◌, ◌≢◌}
 use Rattle.elfobj.specs.declared.symbol.SymbolPlace.{SymbolPlace}
 use Rattle.elfobj.specs.declared.symbol.SymbolPlace.TheVariants as place
 use Rattle.ldmodel.specs.Arithmetic.{plus_modulo}
-use Rattle.ldmodel.specs.Layout.{Layout, PlacedPiece}
 use Rattle.ldmodel.specs.Names.{is_local, is_weak_binding}
-use Rattle.ldmodel.specs.Project.{NamedObject, Project}
-use Rattle.ldmodel.specs.SymbolValues.{SymbolValue, Number, NotDefined, NotInOutput, address_in, name_value}
-use Rattle.ldmodel.specs.SymbolValues.{number_or_0, own_value, placed_part}
-use Rattle.ldmodel.specs.Targets.{Name, local_target, or_weak, referenced_value, target_number, target_of}
-use Rattle.ldmodel.specs.declared.sections.Part.TheVariants.{InTable}
-use Rattle.std.specs.Option.{option_map_or}
 
 -- a weak reference changes no number: what is not defined is 0 in both
 weak_number : (weak : Bool) (v : SymbolValue) → number_or_0 (or_weak weak v) ≡ number_or_0 v

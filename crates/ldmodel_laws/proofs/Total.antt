@@ -1,29 +1,21 @@
 -- No edit is without an outcome, and none comes to 'out of memory'.
-use Rattle.std.proofs.Common.{◌≡◌, ◌≢◌, ⊎_elim, inl, inr, ℕ, ◌^◌, ◌<◌, ◌≤◌, Bool, true, false, cond, not, ◌||◌, List}
-use Rattle.std.proofs.Common.{length, nat_lt, nat_le, Option, Some, None, Ok, Err, refl, sym, ap, ◌∙◌}
-use Rattle.std.proofs.Common.{subst, arith}
-use Rattle.std.proofs.lemmas.Bool.{cases_lt, true≢false}
+use Rattle.ldmodel_laws.proofs.Common.{Bool, Change, Err, HasClash, IsCut, IsRefusal, IsScript, IsTree, Lexeme, List}
+use Rattle.ldmodel_laws.proofs.Common.{None, Ok, Option, Project, ScriptRefusal, Some, Statement, ap, arith, cases_lt}
+use Rattle.ldmodel_laws.proofs.Common.{cond, false, has_misplaced_dot, inl, inr, length, nat_le, nat_lt, not, refl}
+use Rattle.ldmodel_laws.proofs.Common.{subst, sym, true, true≢false, ℕ, ⊎_elim, ◌<◌, ◌^◌, ◌||◌, ◌∙◌, ◌≡◌, ◌≢◌, ◌≤◌}
 use Rattle.elfobj.specs.Refusal.{object_refusal, holds, refusals}
 use Rattle.elfobj.specs.RefusalNumber as object
 use Rattle.elfobj.specs.declared.refusal.ObjectRefusal.{ObjectRefusal}
 use Rattle.elfobj.specs.declared.refusal.ObjectRefusal.TheVariants as why
-use Rattle.ldscript.specs.tokens.Tokens.{Lexeme}
-use Rattle.ldscript.specs.tokens.Modes.{IsCut}
 use Rattle.ldscript.specs.tokens.Limits.{IsTokens}
-use Rattle.ldscript.specs.statements.Dots.{has_misplaced_dot}
-use Rattle.ldscript.specs.statements.Mentions.{HasClash}
-use Rattle.ldscript.specs.statements.declared.statement.Statement.{Statement}
 use Rattle.ldscript.specs.RefusalNumber.{script_refusal_number}
-use Rattle.ldscript.specs.Script.{IsTree, IsScript, IsRefusal}
-use Rattle.ldscript.specs.declared.refusal.ScriptRefusal.{ScriptRefusal}
 use Rattle.ldscript.specs.declared.refusal.ScriptRefusal.TheVariants as reader
-use Rattle.ldmodel.specs.Project.{Project}
-use Rattle.ldmodel.specs.Edits.{Change, Add, Replace, Move, Remove, SetScript, Refusal, InUse, Unknown, PastEnd}
-use Rattle.ldmodel.specs.Edits.{NotAnObject, NotAScript, Limit, NoMemory, early_refusal, Accepts, Refuses}
-use Rattle.ldmodel.specs.Edits.{RefusesObject, After, edit_refusal_number, is_in_use, is_object_name, is_too_long}
-use Rattle.ldmodel.specs.Edits.{is_full}
+use Rattle.ldmodel.specs.Edits.{Add, Replace, Move, Remove, SetScript, Refusal, InUse, Unknown, PastEnd, NotAnObject}
+use Rattle.ldmodel.specs.Edits.{NotAScript, Limit, NoMemory, early_refusal, Accepts, Refuses, RefusesObject, After}
+use Rattle.ldmodel.specs.Edits.{edit_refusal_number, is_in_use, is_object_name, is_too_long, is_full}
 use Rattle.ldmodel_laws.specs.Outcomes.{HasOutcome, IsNoScript}
 use Rattle.ldmodel_laws.proofs.Finding.{found_passes}
+use Rattle.growth.specs.Memory.{no_memory}
 
 outcome_early : (p : Project) (c : Change) (r : Refusal) → early_refusal p c ≡ Some r → HasOutcome p c
 outcome_early p c r e = (Err r, inl e)
@@ -62,7 +54,7 @@ outcome p c n = go (early_refusal p c) refl
 -- ---- a script
 
 module _ (text : List ℕ) (no_script : (s : List Statement) → IsScript text s → ⊥) (no_refusal : (w : ScriptRefusal)
-    → w ≢ reader.NoMemory → IsRefusal text w → ⊥) where
+    → w ≢ reader.NoMemory no_memory → IsRefusal text w → ⊥) where
   no_tree : (s : List Statement) → IsTree text s → ⊥
   no_tree s t = go (has_misplaced_dot s) refl
     where
@@ -171,9 +163,9 @@ pub outer_number : (p : Project) (c : Change) (r : Refusal) → After p c (Err r
 outer_number p c r (inl e) = early_number r (subst IsEarly e (is_early p c))
 outer_number p c r (inr h) = late_number p c r h.1
 
-never_memory : (bytes : List ℕ) → object_refusal bytes ≡ Some why.NoMemory → ⊥
+never_memory : (bytes : List ℕ) → object_refusal bytes ≡ Some (why.NoMemory no_memory) → ⊥
 unfolding object_refusal holds
-never_memory bytes e = true≢false (sym (found_passes (holds bytes) refusals why.NoMemory e))
+never_memory bytes e = true≢false (sym (found_passes (holds bytes) refusals (why.NoMemory no_memory) e))
 
 small_object : (bytes : List ℕ) (w : ObjectRefusal) → object_refusal bytes ≡ Some w → object.refusal_number w ≤ 13
 small_object bytes why.Short e = omega arith
@@ -189,15 +181,15 @@ small_object bytes why.RelocationSection e = omega arith
 small_object bytes why.RelocationType e = omega arith
 small_object bytes why.FieldBounds e = omega arith
 small_object bytes why.FieldOverlap e = omega arith
-small_object bytes why.NoMemory e = absurd (never_memory bytes e)
+small_object bytes (why.NoMemory _) e = absurd (never_memory bytes e)
 
-small_script : (w : ScriptRefusal) → w ≢ reader.NoMemory → script_refusal_number w ≤ 5
+small_script : (w : ScriptRefusal) → w ≢ reader.NoMemory no_memory → script_refusal_number w ≤ 5
 small_script reader.NotTokens n = omega arith
 small_script reader.NotAScript n = omega arith
 small_script reader.Repeated n = omega arith
 small_script reader.MisplacedDot n = omega arith
 small_script reader.Limit n = omega arith
-small_script reader.NoMemory n = absurd (n refl)
+small_script (reader.NoMemory _) n = absurd (n refl)
 
 of_refused_object : (bytes : List ℕ) (w : ObjectRefusal) → RefusesObject bytes (NotAnObject w)
     → object.refusal_number w ≤ 13

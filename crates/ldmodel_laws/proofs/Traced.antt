@@ -1,38 +1,22 @@
 -- The placement of a script comes of its regions and output sections, effect by effect.
-use Rattle.std.proofs.Common.{◌≡◌, ℕ, ◌+◌, ◌^◌, ◌<◌, ◌==◌, nat_lt, Bool, true, false, cond, List, [], ◌∷◌, ◌++◌, length}
-use Rattle.std.proofs.Common.{Option, Some, None, Result, Ok, Err, refl, sym, ap, ◌∙◌, subst, append_assoc}
-use Rattle.std.proofs.lemmas.Bool.{ltb-true, ltb-false}
-use Rattle.byteorder.specs.Endian.{little_bytes}
-use Rattle.ldscript.specs.terms.DotForms.{DotForm, Advance, Align, Offset, dot_form}
+use Rattle.ldmodel_laws.proofs.Common.{Advance, Align, BodyCommand, BodyStatement, Bool, Directive, DotCommand, DotForm}
+use Rattle.ldmodel_laws.proofs.Common.{Err, Expr, Fault, Item, ItemCommand, Layout, List, MovedBack, None, Offset, Ok}
+use Rattle.ldmodel_laws.proofs.Common.{Option, OutputSection, OutputSectionAt, PastAddressSpace, Piece, PieceTo, Region}
+use Rattle.ldmodel_laws.proofs.Common.{Result, Some, Statement, Width, [], address, and_then, ap, append_assoc}
+use Rattle.ldmodel_laws.proofs.Common.{byte_count, cond, dot_form, false, item_sections, items, items_of, length}
+use Rattle.ldmodel_laws.proofs.Common.{little_bytes, ltb-false, ltb-true, nat_lt, noted, nothing_placed, number}
+use Rattle.ldmodel_laws.proofs.Common.{output_sections, past_inputs, refl, regions, regions_in, run, sections_in, subst}
+use Rattle.ldmodel_laws.proofs.Common.{sym, true, with_piece, ℕ, ◌++◌, ◌+◌, ◌<◌, ◌==◌, ◌^◌, ◌∙◌, ◌∷◌, ◌≡◌}
 use Rattle.ldscript.specs.terms.Expressions as expression
-use Rattle.ldscript.specs.terms.Expressions.{Expr}
-use Rattle.ldscript.specs.statements.Numbering.{OutputSectionAt, items, items_of, output_sections, regions, regions_in}
-use Rattle.ldscript.specs.statements.Numbering.{sections_in, item_sections}
-use Rattle.ldscript.specs.statements.Widths.{byte_count}
-use Rattle.ldscript.specs.statements.declared.directive.Directive.{Directive}
-use Rattle.ldscript.specs.statements.declared.directive.DotCommand.{DotCommand}
 use Rattle.ldscript.specs.statements.declared.directive.DotCommand.TheVariants.{Set, Add}
-use Rattle.ldscript.specs.statements.declared.section.BodyCommand.{BodyCommand}
 use Rattle.ldscript.specs.statements.declared.section.BodyCommand.TheVariants as body
-use Rattle.ldscript.specs.statements.declared.section.BodyStatement.{BodyStatement}
-use Rattle.ldscript.specs.statements.declared.section.OutputSection.{OutputSection}
-use Rattle.ldscript.specs.statements.declared.section.Width.{Width}
 use Rattle.ldscript.specs.statements.declared.statement.Command.{Command}
 use Rattle.ldscript.specs.statements.declared.statement.Command.TheVariants as top
-use Rattle.ldscript.specs.statements.declared.statement.Item.{Item}
-use Rattle.ldscript.specs.statements.declared.statement.ItemCommand.{ItemCommand}
 use Rattle.ldscript.specs.statements.declared.statement.ItemCommand.TheVariants as item
-use Rattle.ldscript.specs.statements.declared.statement.Region.{Region}
-use Rattle.ldscript.specs.statements.declared.statement.Statement.{Statement}
 use Rattle.ldmodel.specs.Placement.{directive_step, Body, advanced, body_command_step, body_step, data_step, dot_step}
-use Rattle.ldmodel.specs.Placement.{moved_on, piece_placed, pieces_placed, set_to, with_data, with_dot}
-use Rattle.ldmodel.specs.Chain.{and_then, run}
-use Rattle.ldmodel.specs.Fault.{Fault, MovedBack, PastAddressSpace}
-use Rattle.ldmodel.specs.Layout.{Layout, address, noted, nothing_placed, number}
-use Rattle.ldmodel.specs.Placement.{command_step, free_dot_step, item_command_step, item_step, next_row, opened}
-use Rattle.ldmodel.specs.Placement.{placement, region_step, section_step, statement_step, with_region}
-use Rattle.ldmodel.specs.Rows.{Piece}
-use Rattle.ldmodel_laws.specs.Placed.{PieceTo, past_inputs, with_piece}
+use Rattle.ldmodel.specs.Placement.{moved_on, piece_placed, pieces_placed, set_to, with_data, with_dot, command_step}
+use Rattle.ldmodel.specs.Placement.{free_dot_step, item_command_step, item_step, next_row, opened, placement}
+use Rattle.ldmodel.specs.Placement.{region_step, section_step, statement_step, with_region}
 use Rattle.ldmodel_laws.specs.Traces.{BodyEffect, dot_noted, inputs_counted, symbol_given, dot_moved, entry_placed}
 use Rattle.ldmodel_laws.specs.Traces.{data_added, BodyEffects, no_effect, effect_then, AddsNothing, AddsSection, Trace}
 use Rattle.ldmodel_laws.specs.Traces.{all_added, nothing_added, region_added, section_added}

@@ -1,12 +1,8 @@
 -- Sites in input sections that stayed, whose symbols have the same values in both links.
-use Rattle.std.proofs.Common.{◌≡◌, ◌↔◌, Bool, true, false, cond, not, List, [], ◌∷◌, filter, flat_map, refl}
-use Rattle.std.proofs.Common.{sym, ap, ◌∙◌}
-use Rattle.std.specs.List.{Contains}
-use Rattle.std.proofs.lemmas.Bool.{eq-eqb}
-use Rattle.ldmodel.specs.Relocations.{Site, site_field_with, site_field, site_value}
+use Rattle.ldmodel_laws.proofs.Common.{AreRead, Bool, Contains, HasField, HasSameValue, IsGood, List, Number, Site, []}
+use Rattle.ldmodel_laws.proofs.Common.{ap, cond, eq-eqb, false, filter, flat_map, not, number_or_0, refl, site_field}
+use Rattle.ldmodel_laws.proofs.Common.{site_field_with, site_value, sym, true, ◌↔◌, ◌∙◌, ◌∷◌, ◌≡◌}
 use Rattle.ldmodel.specs.Stayed.{GoodLink, LinkedPiece, has_other_value, retargeted, sites_in, stayed, site_value_in}
-use Rattle.ldmodel.specs.SymbolValues.{Number, number_or_0}
-use Rattle.ldmodel_laws.specs.Untouched.{AreRead, HasField, HasSameValue, IsGood}
 use Rattle.ldmodel_laws.proofs.Finding.{in_flat_map}
 use Rattle.ldmodel_laws.proofs.Members.{here, later}
 use Rattle.ldmodel_laws.proofs.Untouched.{in_new, in_old, number_of, unmoved}

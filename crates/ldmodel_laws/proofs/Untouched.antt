@@ -1,38 +1,24 @@
 -- A byte of an input section that stayed, outside of fields whose symbol has another value, is the same in both links.
-use Rattle.std.proofs.Common.{◌≡◌, ◌≢◌, ◌⊎◌, inl, inr, ℕ, ◌+◌, ◌-◌, ◌<◌, ◌==◌, nat_le, nat_lt, Bool, true, false, cond}
-use Rattle.std.proofs.Common.{not, ◌&&◌, List, [], ◌∷◌, length, map, filter, find, flat_map, slice_index, Option, Some}
-use Rattle.std.proofs.Common.{None, Ok, refl, sym, ap, ◌∙◌, subst, arith, bytes_eq}
-use Rattle.std.specs.List.{Contains, cons_option, filter_map}
-use Rattle.std.specs.Option.{option_map_or}
-use Rattle.std.proofs.lemmas.Bool.{false≢true, true≢false, leb-true, ltb-true, eqb-true, eq-eqb, and_parts}
-use Rattle.std.proofs.lemmas.Slice.Eq.{bytes_eq-Decides}
+use Rattle.ldmodel_laws.proofs.Common.{AreRead, Bool, Contains, Each, HasField, InCommon, InTable, IsGood, IsOutside}
+use Rattle.ldmodel_laws.proofs.Common.{Layout, LinkedSection, List, NamedObject, NamedSymbol, None, NotDefined}
+use Rattle.ldmodel_laws.proofs.Common.{NotInOutput, Number, Ok, Option, Part, Patch, PlacedOutput, PlacedPiece, Project}
+use Rattle.ldmodel_laws.proofs.Common.{Relocation, SectionIndex, Segment, Site, Some, SymbolValue, [], and_parts, ap}
+use Rattle.ldmodel_laws.proofs.Common.{arith, byte_at, bytes_eq, bytes_eq-Decides, cond, cons_option, eq-eqb, eqb-true}
+use Rattle.ldmodel_laws.proofs.Common.{false, false≢true, filter, filter_map, find, flat_map, inl, inr, is_evaluated}
+use Rattle.ldmodel_laws.proofs.Common.{leb-true, length, linked_pieces, ltb-true, map, nat_le, nat_lt, not, number_or_0}
+use Rattle.ldmodel_laws.proofs.Common.{object_named, option_map_or, patch_end, patch_of, patched_byte, referenced_value}
+use Rattle.ldmodel_laws.proofs.Common.{refl, section_numbered, segments, site_field, site_field_with, site_symbol}
+use Rattle.ldmodel_laws.proofs.Common.{site_value, sites_at, slice_index, subst, sym, target_number, target_of, true}
+use Rattle.ldmodel_laws.proofs.Common.{true≢false, width, ℕ, ◌&&◌, ◌+◌, ◌-◌, ◌<◌, ◌==◌, ◌∙◌, ◌∷◌, ◌≡◌, ◌≢◌, ◌⊎◌}
 use Rattle.elfobj.specs.file.Numbers.{u16_at}
 use Rattle.elfobj.specs.Object.{ObjectData, object_of}
-use Rattle.elfobj.specs.RelocationKinds.{width}
-use Rattle.elfobj.specs.Sections.{LinkedSection, sections_of}
-use Rattle.elfobj.specs.Symbols.{NamedSymbol}
-use Rattle.elfobj.specs.declared.relocation.Relocation.{Relocation}
-use Rattle.elfobj.specs.declared.section.SectionIndex.{SectionIndex}
+use Rattle.elfobj.specs.Sections.{sections_of}
 use Rattle.emit_fields.specs.Patches as patches
-use Rattle.emit_fields.specs.Patches.{patched_byte, patch_end}
-use Rattle.emit_fields.specs.declared.patch.Patch.{Patch}
-use Rattle.ldmodel.specs.Each.{Each}
-use Rattle.ldmodel.specs.Image.{byte_at, object_named, section_numbered}
 use Rattle.ldmodel_laws.specs.ByteCases.{object_byte, part_byte, section_byte}
-use Rattle.ldmodel.specs.Layout.{Layout, PlacedPiece, PlacedOutput}
-use Rattle.ldmodel.specs.Project.{NamedObject, Project}
-use Rattle.ldmodel.specs.Relocations.{Site, site_field_with, is_evaluated, patch_of, site_field, site_symbol}
-use Rattle.ldmodel.specs.Relocations.{site_value, sites_at}
-use Rattle.ldmodel.specs.Segments.{Segment, file_offset, segments}
+use Rattle.ldmodel.specs.Segments.{file_offset}
 use Rattle.ldmodel.specs.Stayed.{FileRange, GoodLink, LinkedPiece, has_stayed, has_other_value, linked_piece}
-use Rattle.ldmodel.specs.Stayed.{linked_pieces}
 use Rattle.ldmodel.specs.Stayed.{link_pieces, range_in, retargeted, same_piece, sites_in, sites_in_part}
 use Rattle.ldmodel.specs.Stayed.{sites_in_section, stayed, text_of, site_value_in}
-use Rattle.ldmodel.specs.SymbolValues.{SymbolValue, Number, NotDefined, NotInOutput, number_or_0}
-use Rattle.ldmodel.specs.Targets.{referenced_value, target_number, target_of}
-use Rattle.ldmodel.specs.declared.sections.Part.{Part}
-use Rattle.ldmodel.specs.declared.sections.Part.TheVariants.{InTable, InCommon}
-use Rattle.ldmodel_laws.specs.Untouched.{AreRead, HasField, IsGood, IsOutside}
 use Rattle.ldmodel_laws.proofs.Apart.{Stands, stands}
 use Rattle.ldmodel_laws.proofs.Finding.{flat_map_in, in_flat_map, in_map, map_in, member_of, each_member}
 use Rattle.ldmodel_laws.proofs.Members.{Passes, here, later, in_any, in_filter, filter_in}

@@ -24,7 +24,7 @@ AreRead project = Each (λ (object : NamedObject). object.object ≡ object_of o
 abbrev pub HasSameValue : GoodLink → GoodLink → Site → Type 0
 HasSameValue old new site = site_value old.project old.layout site ≡ site_value new.project new.layout site
 
--- nothing meets in an output section; output sections have different names; objects are what their bytes spell; each
+-- nothing overlaps in an output section; output sections have different names; objects are what their bytes spell; each
 -- site of an input section in the output has its field
 pub record IsGood (link : GoodLink) : Type 0 where
   pub spread : Each IsSpread link.layout.sections

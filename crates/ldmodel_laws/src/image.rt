@@ -38,7 +38,7 @@ pub fn fields_are_apart()
 
 /// The image has the bytes of an input section at its place in the file, if its output section has file bytes: each
 /// byte is that of the field that covers it, else that of the section. Output sections have different names, as the
-/// script reader has found, and nothing in them meets (`layout::nothing_meets`).
+/// script reader has found, and nothing in them overlaps (`layout::nothing_overlaps`).
 pub fn byte_of_piece()
     ensures { (project : Project) (layout : Layout) (output : PlacedOutput) (placed : PlacedPiece) (i : ℕ)
         → Each IsSpread layout.sections → AreNamed layout.sections

@@ -68,7 +68,7 @@ pub fn loaded_with_file_bytes()
 
 /// In an output section of a placement nothing overlaps: its input sections and its data commands are between its start
 /// and its end, each after the earlier ones of its kind, and none of one kind shares an address with one of the other.
-pub fn nothing_meets()
+pub fn nothing_overlaps()
     ensures { (script : List Statement) (rows : List (List Piece)) (provided : List (List ℕ)) (layout : Layout)
         → placement script rows provided ≡ Ok layout → Each IsSpread layout.sections }
 {}

@@ -3,7 +3,7 @@
 ghost use Rattle.std.specs.Prelude.{◌≡◌, [], ◌∷◌, Err, codes, drop, take};
 ghost use Rattle.ldscript.specs.terms.Expressions.{Number};
 ghost use Rattle.ldscript.specs.statements.declared.directive.DotCommand.TheVariants.{Add, Set};
-ghost use Rattle.ldmodel.specs.Fault.{AddressesMeet, LoadAddressesMeet, MovedBack, PastAddressSpace, RegionFull};
+ghost use Rattle.ldmodel.specs.Fault.{AddressesOverlap, LoadAddressesOverlap, MovedBack, PastAddressSpace, RegionFull};
 ghost use Rattle.ldmodel.specs.Link.{link};
 ghost use Rattle.ldmodel.specs.Placement.{placement};
 ghost use Rattle.ldmodel_laws.specs.Examples.{sections};
@@ -34,7 +34,7 @@ pub fn layout_by_example()
         ((bytes 0 3 0 ∷ bytes 0 2 1 ∷ bytes 0 1 4 ∷ []) ∷ []) []) ≡ (0x2000 ∷ 0x2003 ∷ 0x2008 ∷ []) ∷ [] }
     ensures backwards { numbers_of (placement (two_at 0x1000) two_rows [])
         ≡ (0x2000 ∷ 8 ∷ 0x2000 ∷ 8 ∷ []) ∷ (0x1000 ∷ 8 ∷ 0x1000 ∷ 8 ∷ []) ∷ [] }
-    ensures meeting { overlaps_of (placement (two_at 0x2004) two_rows [])
-        ≡ AddressesMeet (codes ".e") (codes ".d") ∷ LoadAddressesMeet (codes ".e") (codes ".d") ∷ [] }
+    ensures overlapping { overlaps_of (placement (two_at 0x2004) two_rows [])
+        ≡ AddressesOverlap (codes ".e") (codes ".d") ∷ LoadAddressesOverlap (codes ".e") (codes ".d") ∷ [] }
     ensures filled { take 8 (drop 120 (link filled).image) ≡ 1 ∷ 2 ∷ 3 ∷ 0x90 ∷ 0x91 ∷ 0x90 ∷ 0x91 ∷ 0x90 ∷ [] }
 {}

@@ -1,24 +1,14 @@
 -- A staged order and step, and the project that they make.
-use Rattle.std.proofs.Common.{◌≡◌, ℕ, ◌+◌, ◌-◌, ◌<◌, ◌≤◌, List, map, length, get_or, refl, ap, sym, ◌∙◌, arith, Bool}
-use Rattle.std.proofs.Common.{true, false, cond, subst, Vec, Global, set}
-use Rattle.std.specs.Prelude.{nat_eq, is_some, unwrap_or, Option, Some, None}
-use Rattle.std.specs.List.{count_by, insert, remove}
-use Rattle.std.proofs.lemmas.Bool.{eqb-true, eq-eqb}
-use Rattle.std.proofs.lemmas.List.{length-map, get_or-map}
+use Rattle.ldmodel_project.proofs.Common.{AreNamesDistinct, Bool, CanStep, ChangesOneObject, Contents, Global}
+use Rattle.ldmodel_project.proofs.Common.{IsOrdered, IsStaged, List, Listed, NamedObject, None, Option, Places, Put}
+use Rattle.ldmodel_project.proofs.Common.{SameButRoom, Slab, Some, StagedObjects, Stay, Step, Vec, ap, arith, cond}
+use Rattle.ldmodel_project.proofs.Common.{count_by, entry_at, eq-eqb, eqb-true, false, get, get_or, get_or-map, insert}
+use Rattle.ldmodel_project.proofs.Common.{is_some, key_count, length, length-map, map, map-map, named_at, named_under}
+use Rattle.ldmodel_project.proofs.Common.{nat_eq, next_count, next_entry, next_named, place_of, refl, remove, set}
+use Rattle.ldmodel_project.proofs.Common.{subst, sym, true, unnamed, unwrap_or, ℕ, ◌+◌, ◌-◌, ◌<◌, ◌∙◌, ◌≡◌, ◌≤◌}
 use Rattle.std.proofs.lemmas.List.Edits.{length-remove}
-use Rattle.std.proofs.lemmas.Simd.{map-map}
-use Rattle.slab.specs.Slab.{Slab, get, slab_len, HasRoomFor}
-use Rattle.ldmodel.specs.Edits.{unnamed, place_of, AreNamesDistinct}
-use Rattle.ldmodel.specs.Project.{NamedObject}
-use Rattle.ldmodel_project.specs.Listing.{Listed, Contents, key_count}
-use Rattle.ldmodel_project.specs.Slots.{named_at, entry_at, IsOrdered}
-use Rattle.ldmodel_project.specs.Next.{named_under, next_named, next_entry, next_count, CanStep}
-use Rattle.ldmodel_project.specs.Staging.{IsStaged, SameButRoom}
-use Rattle.ldmodel_project.specs.Edited.{ChangesOneObject}
-use Rattle.ldmodel_project.specs.declared.staged.Places.{Places}
-use Rattle.ldmodel_project.specs.declared.staged.StagedObjects.{StagedObjects}
-use Rattle.ldmodel_project.specs.declared.staged.Step.{Step}
-use Rattle.ldmodel_project.specs.declared.staged.Step.TheVariants.{Put, Remove, Move, Stay}
+use Rattle.slab.specs.Slab.{slab_len, HasRoomFor}
+use Rattle.ldmodel_project.specs.declared.staged.Step.TheVariants.{Remove, Move}
 use Rattle.ldmodel_project.proofs.Counts.{one_if, map-same, map-replaced, map-insert, map-remove, count_by-insert}
 use Rattle.ldmodel_project.proofs.Counts.{count_by-remove, count_by_at}
 use Rattle.ldmodel_project.proofs.Keys.{key_count-entries, named_under-entries}

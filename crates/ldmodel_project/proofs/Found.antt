@@ -1,21 +1,13 @@
 -- What is under a key: before a step, after it, and in a slab.
-use Rattle.std.proofs.Common.{◌≡◌, ◌∙◌, ℕ, ◌+◌, ◌<◌, ◌≤◌, List, [], ◌∷◌, map, length, get_or, refl, ap, sym, arith}
-use Rattle.std.proofs.Common.{Bool, true, false, cond}
-use Rattle.std.specs.Prelude.{◌||◌, nat_eq, nat_lt, is_some, unwrap_or, Option, Some, None, position, slice_get}
-use Rattle.std.specs.List.{count_by, list_any}
-use Rattle.std.specs.Option.{option_map}
-use Rattle.std.proofs.lemmas.Bool.{lt-ltb, le-ltb, eqb-true}
-use Rattle.std.proofs.lemmas.List.Sums.{sum_by-cons}
+use Rattle.ldmodel_project.proofs.Common.{AreKeysDistinct, Bool, Contents, Fits, IsOrdered, List, Listed, NamedObject}
+use Rattle.ldmodel_project.proofs.Common.{None, Option, Put, Slab, Some, StagedObjects, Stay, Step, [], ap, arith, cond}
+use Rattle.ldmodel_project.proofs.Common.{count_by, entry_at, eqb-true, false, found_under, get, get_or, is_some}
+use Rattle.ldmodel_project.proofs.Common.{key_count, keys_of, le-ltb, length, list_any, lt-ltb, map, named_at}
+use Rattle.ldmodel_project.proofs.Common.{named_under, nat_eq, nat_lt, next_count, next_entries, next_found, next_named}
+use Rattle.ldmodel_project.proofs.Common.{option_map, position, refl, slice_get, sum_by-cons, sym, true, unnamed}
+use Rattle.ldmodel_project.proofs.Common.{unwrap_or, ℕ, ◌+◌, ◌<◌, ◌||◌, ◌∙◌, ◌∷◌, ◌≡◌, ◌≤◌}
 use Rattle.std.proofs.lemmas.Option.{slice_get-map, slice_get_read, slice_get_past}
-use Rattle.slab.specs.Slab.{Slab, get}
-use Rattle.ldmodel.specs.Edits.{unnamed}
-use Rattle.ldmodel.specs.Project.{NamedObject}
-use Rattle.ldmodel_project.specs.Listing.{AreKeysDistinct, Contents, Listed, found_under, key_count, keys_of}
-use Rattle.ldmodel_project.specs.Next.{Fits, named_under, next_named, next_count, next_entries, next_found}
-use Rattle.ldmodel_project.specs.Slots.{named_at, entry_at, IsOrdered}
-use Rattle.ldmodel_project.specs.declared.staged.StagedObjects.{StagedObjects}
-use Rattle.ldmodel_project.specs.declared.staged.Step.{Step}
-use Rattle.ldmodel_project.specs.declared.staged.Step.TheVariants.{Put, Remove, Move, Stay}
+use Rattle.ldmodel_project.specs.declared.staged.Step.TheVariants.{Remove, Move}
 use Rattle.ldmodel_project.proofs.Keys.{key_count-entries, named_under-entries}
 use Rattle.ldmodel_project.proofs.Places.{in_use_of, objects_shown, objects-entries}
 

@@ -1,15 +1,8 @@
 -- Objects of a slab in an order of keys, seen as entries.
-use Rattle.std.proofs.Common.{◌≡◌, ℕ, ◌+◌, ◌<◌, List, [], ◌∷◌, map, refl, ap, sym, arith, Bool, true, false, cond}
-use Rattle.std.specs.Prelude.{nat_eq, Some, unwrap_or}
-use Rattle.std.specs.List.{count_by}
-use Rattle.std.proofs.lemmas.List.Sums.{sum_by-cons}
-use Rattle.std.proofs.lemmas.Bool.{eqb-true}
-use Rattle.slab.specs.Slab.{Slab}
-use Rattle.ldmodel.specs.Edits.{unnamed}
-use Rattle.ldmodel.specs.Project.{NamedObject}
-use Rattle.ldmodel_project.specs.Listing.{Listed, found_under, key_count}
-use Rattle.ldmodel_project.specs.Slots.{named_at, entry_at}
-use Rattle.ldmodel_project.specs.Next.{named_under}
+use Rattle.ldmodel_project.proofs.Common.{Bool, List, Listed, NamedObject, Slab, Some, [], ap, arith, cond, count_by}
+use Rattle.ldmodel_project.proofs.Common.{entry_at, eqb-true, false, found_under, key_count, map, named_at, named_under}
+use Rattle.ldmodel_project.proofs.Common.{nat_eq, refl, sum_by-cons, sym, true, unnamed, unwrap_or, ℕ, ◌+◌, ◌<◌, ◌∷◌}
+use Rattle.ldmodel_project.proofs.Common.{◌≡◌}
 
 -- the entries list the keys of the order
 pub key_count-map : (f : ℕ → NamedObject) (order : List ℕ) (k : ℕ)

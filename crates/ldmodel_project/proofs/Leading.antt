@@ -1,17 +1,13 @@
 -- A staged edit leads where the definition says.
-use Rattle.std.proofs.Common.{◌≡◌, ◌∙◌, ℕ, List, ap, sym, subst, inr}
-use Rattle.std.specs.Prelude.{Option, None, Some, IfSome, Result, Ok, Err, unwrap_or}
+use Rattle.ldmodel_project.proofs.Common.{EditRefusal, Err, IfSome, IsStaged, List, NamedObject, None, Ok, Option}
+use Rattle.ldmodel_project.proofs.Common.{Project, ProjectState, Result, Some, Staged, Stages, ap, edited_key, held}
+use Rattle.ldmodel_project.proofs.Common.{inr, subst, sym, unwrap_or, ℕ, ◌∙◌, ◌≡◌}
 use Rattle.std.proofs.lemmas.Option.{none-some}
 use Rattle.ldscript.specs.statements.declared.statement.Statement.{Statement}
 use Rattle.ldmodel.specs.Edits.{Change, SetScript, Accepts, early_refusal, with_objects}
-use Rattle.ldmodel.specs.Project.{NamedObject, Project}
 use Rattle.ldscript.specs.Script.{IsScript}
 use Rattle.ldmodel.specs.EditMeaning.{refusal_of}
-use Rattle.ldmodel_project.specs.ProjectState.{ProjectState, Makes, MakesScript, Stages, held, next_listing, project_of}
-use Rattle.ldmodel_project.specs.Next.{edited_key}
-use Rattle.ldmodel_project.specs.Staging.{IsStaged}
-use Rattle.ldmodel.specs.declared.edit.EditRefusal.{EditRefusal}
-use Rattle.ldmodel_project.specs.declared.staged.Staged.{Staged}
+use Rattle.ldmodel_project.specs.ProjectState.{Makes, MakesScript, next_listing, project_of}
 
 -- where the objects and the script are known, the next project is
 leads : (h : ProjectState) (s : Staged) (objects : List NamedObject) (script : Option (List Statement))

@@ -1,13 +1,10 @@
 -- Lists of objects in which no name stands twice.
-use Rattle.std.proofs.Common.{◌≡◌, ℕ, ◌+◌, ◌<◌, ◌≤◌, List, length, get_or, refl, ap, sym, ◌∙◌, arith, Bool, true, false}
-use Rattle.std.proofs.Common.{cond, set}
-use Rattle.std.specs.Prelude.{bytes_eq, nat_lt, Some, None}
-use Rattle.std.specs.List.{count_by, insert, remove, position_or_len}
+use Rattle.ldmodel_project.proofs.Common.{AreNamesDistinct, Bool, List, NamedObject, None, Some, ap, arith, bytes_eq}
+use Rattle.ldmodel_project.proofs.Common.{cond, count_by, false, get_or, insert, length, ltb-false, nat_lt, place_of}
+use Rattle.ldmodel_project.proofs.Common.{position_or_len, refl, remove, set, sym, true, unnamed, ℕ, ◌+◌, ◌<◌, ◌∙◌, ◌≡◌}
+use Rattle.ldmodel_project.proofs.Common.{◌≤◌}
 use Rattle.std.proofs.lemmas.Slice.Eq.{bytes_eq-Decides}
-use Rattle.std.proofs.lemmas.Bool.{ltb-false}
 use Rattle.std.proofs.lemmas.List.Quantifiers.{position-Some}
-use Rattle.ldmodel.specs.Edits.{unnamed, place_of, AreNamesDistinct}
-use Rattle.ldmodel.specs.Project.{NamedObject}
 use Rattle.ldmodel_project.proofs.Counts.{one_if, count_by-insert, count_by-remove, count_by-set, count_by_none}
 
 -- whether an object has this name

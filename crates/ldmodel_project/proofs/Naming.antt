@@ -1,12 +1,8 @@
 -- Names of objects are not empty.
-use Rattle.std.proofs.Common.{◌≡◌, ◌<◌, arith, length, not, ◌&&◌, ◌||◌, Bool, refl, true, false, List, ℕ, [], ◌∷◌}
-use Rattle.std.specs.Prelude.{nat_le}
-use Rattle.std.specs.List.{list_all}
-use Rattle.std.proofs.lemmas.Bool.{leb-true}
+use Rattle.ldmodel_project.proofs.Common.{AreObjectsNamed, Bool, InputObject, List, [], arith, false, leb-true, length}
+use Rattle.ldmodel_project.proofs.Common.{list_all, nat_le, not, refl, shown_inputs, true, ℕ, ◌&&◌, ◌<◌, ◌||◌, ◌∷◌, ◌≡◌}
 use Rattle.elfobj.specs.Names.{is_graphic}
 use Rattle.ldmodel.specs.Edits.{is_object_name}
-use Rattle.ldmodel_project.specs.Inputs.{AreObjectsNamed, shown_inputs}
-use Rattle.ldmodel_project.specs.declared.input.InputObject.{InputObject}
 
 -- those of a view
 pub all_named : (inputs : List InputObject) → AreObjectsNamed (shown_inputs inputs)

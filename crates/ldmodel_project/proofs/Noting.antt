@@ -1,13 +1,9 @@
 -- A table of places that is filled key by key.
-use Rattle.std.proofs.Common.{◌≡◌, ◌∙◌, ℕ, ◌+◌, ◌<◌, ◌≤◌, List, [], length, get_or, take}
-use Rattle.std.proofs.Common.{refl, ap, sym, arith, Bool, true, false, cond, subst}
-use Rattle.std.specs.Prelude.{nat_eq, Option, Some, None, MatchOption, position}
-use Rattle.std.specs.List.{count_by, remove}
-use Rattle.std.proofs.lemmas.Bool.{eqb-true, eq-eqb}
-use Rattle.std.proofs.lemmas.List.{take_all}
+use Rattle.ldmodel_project.proofs.Common.{AreKeysDistinct, Bool, List, MatchOption, None, Option, Some, [], ap, arith}
+use Rattle.ldmodel_project.proofs.Common.{cond, count_by, count_by_more_no, eq-eqb, eqb-true, false, get_or, length}
+use Rattle.ldmodel_project.proofs.Common.{nat_eq, position, refl, remove, subst, sym, take, take_all, true, ℕ, ◌+◌, ◌<◌}
+use Rattle.ldmodel_project.proofs.Common.{◌∙◌, ◌≡◌, ◌≤◌}
 use Rattle.std.proofs.lemmas.List.Edits.{get_or-remove_below, length-remove}
-use Rattle.std.proofs.lemmas.List.Sums.{count_by_more_no}
-use Rattle.ldmodel_project.specs.Listing.{AreKeysDistinct}
 use Rattle.ldmodel_project.specs.Order.{HasPlaces, IsNoted}
 use Rattle.ldmodel_project.proofs.Counts.{one_if, count_by_at, count_by-remove}
 use Rattle.ldmodel_project.proofs.Placed.{not_counted}

@@ -1,14 +1,11 @@
 -- Lists in which one key stands at a place among others, or not at all.
-use Rattle.std.proofs.Common.{◌≡◌, ◌∙◌, ℕ, ◌+◌, ◌<◌, ◌≤◌, List, [], ◌∷◌, ◌++◌, length, get_or, map, refl, ap, sym}
-use Rattle.std.proofs.Common.{arith, Bool, true, false, cond, suc, take, drop}
-use Rattle.std.specs.Prelude.{nat_eq, Option, Some, None, position, filter, not, IfSome}
-use Rattle.std.specs.List.{count_by, insert, remove}
-use Rattle.std.proofs.lemmas.Bool.{eqb-true, eq-eqb}
-use Rattle.std.proofs.lemmas.List.{take-append-drop, take_at, drop_at, length-take-le, set_split, set-get_or}
+use Rattle.ldmodel_project.proofs.Common.{Bool, IfSome, List, None, Option, Some, [], ap, arith, cond, count_by, drop}
+use Rattle.ldmodel_project.proofs.Common.{drop_at, eq-eqb, eqb-true, false, filter, get_or, insert, is_other, length}
+use Rattle.ldmodel_project.proofs.Common.{length-take-le, map, nat_eq, not, position, refl, remove, set-get_or}
+use Rattle.ldmodel_project.proofs.Common.{set_split, suc, sum_by-cons, sym, take, take-append-drop, take_at, true, ℕ}
+use Rattle.ldmodel_project.proofs.Common.{◌++◌, ◌+◌, ◌<◌, ◌∙◌, ◌∷◌, ◌≡◌, ◌≤◌}
 use Rattle.std.proofs.lemmas.List.Edits.{length-insert, get_or-insert_below, get_or-insert_at}
 use Rattle.std.proofs.lemmas.List.Elements.{filter-append}
-use Rattle.std.proofs.lemmas.List.Sums.{sum_by-cons}
-use Rattle.ldmodel_project.specs.Edited.{is_other}
 use Rattle.ldmodel_project.proofs.Counts.{one_if, count_by_at, count_by-insert, map-insert}
 use Rattle.ldmodel_project.proofs.Places.{position-some, position-none}
 

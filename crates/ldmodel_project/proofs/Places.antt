@@ -1,17 +1,10 @@
 -- Where an object with a name stands.
-use Rattle.std.proofs.Common.{◌≡◌, ℕ, ◌<◌, List, map, length, get_or, ap, ◌∙◌, arith, Bool, true, false, cond, refl}
-use Rattle.std.proofs.Common.{◌∷◌, [], ◌+◌}
-use Rattle.std.specs.Prelude.{bytes_eq, is_some, Some, None, nat_lt, ◌||◌, not}
-use Rattle.std.specs.List.{list_any, position, position_or_len}
-use Rattle.std.proofs.lemmas.List.{length-map, get_or-map}
-use Rattle.std.proofs.lemmas.List.Sums.{position_or_len_is}
-use Rattle.std.proofs.lemmas.Bool.{lt-ltb, le-ltb, ltb-true, ltb-false}
-use Rattle.std.proofs.lemmas.Simd.{map-map}
-use Rattle.slab.specs.Slab.{Slab}
-use Rattle.ldmodel.specs.Edits.{has_name, unnamed, place_of, is_in_use}
-use Rattle.ldmodel.specs.Project.{NamedObject}
-use Rattle.ldmodel_project.specs.Listing.{Listed}
-use Rattle.ldmodel_project.specs.Slots.{named_at, entry_at}
+use Rattle.ldmodel_project.proofs.Common.{Bool, List, Listed, NamedObject, None, Slab, Some, [], ap, arith, bytes_eq}
+use Rattle.ldmodel_project.proofs.Common.{cond, entry_at, false, get_or, get_or-map, is_some, le-ltb, length}
+use Rattle.ldmodel_project.proofs.Common.{length-map, list_any, lt-ltb, ltb-false, ltb-true, map, map-map, named_at}
+use Rattle.ldmodel_project.proofs.Common.{nat_lt, not, place_of, position, position_or_len, position_or_len_is, refl}
+use Rattle.ldmodel_project.proofs.Common.{true, unnamed, ℕ, ◌+◌, ◌<◌, ◌||◌, ◌∙◌, ◌∷◌, ◌≡◌}
+use Rattle.ldmodel.specs.Edits.{has_name, is_in_use}
 
 pub position-some : {X : Type 0} (p : X → Bool) (xs : List X) (i : ℕ) (d : X) → i < length xs
     → ((k : ℕ) → k < i → p (get_or xs k d) ≡ false) → p (get_or xs i d) ≡ true

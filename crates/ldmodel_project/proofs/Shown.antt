@@ -1,16 +1,11 @@
 -- The next project, place by place.
-use Rattle.std.proofs.Common.{◌≡◌, ◌∙◌, ℕ, ◌<◌, List, map, length, get_or, ap, arith, Bool, true, false, cond, refl}
-use Rattle.std.specs.Prelude.{nat_eq, slice_get, Some, None}
-use Rattle.std.specs.Option.{option_map}
-use Rattle.std.proofs.Common.{◌∷◌, [], ◌++◌, ◌+◌, take, suc}
+use Rattle.ldmodel_project.proofs.Common.{Bool, List, Listed, NamedObject, None, Put, Some, Stay, Step, [], ap, arith}
+use Rattle.ldmodel_project.proofs.Common.{cond, false, get_or, get_or-map, key_count, length, length-map, map, nat_eq}
+use Rattle.ldmodel_project.proofs.Common.{next_count, next_entry, next_named, objects_of, option_map, put_under, refl}
+use Rattle.ldmodel_project.proofs.Common.{slice_get, suc, take, true, ℕ, ◌++◌, ◌+◌, ◌<◌, ◌∙◌, ◌∷◌, ◌≡◌}
 use Rattle.std.proofs.Math.Seq.{take-suc}
-use Rattle.std.proofs.lemmas.List.{length-map, get_or-map}
 use Rattle.std.proofs.lemmas.Option.{slice_get-map, slice_get_read, slice_get_within, get_or_from_slice_get}
-use Rattle.ldmodel.specs.Project.{NamedObject}
-use Rattle.ldmodel_project.specs.Listing.{Listed, key_count, objects_of}
-use Rattle.ldmodel_project.specs.Next.{put_under, next_named, next_entry, next_count}
-use Rattle.ldmodel_project.specs.declared.staged.Step.{Step}
-use Rattle.ldmodel_project.specs.declared.staged.Step.TheVariants.{Put, Remove, Move, Stay}
+use Rattle.ldmodel_project.specs.declared.staged.Step.TheVariants.{Remove, Move}
 
 -- the entry at a place of the staged order
 pub next_entry_at : (entries : List Listed) (step : Step) (order : List ℕ) (at key : ℕ) (o : NamedObject)

@@ -1,20 +1,11 @@
 -- A step on a slab, and the same step on the entries that it shows.
-use Rattle.std.proofs.Common.{◌≡◌, ℕ, ◌<◌, List, map, refl, ap, sym, ◌∙◌, arith, Bool, true, false, cond, subst}
-use Rattle.std.specs.Prelude.{nat_eq, is_some, unwrap_or, Option, Some, None}
-use Rattle.std.specs.List.{count_by}
-use Rattle.std.proofs.lemmas.Bool.{eqb-true}
-use Rattle.std.proofs.lemmas.Simd.{map-map}
-use Rattle.slab.specs.Slab.{Slab, get}
-use Rattle.ldmodel.specs.Edits.{unnamed, AreNamesDistinct}
-use Rattle.ldmodel.specs.Project.{NamedObject}
-use Rattle.ldmodel_project.specs.Listing.{Listed, Contents, key_count}
-use Rattle.ldmodel_project.specs.Slots.{named_at, entry_at, IsOrdered}
-use Rattle.ldmodel_project.specs.Next.{named_under, next_named, next_entry, next_entries, next_count, next_slot}
-use Rattle.ldmodel_project.specs.Next.{CanStep}
-use Rattle.ldmodel_project.specs.Next.{Fits, KeysAreStable}
-use Rattle.ldmodel_project.specs.declared.staged.StagedObjects.{StagedObjects}
-use Rattle.ldmodel_project.specs.declared.staged.Step.{Step}
-use Rattle.ldmodel_project.specs.declared.staged.Step.TheVariants.{Put, Remove, Move, Stay}
+use Rattle.ldmodel_project.proofs.Common.{AreNamesDistinct, Bool, CanStep, Contents, Fits, IsOrdered, KeysAreStable}
+use Rattle.ldmodel_project.proofs.Common.{List, Listed, NamedObject, None, Option, Put, Slab, Some, StagedObjects, Stay}
+use Rattle.ldmodel_project.proofs.Common.{Step, ap, arith, cond, count_by, entry_at, eqb-true, false, get, is_some}
+use Rattle.ldmodel_project.proofs.Common.{key_count, map, map-map, named_at, named_under, nat_eq, next_count}
+use Rattle.ldmodel_project.proofs.Common.{next_entries, next_entry, next_named, next_slot, refl, subst, sym, true}
+use Rattle.ldmodel_project.proofs.Common.{unnamed, unwrap_or, ℕ, ◌<◌, ◌∙◌, ◌≡◌}
+use Rattle.ldmodel_project.specs.declared.staged.Step.TheVariants.{Remove, Move}
 use Rattle.ldmodel_project.proofs.Counts.{map-same}
 use Rattle.ldmodel_project.proofs.Keys.{key_count-entries, key_count-map, named_under-entries, named_under-map}
 

@@ -1,15 +1,10 @@
 -- Tables of symbols under keys, from entries and by places.
-use Rattle.std.proofs.Common.{◌≡◌, ◌∙◌, ℕ, ◌+◌, ◌<◌, List, map, length, get_or, refl, ap, sym, subst, arith}
-use Rattle.std.specs.Prelude.{nat_eq, Option, Some, None, insert, not, unwrap_or}
-use Rattle.std.specs.List.{enumerate_from}
-use Rattle.std.proofs.lemmas.Bool.{eq-eqb}
-use Rattle.std.proofs.lemmas.List.{length-map, get_or-map, same_lists}
+use Rattle.ldmodel_project.proofs.Common.{AreKeysDistinct, IsAmong, List, Listed, NamedSymbol, None, Option, Some, ap}
+use Rattle.ldmodel_project.proofs.Common.{arith, enumerate_from, eq-eqb, get_or, get_or-map, insert, is_other, length}
+use Rattle.ldmodel_project.proofs.Common.{length-map, map, named_under, nat_eq, not, refl, same_lists, subst, sym}
+use Rattle.ldmodel_project.proofs.Common.{unedited, unwrap_or, ℕ, ◌+◌, ◌<◌, ◌∙◌, ◌≡◌}
 use Rattle.std.proofs.lemmas.List.FromFn.{length-enumerate_from, get_or-enumerate_from}
-use Rattle.elfobj.specs.Symbols.{NamedSymbol}
-use Rattle.ldmodel_project.specs.Listing.{AreKeysDistinct, Listed}
-use Rattle.ldmodel_project.specs.Next.{named_under}
 use Rattle.ldmodel_project.specs.Tables.{HasTableAt, place_or_0, symbols_under, tables_under, without_table}
-use Rattle.ldmodel_project.specs.Edited.{IsAmong, is_other, unedited}
 use Rattle.ldmodel_project.proofs.Counts.{map-insert}
 use Rattle.ldmodel_project.proofs.Noting.{once}
 use Rattle.ldmodel_project.proofs.Placed.{filter-mapped}

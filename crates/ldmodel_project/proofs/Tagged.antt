@@ -1,16 +1,9 @@
 -- Marks of the names of objects, after a step and in a search.
-use Rattle.std.proofs.Common.{◌≡◌, ◌∙◌, ℕ, ◌<◌, List, Bool, true, false, cond, length, get_or, refl, ap, sym, arith}
-use Rattle.std.specs.Prelude.{nat_eq, bytes_eq, is_some, unwrap_or, Option, Some, None}
-use Rattle.std.specs.List.{count_by}
-use Rattle.std.proofs.lemmas.Bool.{eq-eqb}
-use Rattle.slab.specs.Slab.{Slab, get}
-use Rattle.ldmodel.specs.Edits.{unnamed}
-use Rattle.ldmodel.specs.Project.{NamedObject}
-use Rattle.ldmodel_project.specs.Next.{next_slot, put_under}
-use Rattle.ldmodel_project.specs.Slots.{IsOrdered}
-use Rattle.ldmodel_project.specs.Tags.{may_have, AreTagged, KeepsMarks, NotesPut}
-use Rattle.ldmodel_project.specs.declared.staged.Step.{Step}
-use Rattle.ldmodel_project.specs.declared.staged.Step.TheVariants.{Put, Remove, Move, Stay}
+use Rattle.ldmodel_project.proofs.Common.{AreTagged, Bool, IsOrdered, KeepsMarks, List, NamedObject, None, NotesPut}
+use Rattle.ldmodel_project.proofs.Common.{Option, Put, Slab, Some, Stay, Step, ap, arith, bytes_eq, cond, count_by}
+use Rattle.ldmodel_project.proofs.Common.{eq-eqb, false, get, get_or, is_some, length, may_have, nat_eq, next_slot}
+use Rattle.ldmodel_project.proofs.Common.{put_under, refl, sym, true, unnamed, unwrap_or, ℕ, ◌<◌, ◌∙◌, ◌≡◌}
+use Rattle.ldmodel_project.specs.declared.staged.Step.TheVariants.{Remove, Move}
 use Rattle.ldmodel_project.proofs.Counts.{count_by_at}
 use Rattle.ldmodel_project.proofs.Places.{is_named_at}
 

@@ -1,20 +1,12 @@
 -- What a staged edit touches, from where its key stands in the orders of keys.
-use Rattle.std.proofs.Common.{◌≡◌, ◌∙◌, ℕ, ◌<◌, List, [], ◌∷◌, length, map, refl, ap, sym, subst, arith, Bool, true}
-use Rattle.std.proofs.Common.{false, cond, Vec, Global}
-use Rattle.std.specs.Prelude.{nat_eq, Option, Some, None, filter, position, unwrap_or}
-use Rattle.std.specs.List.{count_by, insert}
-use Rattle.std.proofs.lemmas.Bool.{eqb-true, eq-eqb}
-use Rattle.std.proofs.lemmas.List.{length-map, map-id}
-use Rattle.std.proofs.lemmas.Simd.{map-map}
-use Rattle.slab.specs.Slab.{Slab}
-use Rattle.ldmodel.specs.Project.{NamedObject}
-use Rattle.ldmodel_project.specs.Listing.{Listed, keys_of}
-use Rattle.ldmodel_project.specs.Next.{named_under, next_entry, next_named, put_under, edited_key}
-use Rattle.ldmodel_project.specs.Slots.{named_at, entry_at}
-use Rattle.ldmodel_project.specs.Edited.{IsAmong, ChangesOneObject, is_other, place_in, unedited}
-use Rattle.ldmodel_project.specs.declared.staged.StagedObjects.{StagedObjects}
-use Rattle.ldmodel_project.specs.declared.staged.Step.{Step}
-use Rattle.ldmodel_project.specs.declared.staged.Step.TheVariants.{Put, Remove, Move, Stay}
+use Rattle.ldmodel_project.proofs.Common.{Bool, ChangesOneObject, Global, IsAmong, List, Listed, NamedObject, None}
+use Rattle.ldmodel_project.proofs.Common.{Option, Put, Slab, Some, StagedObjects, Stay, Step, Vec, [], ap, arith, cond}
+use Rattle.ldmodel_project.proofs.Common.{count_by, edited_key, entry_at, eq-eqb, eqb-true, false, filter, insert}
+use Rattle.ldmodel_project.proofs.Common.{is_other, keys_of, length, length-map, map, map-id, map-map, named_at}
+use Rattle.ldmodel_project.proofs.Common.{named_under, nat_eq, next_entry, next_named, position, put_under, refl, subst}
+use Rattle.ldmodel_project.proofs.Common.{sym, true, unedited, unwrap_or, ℕ, ◌<◌, ◌∙◌, ◌∷◌, ◌≡◌}
+use Rattle.ldmodel_project.specs.Edited.{place_in}
+use Rattle.ldmodel_project.specs.declared.staged.Step.TheVariants.{Remove, Move}
 use Rattle.ldmodel_project.proofs.Counts.{one_if, map-same, count_by-insert}
 use Rattle.ldmodel_project.proofs.Keys.{named_under-map, named_under-entries}
 use Rattle.ldmodel_project.proofs.Placed.{placed, IsWithin, map-placed, count_by-placed, filter-placed}

@@ -4,16 +4,16 @@ use Rattle.std.specs.Vec.{vec_items}
 use Rattle.std.proofs.Common.{Vec, Global}
 use Rattle.ldmodel.specs.Fault.{Fault}
 use Rattle.ldmodel.specs.FaultCode.{fault_of, name_of_part}
-use Rattle.ldmodel.specs.HandedOver.{piece_of}
+use Rattle.ldmodel.specs.CodeValues.{piece_of}
 use Rattle.ldmodel.specs.NameFaults.{object_name}
 use Rattle.ldmodel.specs.Project.{Project}
 use Rattle.ldmodel.specs.Rows.{Piece}
 use Rattle.ldmodel.specs.declared.fault.Fault as code_fault
 use Rattle.ldmodel.specs.declared.rows.Piece as code
-use Rattle.ldmodel.specs.declared.sections.SectionKey.{SectionKey}
+use Rattle.ldmodel.specs.declared.sections.SectionRef.{SectionRef}
 
 -- the name of an input section
-abbrev pub name_of_section : Project → SectionKey → List ℕ
+abbrev pub name_of_section : Project → SectionRef → List ℕ
 name_of_section project k = name_of_part project k.object.0 k.part
 
 -- an entry of a row

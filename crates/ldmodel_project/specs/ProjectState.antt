@@ -15,6 +15,7 @@ use Rattle.ldmodel_project.specs.Edited.{ChangesOneObject}
 use Rattle.ldmodel.specs.declared.edit.EditRefusal.{EditRefusal}
 use Rattle.ldmodel.specs.declared.edit.EditRefusal.TheVariants.{NoMemory}
 use Rattle.ldmodel_project.specs.declared.staged.Staged.{Staged}
+use Rattle.growth.specs.Memory.{no_memory}
 
 -- objects under keys, the script and the options
 pub record Listing : Type 0 where
@@ -54,13 +55,13 @@ pub record SameHolding (old new : ProjectState) : Type 0 where
 -- all growths of an edit of the objects alone, which leads to these; or there was no memory
 abbrev pub Makes : ProjectState → List NamedObject → Result Staged EditRefusal → Type 0
 Makes state next (Ok s) = IsStaged state.contents s.objects next × (s.script ≡ None)
-Makes state next (Err r) = r ≡ NoMemory
+Makes state next (Err r) = r ≡ NoMemory no_memory
 
 -- the same of another script
 abbrev pub MakesScript : ProjectState → List Statement → Result Staged EditRefusal → Type 0
 MakesScript state next (Ok s) =
     IsStaged state.contents s.objects (held state).objects × (s.script ≡ Some next) × (edited_key s.objects.step ≡ None)
-MakesScript state next (Err r) = r ≡ NoMemory
+MakesScript state next (Err r) = r ≡ NoMemory no_memory
 
 -- a staged script touches no object
 abbrev pub EditsOne : Staged → Type 0

@@ -15,7 +15,7 @@ pub(crate) fn object_refused(why: ObjectRefusal) -> EditRefusal
     ensures { result ≡ object_refused why }
 {
     match why {
-        ObjectRefusal::NoMemory => EditRefusal::NoMemory,
+        ObjectRefusal::NoMemory(no_memory) => EditRefusal::NoMemory(no_memory),
         _ => EditRefusal::NotAnObject(why),
     }
 }
@@ -25,7 +25,7 @@ pub(crate) fn script_refused(why: ScriptRefusal) -> EditRefusal
     ensures { result ≡ script_refused why }
 {
     match why {
-        ScriptRefusal::NoMemory => EditRefusal::NoMemory,
+        ScriptRefusal::NoMemory(no_memory) => EditRefusal::NoMemory(no_memory),
         _ => EditRefusal::NotAScript(why),
     }
 }

@@ -15,7 +15,7 @@ use crate::input::InputObject;
 use crate::keyed_objects::tagged::TaggedObjects;
 use crate::named::NamedObject;
 use crate::staged::StagedObjects;
-use ldmodel::memory::NoMemory;
+use growth::{NoMemory, vec};
 use std::alloc::Global;
 use std::marker::Model;
 
@@ -140,9 +140,9 @@ impl KeyedObjects {
     pub(crate) fn inputs(&self, alloc: Global) -> Result<Vec<InputObject<'_>>, NoMemory>
         ensures { IfOk result (λ v. shown_inputs v.items ≡ objects_of self.now.entries) }
     {
-        let mut inputs = Vec::with_capacity(alloc, self.order.len())?;
+        let mut inputs = vec::with_capacity(alloc, self.order.len())?;
         for key in self.order.iter() {
-            inputs.push(self.objects[*key].input())?;
+            vec::push(&mut inputs, self.objects[*key].input())?;
         }
         Ok(inputs)
     }

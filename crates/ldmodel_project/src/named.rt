@@ -5,7 +5,7 @@ ghost use Rattle.ldmodel_project.specs.Inputs.{shown_input};
 
 use crate::input::InputObject;
 use elfobj::Object;
-use ldmodel::memory::NoMemory;
+use growth::{NoMemory, vec};
 use std::alloc::Global;
 use std::marker::Model;
 
@@ -37,7 +37,7 @@ impl NamedObject {
         requires { 0 < length name.now }
         ensures { IfOk result (λ named. named ≡ record { name = name.now; object = object }) }
     {
-        let name = Vec::from_slice(alloc, name)?;
+        let name = vec::from_slice(alloc, name)?;
         Ok(NamedObject { name, object })
     }
 

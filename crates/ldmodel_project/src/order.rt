@@ -6,7 +6,7 @@ ghost use Rattle.ldmodel.specs.declared.names.ObjectKey.{ObjectKey};
 ghost use Rattle.ldmodel_project.specs.Listing.{AreKeysDistinct};
 ghost use Rattle.ldmodel_project.specs.Order.{HasPlaces, IsNoted};
 
-use ldmodel::memory::NoMemory;
+use growth::{NoMemory, vec};
 use ldmodel::names::ObjectKey;
 use std::alloc::Global;
 use std::marker::Model;
@@ -42,8 +42,8 @@ fn note_place(places: &mut Vec<Option<usize>>, key: usize, place: usize) -> Resu
         places[key] = Some(place);
         return Ok(());
     }
-    places.resize(key, None)?;
-    places.push(Some(place))?;
+    vec::resize(places, key, None)?;
+    vec::push(places, Some(place))?;
     Ok(())
 }
 
@@ -57,7 +57,7 @@ pub fn places_of(alloc: Global, keys: &[usize]) -> Result<Vec<Option<usize>>, No
     ensures { IfOk result (λ places. HasPlaces keys.now places.items) }
 {
     // the greatest key asks for as many, since no two keys are the same
-    let mut places = Vec::with_capacity(alloc, keys.len())?;
+    let mut places = vec::with_capacity(alloc, keys.len())?;
     for (place, key) in keys.iter().enumerate() {
         note_place(&mut places, *key, place)?;
     }
@@ -74,7 +74,7 @@ impl Order {
         requires { AreKeysDistinct keys.now }
         ensures { IfOk result (λ order. order ≡ keys.now) }
     {
-        let keys = Vec::from_slice(alloc, keys)?;
+        let keys = vec::from_slice(alloc, keys)?;
         Ok(Order { keys, places: None })
     }
 

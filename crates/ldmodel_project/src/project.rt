@@ -18,8 +18,8 @@ use crate::input::InputObject;
 use crate::keyed_objects::KeyedObjects;
 use crate::named::NamedObject;
 use crate::staged::Staged;
+use growth::{NoMemory, vec};
 use ldmodel::edit::{Edit, EditRefusal};
-use ldmodel::memory::NoMemory;
 use ldmodel::meter::Meter;
 use ldmodel::names::ObjectKey;
 use ldmodel::options::Options;
@@ -172,7 +172,7 @@ impl<'a> Next<'a> {
     pub fn inputs(&self, alloc: Global) -> Result<Vec<InputObject<'a>>, NoMemory>
         ensures { IfOk result (λ found. shown_inputs found.items ≡ objects_of self.now.entries) }
     {
-        let mut inputs = Vec::with_capacity(alloc, self.len())?;
+        let mut inputs = vec::with_capacity(alloc, self.len())?;
         for at in 0..self.len() {
             let (_key, named) = self.entry(at);
             inputs.push_reserved(named.input());

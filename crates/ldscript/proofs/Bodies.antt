@@ -1,35 +1,17 @@
 -- Statements of an output section: no tokens are two of them.
-use Rattle.std.proofs.Common.{◌≡◌, ◌∙◌, refl, sym, ap, subst, ℕ, List, true, false, inl, inr}
-use Rattle.std.specs.Prelude.{codes, bytes_eq, if◌then◌else◌}
-use Rattle.ldscript_tokens.specs.Tokens.{Lexeme, Word}
-use Rattle.ldscript_tokens.specs.Words.{is_free_name, is_free_word, is_reserved}
-use Rattle.ldscript_tokens.specs.declared.token.Mark.{Mark}
-use Rattle.ldscript_tokens.specs.declared.token.Mark.TheVariants.{OpenParenthesis, CloseBrace, Assign}
-use Rattle.ldscript_tokens.specs.declared.token.Mark.TheVariants.{AddAssign}
-use Rattle.ldscript_tokens.specs.declared.token.Mode.{Mode}
-use Rattle.ldscript_tokens.specs.declared.token.Mode.TheVariants.{Pattern}
-use Rattle.ldscript_terms.specs.Expressions.{Expr}
-use Rattle.ldscript.specs.Steps.{◌▸◌, mark, token, key, statements}
-use Rattle.ldscript.specs.Grammar.{
-  dot_command,
-  directive,
-  in_parentheses,
-  width_word,
-  input,
-  body_command,
-  body_statement,
-}
-use Rattle.ldscript.specs.Readings.{NoneAt, data_part, width_part}
-use Rattle.ldscript_statements.specs.declared.directive.Directive.{Directive}
+use Rattle.ldscript.proofs.Common.{Add, AddAssign, Assign, BodyStatement, CloseBrace, Directive, Expr, Input, Lexeme}
+use Rattle.ldscript.proofs.Common.{List, Mark, Mode, NoneAt, OpenParenthesis, Pattern, Set, ap, body_statement}
+use Rattle.ldscript.proofs.Common.{bytes_eq, codes, data_part, directive, dot_command, false, if◌then◌else◌}
+use Rattle.ldscript.proofs.Common.{in_parentheses, inl, inr, is_free_name, is_free_word, is_reserved, key, mark, refl}
+use Rattle.ldscript.proofs.Common.{statements, subst, sym, token, true, width_part, ℕ, ◌∙◌, ◌≡◌, ◌▸◌}
+use Rattle.ldscript_tokens.specs.Tokens.{Word}
+use Rattle.ldscript.specs.Grammar.{width_word, input, body_command}
 use Rattle.ldscript_statements.specs.declared.directive.Directive.TheVariants as directives
 use Rattle.ldscript_statements.specs.declared.directive.DotCommand.{DotCommand}
-use Rattle.ldscript_statements.specs.declared.directive.DotCommand.TheVariants.{Set, Add}
-use Rattle.ldscript_statements.specs.declared.input.Input.{Input}
 use Rattle.ldscript_statements.specs.declared.section.Width.{Width}
 use Rattle.ldscript_statements.specs.declared.section.Width.TheVariants.{Byte, Short, Long, Quad}
 use Rattle.ldscript_statements.specs.declared.section.BodyCommand.{BodyCommand}
 use Rattle.ldscript_statements.specs.declared.section.BodyCommand.TheVariants as body
-use Rattle.ldscript_statements.specs.declared.section.BodyStatement.{BodyStatement}
 use Rattle.ldscript.proofs.Singles.{Single, tokens_same, words_same, pair_single, behind_tree, keys_differ}
 use Rattle.ldscript.proofs.Singles.{name_no_key, directive_single, dot_command_single, in_parentheses_single}
 use Rattle.ldscript.proofs.Singles.{marks_differ}

@@ -1,17 +1,10 @@
 -- Why no directive stands at some tokens.
-use Rattle.std.proofs.Common.{List, ℕ}
-use Rattle.ldscript_tokens.specs.Tokens.{Lexeme}
-use Rattle.ldscript_tokens.specs.declared.token.Mark.TheVariants.{OpenParenthesis, CloseParenthesis, Semicolon, Comma}
-use Rattle.ldscript_tokens.specs.declared.token.Mark.TheVariants.{Assign}
-use Rattle.ldscript_tokens.specs.declared.token.Mark.TheVariants.{AddAssign}
-use Rattle.ldscript_tokens.specs.declared.token.Mode.{Mode}
-use Rattle.ldscript_terms.specs.Expressions.{Expr}
-use Rattle.ldscript.specs.Steps.{◌▸◌, mark, name_in, string}
-use Rattle.ldscript.specs.Grammar.{ended, dot_set_to, dot_change, assign, provided_name, provided_assignment, provide}
-use Rattle.ldscript.specs.Grammar.{asserted, assertion, directive}
-use Rattle.ldscript.specs.Readings.{NoneAt}
+use Rattle.ldscript.proofs.Common.{Add, AddAssign, Assign, CloseParenthesis, Comma, Expr, Lexeme, List, Mode, NoneAt}
+use Rattle.ldscript.proofs.Common.{OpenParenthesis, Semicolon, Set, asserted, directive, ended, mark}
+use Rattle.ldscript.proofs.Common.{provided_assignment, string, ℕ, ◌▸◌}
+use Rattle.ldscript.specs.Steps.{name_in}
+use Rattle.ldscript.specs.Grammar.{dot_set_to, dot_change, assign, provided_name, provide, assertion}
 use Rattle.ldscript_statements.specs.declared.directive.Directive.TheVariants as directives
-use Rattle.ldscript_statements.specs.declared.directive.DotCommand.TheVariants.{Set, Add}
 use Rattle.ldscript.proofs.Singles.{mark_fixed, marks_differ, behind, behind_tree, ended_single, name_single}
 use Rattle.ldscript.proofs.Singles.{provided_name_single}
 

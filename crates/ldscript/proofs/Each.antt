@@ -1,10 +1,6 @@
 -- Lists without `;`, up to what closes them.
-use Rattle.std.proofs.Common.{◌≡◌, ◌∙◌, refl, sym, ap, subst, List, [], ◌∷◌, ◌++◌, length, ◌<◌, ◌≤◌, arith}
-use Rattle.std.proofs.Common.{append_assoc}
-use Rattle.std.proofs.lemmas.List.{append-nil}
-use Rattle.ldscript_tokens.specs.Tokens.{Lexeme}
-use Rattle.ldscript.specs.Steps.{Rule, ◌▸◌, each, some}
-use Rattle.ldscript.specs.Readings.{Takes, NoneAt}
+use Rattle.ldscript.proofs.Common.{Lexeme, List, NoneAt, Rule, Takes, [], ap, append-nil, append_assoc, arith, each}
+use Rattle.ldscript.proofs.Common.{length, refl, some, subst, sym, ◌++◌, ◌<◌, ◌∙◌, ◌∷◌, ◌≡◌, ◌≤◌, ◌▸◌}
 use Rattle.ldscript.proofs.Singles.{Fixed, Single, SingleUntil}
 
 -- what tells the members of a list and what closes it apart

@@ -1,25 +1,17 @@
 -- Input statements: no tokens are two of them.
-use Rattle.std.proofs.Common.{◌≡◌, ◌∙◌, refl, sym, ap, subst, ℕ, List, [], ◌∷◌, Bool, true, false, Option, Some, None}
-use Rattle.std.proofs.Common.{Result, Ok, Err, ◌⊎◌, inl, inr}
-use Rattle.std.specs.Prelude.{IfOk, IfSome, codes}
-use Rattle.std.proofs.lemmas.Bool.{false≢true}
-use Rattle.ldscript_tokens.specs.Tokens.{Lexeme, Word, Punctuation}
-use Rattle.ldscript_tokens.specs.Words.{is_free_word, is_reserved}
-use Rattle.ldscript_tokens.specs.declared.token.Mark.{Mark}
-use Rattle.ldscript_tokens.specs.declared.token.Mark.TheVariants.{OpenParenthesis, CloseParenthesis, CloseBrace}
-use Rattle.ldscript_tokens.specs.declared.token.Mark.TheVariants.{Semicolon}
-use Rattle.ldscript_tokens.specs.declared.token.Mode.TheVariants.{Pattern}
+use Rattle.ldscript.proofs.Common.{Bool, CloseBrace, CloseParenthesis, Err, IfOk, IfSome, Input, InputStatement, Lexeme}
+use Rattle.ldscript.proofs.Common.{List, Mark, None, NoneAt, Ok, OpenParenthesis, Option, Pattern, Punctuation, Reads}
+use Rattle.ldscript.proofs.Common.{Result, Rule, Semicolon, Some, [], ap, codes, excluded_files, false, false≢true, inl}
+use Rattle.ldscript.proofs.Common.{input_statement, inr, is_free_word, is_reserved, key, mark, pattern, refl, selected}
+use Rattle.ldscript.proofs.Common.{some, statements, subst, sym, token, true, word_part, ℕ, ◌∙◌, ◌∷◌, ◌≡◌, ◌⊎◌, ◌▸◌}
+use Rattle.ldscript_tokens.specs.Tokens.{Word}
 use Rattle.ldscript_terms.specs.Parts as patterns
 use Rattle.ldscript_terms.specs.Spelling.{SpellsPattern}
 use Rattle.ldscript_terms.proofs.Reading.{one_pattern}
-use Rattle.ldscript.specs.Steps.{Rule, ◌▸◌, mark, token, key, pattern, some, statements}
-use Rattle.ldscript.specs.Grammar.{sort, excluded, exclusion, one, bare, selection, plain, kept, input, input_statement}
-use Rattle.ldscript.specs.Readings.{NoneAt, Reads, excluded_files, word_part, selected}
+use Rattle.ldscript.specs.Grammar.{sort, excluded, exclusion, one, bare, selection, plain, kept, input}
 use Rattle.ldscript_statements.specs.declared.input.Sort.{Sort}
 use Rattle.ldscript_statements.specs.declared.input.Sort.TheVariants.{ByName, ByAlignment}
 use Rattle.ldscript_statements.specs.declared.input.SectionWord.{SectionWord}
-use Rattle.ldscript_statements.specs.declared.input.Input.{Input}
-use Rattle.ldscript_statements.specs.declared.input.InputStatement.{InputStatement}
 use Rattle.ldscript.proofs.Singles.{Single, tokens_same, mark_fixed, key_fixed, skip_single, pair_single, keys_differ}
 use Rattle.ldscript.proofs.Singles.{behind, behind_tree, marks_differ, same_words}
 use Rattle.ldscript.proofs.Each.{EachListed, some_single}

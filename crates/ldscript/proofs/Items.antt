@@ -1,37 +1,18 @@
 -- Output sections and the statements of SECTIONS: no tokens are two of them.
-use Rattle.std.proofs.Common.{◌≡◌, ◌∙◌, refl, sym, ap, subst, ℕ, List, ◌⊎◌, inl, inr, true, false, Option, Some, None}
-use Rattle.std.proofs.Common.{Result, Ok, Err, length, ◌<◌, arith}
-use Rattle.std.specs.Prelude.{codes, bytes_eq}
-use Rattle.std.proofs.lemmas.Bool.{false≢true}
-use Rattle.ldscript_tokens.specs.Tokens.{Lexeme, first_line, Name, Discard, Punctuation}
-use Rattle.ldscript_tokens.specs.Words.{is_free_name, is_reserved}
-use Rattle.ldscript_tokens.specs.declared.token.Mark.{Mark}
-use Rattle.ldscript_tokens.specs.declared.token.Mark.TheVariants.{OpenBrace, CloseBrace, Semicolon, Colon, Assign}
-use Rattle.ldscript_tokens.specs.declared.token.Mark.TheVariants.{Greater}
-use Rattle.ldscript_tokens.specs.declared.token.Mode.TheVariants.{Expression}
-use Rattle.ldscript_terms.specs.Expressions.{Expr}
-use Rattle.ldscript_terms.specs.Grammar.{Whole}
-use Rattle.ldscript.specs.Steps.{◌▸◌, mark, token, key, name, optional, expression, statements}
-use Rattle.ldscript.specs.Grammar.{
-  ended,
-  in_parentheses,
-  dot_command,
-  directive,
-  stated_address,
-  at_address,
-  load_in_head,
-}
-use Rattle.ldscript.specs.Grammar.{load_in_tail, alignment, section, body_statement, input_statement, discarded}
-use Rattle.ldscript.specs.Grammar.{discard, item_command, item_statement}
-use Rattle.ldscript.specs.Readings.{Takes, TakesOnly, NoneAt, NoneUntil, Reads, EndsSection, TakesTail, tail_part}
-use Rattle.ldscript.specs.Readings.{IsOfParts, opened_part, head_part, discard_head}
-use Rattle.ldscript_statements.specs.declared.directive.Directive.{Directive}
+use Rattle.ldscript.proofs.Common.{Assign, BodyStatement, CloseBrace, Colon, Directive, Discard, EndsSection, Err, Expr}
+use Rattle.ldscript.proofs.Common.{Expression, Greater, InputStatement, IsOfParts, Lexeme, List, Mark, Name, None}
+use Rattle.ldscript.proofs.Common.{NoneAt, NoneUntil, Ok, OpenBrace, Option, Punctuation, Reads, Result, SectionTail}
+use Rattle.ldscript.proofs.Common.{Semicolon, Some, Takes, TakesOnly, TakesTail, Whole, ap, arith, body_statement}
+use Rattle.ldscript.proofs.Common.{bytes_eq, codes, directive, discard_head, dot_command, ended, expression, false}
+use Rattle.ldscript.proofs.Common.{false≢true, first_line, head_part, in_parentheses, inl, input_statement, inr}
+use Rattle.ldscript.proofs.Common.{is_free_name, is_reserved, item_statement, key, length, mark, opened_part, refl}
+use Rattle.ldscript.proofs.Common.{statements, subst, sym, tail_part, token, true, ℕ, ◌<◌, ◌∙◌, ◌≡◌, ◌⊎◌, ◌▸◌}
+use Rattle.ldscript.specs.Steps.{name, optional}
+use Rattle.ldscript.specs.Grammar.{stated_address, at_address, load_in_head, load_in_tail, alignment, section}
+use Rattle.ldscript.specs.Grammar.{discarded, discard, item_command}
 use Rattle.ldscript_statements.specs.declared.directive.Directive.TheVariants as directives
 use Rattle.ldscript_statements.specs.declared.directive.DotCommand.{DotCommand}
-use Rattle.ldscript_statements.specs.declared.input.InputStatement.{InputStatement}
 use Rattle.ldscript.specs.declared.read_section.SectionHead.{SectionHead}
-use Rattle.ldscript.specs.declared.read_section.SectionTail.{SectionTail}
-use Rattle.ldscript_statements.specs.declared.section.BodyStatement.{BodyStatement}
 use Rattle.ldscript_statements.specs.declared.section.Load.{Load}
 use Rattle.ldscript_statements.specs.declared.section.Load.TheVariants.{Unstated, At, InRegion}
 use Rattle.ldscript_statements.specs.declared.section.OutputSection.{OutputSection}

@@ -1,11 +1,8 @@
 -- Lists of statements up to what closes them.
-use Rattle.std.proofs.Common.{◌≡◌, ◌∙◌, refl, sym, ap, subst, List, [], ◌∷◌, ◌++◌, length, ◌<◌, ◌≤◌, ◌⊎◌, inl, inr}
-use Rattle.std.proofs.Common.{arith, append_assoc}
-use Rattle.std.proofs.lemmas.List.{append-nil}
-use Rattle.ldscript_tokens.specs.Tokens.{Lexeme}
-use Rattle.ldscript_tokens.specs.declared.token.Mark.TheVariants.{Semicolon}
-use Rattle.ldscript.specs.Steps.{Rule, ◌▸◌, mark, Semicolons, none, one, statements}
-use Rattle.ldscript.specs.Readings.{Takes, NoneAt}
+use Rattle.ldscript.proofs.Common.{Lexeme, List, NoneAt, Rule, Semicolon, Takes, [], ap, append-nil, append_assoc}
+use Rattle.ldscript.proofs.Common.{arith, inl, inr, length, mark, refl, statements, subst, sym, ◌++◌, ◌<◌, ◌∙◌, ◌∷◌}
+use Rattle.ldscript.proofs.Common.{◌≡◌, ◌≤◌, ◌⊎◌, ◌▸◌}
+use Rattle.ldscript.specs.Steps.{Semicolons, none, one}
 use Rattle.ldscript.proofs.Singles.{Fixed, SingleUntil, mark_fixed}
 
 -- what tells the statements of a list, the `;` between them and what closes the list apart

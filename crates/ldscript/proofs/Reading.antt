@@ -1,8 +1,6 @@
 -- How readers of parts are put together.
-use Rattle.std.proofs.Common.{List, length, ◌<◌, Option, Some, None, Result, Ok, Err, arith}
-use Rattle.ldscript_tokens.specs.Tokens.{Lexeme}
-use Rattle.ldscript.specs.Steps.{Rule, ◌▸◌}
-use Rattle.ldscript.specs.Readings.{NoneAt, Reads, Follows}
+use Rattle.ldscript.proofs.Common.{Err, Follows, Lexeme, List, None, NoneAt, Ok, Option, Reads, Result, Rule, Some}
+use Rattle.ldscript.proofs.Common.{arith, length, ◌<◌, ◌▸◌}
 use Rattle.ldscript.proofs.Singles.{Fixed, behind}
 
 -- where a part can't begin, nothing that begins with it stands

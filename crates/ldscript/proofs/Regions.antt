@@ -1,15 +1,9 @@
 -- Memory regions: no tokens are two of them.
-use Rattle.std.proofs.Common.{◌≡◌, ◌∙◌, sym, ap, subst, ℕ, List}
-use Rattle.std.specs.Prelude.{codes}
-use Rattle.ldscript_tokens.specs.Tokens.{Lexeme, Name, Punctuation}
-use Rattle.ldscript_tokens.specs.declared.token.Mark.{Mark}
-use Rattle.ldscript_tokens.specs.declared.token.Mark.TheVariants.{CloseBrace, Colon, Comma, Assign}
-use Rattle.ldscript_tokens.specs.declared.token.Mode.TheVariants.{Expression}
-use Rattle.ldscript_terms.specs.Expressions.{Expr}
-use Rattle.ldscript_terms.specs.Reading.{Stops}
-use Rattle.ldscript_terms.specs.Grammar.{Whole}
-use Rattle.ldscript.specs.Steps.{◌▸◌, mark, token, key, name, each, expression}
-use Rattle.ldscript.specs.Grammar.{ended, region_head, region_middle, region}
+use Rattle.ldscript.proofs.Common.{Assign, CloseBrace, Colon, Comma, Expr, Expression, Lexeme, List, Mark, Name}
+use Rattle.ldscript.proofs.Common.{Punctuation, Stops, Whole, ap, codes, each, ended, expression, key, mark, region}
+use Rattle.ldscript.proofs.Common.{subst, sym, token, ℕ, ◌∙◌, ◌≡◌, ◌▸◌}
+use Rattle.ldscript.specs.Steps.{name}
+use Rattle.ldscript.specs.Grammar.{region_head, region_middle}
 use Rattle.ldscript_statements.specs.declared.statement.Region.{Region}
 use Rattle.ldscript.proofs.Singles.{Fixed, Single, SingleUntil, tokens_same, mark_fixed, key_fixed, then_fixed}
 use Rattle.ldscript.proofs.Singles.{end_single, behind, behind_tree, name_single, expression_single, ended_single}

@@ -1,26 +1,16 @@
 -- No tokens are two trees of one part: part by part.
-use Rattle.std.proofs.Common.{◌≡◌, ◌∙◌, refl, sym, ap, subst, ℕ, List, ◌∷◌, Bool, true, false, ◌&&◌}
-use Rattle.std.specs.Prelude.{IsTrue, codes, bytes_eq}
-use Rattle.std.proofs.lemmas.Bool.{false≢true}
-use Rattle.ldscript_tokens.specs.Tokens.{Token, Lexeme, lexeme, Text, Punctuation}
-use Rattle.ldscript_tokens.specs.Words.{is_free_name, is_reserved}
-use Rattle.ldscript_tokens.specs.declared.token.Mark.{Mark}
-use Rattle.ldscript_tokens.specs.declared.token.Mark.TheVariants.{OpenParenthesis, CloseParenthesis, Semicolon, Comma}
-use Rattle.ldscript_tokens.specs.declared.token.Mark.TheVariants.{Assign}
-use Rattle.ldscript_tokens.specs.declared.token.Mark.TheVariants.{AddAssign}
-use Rattle.ldscript_tokens.specs.declared.token.Mode.{Mode}
-use Rattle.ldscript_tokens.specs.declared.token.Mode.TheVariants.{Expression, Pattern}
-use Rattle.ldscript_terms.specs.Expressions.{Expr}
-use Rattle.ldscript_terms.specs.Grammar.{Whole, Sign}
-use Rattle.ldscript_terms.specs.Reading.{Stops, StopsAt}
-use Rattle.ldscript.specs.Steps.{Rule, ◌▸◌, token, mark, word_in, key, is_name_spelling, is_name_in, name_in, name}
-use Rattle.ldscript.specs.Steps.{string, expression}
-use Rattle.ldscript.specs.Grammar.{ended, dot_set_to, add_to, dot_change, dot_command, assign, provided_name}
-use Rattle.ldscript.specs.Grammar.{provided_assignment, provide, asserted, assertion, directive, in_parentheses}
+use Rattle.ldscript.proofs.Common.{Add, AddAssign, Assign, Bool, CloseParenthesis, Comma, Expr, Expression, IsTrue}
+use Rattle.ldscript.proofs.Common.{Lexeme, List, Mark, Mode, OpenParenthesis, Pattern, Punctuation, Rule, Semicolon}
+use Rattle.ldscript.proofs.Common.{Set, Sign, Stops, StopsAt, Whole, ap, asserted, bytes_eq, codes, directive}
+use Rattle.ldscript.proofs.Common.{dot_command, ended, expression, false, false≢true, in_parentheses, is_free_name}
+use Rattle.ldscript.proofs.Common.{is_reserved, key, lexeme, mark, provided_assignment, refl, string, subst, sym, token}
+use Rattle.ldscript.proofs.Common.{true, ℕ, ◌&&◌, ◌∙◌, ◌∷◌, ◌≡◌, ◌▸◌}
+use Rattle.ldscript_tokens.specs.Tokens.{Token, Text}
+use Rattle.ldscript.specs.Steps.{word_in, is_name_spelling, is_name_in, name_in, name}
+use Rattle.ldscript.specs.Grammar.{dot_set_to, add_to, dot_change, assign, provided_name, provide, assertion}
 use Rattle.ldscript_statements.specs.declared.directive.Assignment.{Assignment}
 use Rattle.ldscript_statements.specs.declared.directive.Assertion.{Assertion}
 use Rattle.ldscript_statements.specs.declared.directive.Directive.TheVariants as directives
-use Rattle.ldscript_statements.specs.declared.directive.DotCommand.TheVariants.{Set, Add}
 use Rattle.ldscript.proofs.Expressions.{one_expression}
 
 -- a part without a tree leads to one place

@@ -1,17 +1,11 @@
 -- No expression begins with `:` or `=`.
-use Rattle.std.proofs.Common.{◌≡◌, ◌∙◌, sym, ap, ℕ, List, ◌∷◌, Some, None}
-use Rattle.ldscript_tokens.specs.Tokens.{Lexeme, lexeme, Punctuation}
-use Rattle.ldscript_tokens.specs.declared.token.Mark.{Mark}
-use Rattle.ldscript_tokens.specs.declared.token.Mark.TheVariants.{OpenParenthesis}
+use Rattle.ldscript.proofs.Common.{Expr, Lexeme, List, Mark, None, OpenParenthesis, Punctuation, Sign, Some, ap, lexeme}
+use Rattle.ldscript.proofs.Common.{mark, sym, ℕ, ◌∙◌, ◌∷◌, ◌≡◌}
 use Rattle.ldscript_terms.specs.Operators.{unary_of}
 use Rattle.ldscript_terms.specs.declared.operator.UnaryOperator.{UnaryOperator}
-use Rattle.ldscript_terms.specs.Expressions.{Expr}
-use Rattle.ldscript_terms.specs.Grammar.{Word, Terminal, Numeral, Worded, Sign, terminal_of, Begins, Level, Spells}
-use Rattle.ldscript_terms.specs.Grammar.{number}
+use Rattle.ldscript_terms.specs.Grammar.{Word, Terminal, Numeral, Worded, terminal_of, Begins, Level, Spells, number}
 use Rattle.ldscript_terms.specs.Grammar.{dot, name, group, of_region, of_section, align, one_argument, two_arguments}
-use Rattle.ldscript_terms.specs.Grammar.{primary}
-use Rattle.ldscript_terms.specs.Grammar.{unary, operand, binary, operators, choice}
-use Rattle.ldscript.specs.Steps.{mark}
+use Rattle.ldscript_terms.specs.Grammar.{primary, unary, operand, binary, operators, choice}
 
 same_first : (x y : Lexeme) (r s : List Lexeme) → x ∷ r ≡ y ∷ s → x ≡ y
 same_first x y r s e = cc

@@ -1,15 +1,11 @@
 -- What follows the `}` of an output section: parts that may stand there or not.
-use Rattle.std.proofs.Common.{◌≡◌, ◌∙◌, refl, sym, ap, subst, ℕ, List, Option, Some, None, length, ◌≤◌, arith}
-use Rattle.std.specs.Prelude.{codes}
-use Rattle.ldscript_tokens.specs.Tokens.{Lexeme, Name, Number, Punctuation}
-use Rattle.ldscript_tokens.specs.declared.token.Mark.{Mark}
-use Rattle.ldscript_tokens.specs.declared.token.Mark.TheVariants.{Greater, Assign}
-use Rattle.ldscript_tokens.specs.declared.token.Mode.TheVariants.{Expression}
-use Rattle.ldscript.specs.Steps.{Rule, ◌▸◌, mark, key, name, optional}
+use Rattle.ldscript.proofs.Common.{Assign, EndsSection, Expression, Greater, Lexeme, List, Mark, Maybe, Name, None}
+use Rattle.ldscript.proofs.Common.{NoneAt, NoneUntil, Option, Punctuation, Rule, SectionTail, Some, TakesTail, ap}
+use Rattle.ldscript.proofs.Common.{arith, codes, key, length, mark, refl, subst, sym, tail_part, ℕ, ◌∙◌, ◌≡◌, ◌≤◌, ◌▸◌}
+use Rattle.ldscript_tokens.specs.Tokens.{Number}
+use Rattle.ldscript.specs.Steps.{name, optional}
 use Rattle.ldscript_statements.specs.Fill.{fill_of}
 use Rattle.ldscript.specs.Grammar.{fill, in_region, at_region, filled}
-use Rattle.ldscript.specs.Readings.{NoneAt, NoneUntil, EndsSection, Maybe, TakesTail, tail_part}
-use Rattle.ldscript.specs.declared.read_section.SectionTail.{SectionTail}
 use Rattle.ldscript.proofs.Singles.{Single, tokens_same, mark_fixed, key_fixed, skip_single, name_single, marks_differ}
 
 pub in_region_single : Single in_region

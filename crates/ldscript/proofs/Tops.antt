@@ -1,29 +1,13 @@
 -- The statements of a script, and the law that no text has two trees.
-use Rattle.std.proofs.Common.{◌≡◌, ◌∙◌, refl, sym, ap, subst, ℕ, List, [], ◌∷◌, true, false}
-use Rattle.std.specs.Prelude.{codes, bytes_eq}
-use Rattle.std.proofs.lemmas.List.{append-nil}
-use Rattle.ldscript_tokens.specs.Tokens.{Lexeme, lexeme, first_line, Name, Punctuation}
-use Rattle.ldscript_tokens.specs.Words.{is_free_name, is_reserved}
+use Rattle.ldscript.proofs.Common.{CloseBrace, CloseParenthesis, Directive, Expression, Lexeme, List, Name, NoneAt}
+use Rattle.ldscript.proofs.Common.{OpenBrace, OpenParenthesis, Punctuation, Rule, Semicolon, [], ap, append-nil}
+use Rattle.ldscript.proofs.Common.{bytes_eq, codes, directive, each, false, first_line, is_free_name, is_reserved}
+use Rattle.ldscript.proofs.Common.{item_statement, key, lexeme, mark, refl, region, statements, subst, sym, token}
+use Rattle.ldscript.proofs.Common.{top_statement, true, ℕ, ◌∙◌, ◌∷◌, ◌≡◌, ◌▸◌}
 use Rattle.ldscript_tokens.specs.Modes.{IsCut}
-use Rattle.ldscript_tokens.specs.declared.token.Mark.TheVariants.{OpenParenthesis, CloseParenthesis, OpenBrace}
-use Rattle.ldscript_tokens.specs.declared.token.Mark.TheVariants.{CloseBrace}
-use Rattle.ldscript_tokens.specs.declared.token.Mark.TheVariants.{Semicolon}
-use Rattle.ldscript_tokens.specs.declared.token.Mode.TheVariants.{Expression}
-use Rattle.ldscript.specs.Steps.{Rule, ◌▸◌, mark, token, key, name, each, statements, Semicolons, none}
-use Rattle.ldscript.specs.Grammar.{
-  directive,
-  region,
-  item_statement,
-  entry,
-  memory,
-  sections,
-  top_command,
-  top_statement,
-}
-use Rattle.ldscript.specs.Grammar.{script}
-use Rattle.ldscript.specs.Readings.{NoneAt}
+use Rattle.ldscript.specs.Steps.{name, Semicolons, none}
+use Rattle.ldscript.specs.Grammar.{entry, memory, sections, top_command, script}
 use Rattle.ldscript.specs.Script.{IsTree}
-use Rattle.ldscript_statements.specs.declared.directive.Directive.{Directive}
 use Rattle.ldscript_statements.specs.declared.directive.Directive.TheVariants as directives
 use Rattle.ldscript_statements.specs.declared.statement.Command.{Command}
 use Rattle.ldscript_statements.specs.declared.statement.Command.TheVariants as top

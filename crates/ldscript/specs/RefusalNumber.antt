@@ -10,4 +10,4 @@ script_refusal_number NotAScript = 2
 script_refusal_number Repeated = 3
 script_refusal_number MisplacedDot = 4
 script_refusal_number Limit = 5
-script_refusal_number NoMemory = 6
+script_refusal_number (NoMemory _) = 6

@@ -54,4 +54,4 @@ IsRefusal text NotAScript = IsNoTree text
 IsRefusal text Repeated = IsClashing text
 IsRefusal text MisplacedDot = IsMisplacing text
 IsRefusal text Limit = IsTokenRefusal text tokens.Limit
-IsRefusal text NoMemory = Unit {0}
+IsRefusal text (NoMemory _) = Unit {0}

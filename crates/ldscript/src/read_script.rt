@@ -11,13 +11,14 @@ use crate::read_directive::directive;
 use crate::read_item::items;
 use crate::read_region::regions;
 use crate::steps::{after, after_key, name_in_parentheses};
+use growth::NoMemory;
 use ldscript_statements::sequence::Sequence;
 use ldscript_statements::statement::{Command, Item, Region, Statement};
 use ldscript_terms::reader::Parsed;
 use ldscript_tokens::cursor::Cursor;
 use ldscript_tokens::name::ScriptName;
 use ldscript_tokens::token::{Mark, Mode};
-use std::alloc::{AllocError, Global};
+use std::alloc::Global;
 
 /// `ENTRY ( NAME )`
 fn entry<'a>(alloc: Global, tokens: Cursor<'a>) -> Parsed<'a, ScriptName>
@@ -82,7 +83,7 @@ fn top_command<'a>(alloc: Global, tokens: Cursor<'a>) -> Parsed<'a, Command>
 pub fn statements_of(
     alloc: Global,
     tokens: Cursor<'_>,
-) -> Result<Option<Sequence<Statement>>, AllocError>
+) -> Result<Option<Sequence<Statement>>, NoMemory>
     ensures { IfOk result (λ found. MatchOption found ((tree : List Statement) → script tree tokens.entry → ⊥)
         (λ tree. script tree tokens.entry)) }
 {

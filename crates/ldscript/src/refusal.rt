@@ -1,7 +1,6 @@
 //! Why a text is no script of the profile.
 
-use ldscript_statements::NoRoom;
-use std::alloc::AllocError;
+use growth::NoMemory;
 
 /// Why `Script::read` refuses. A text of more than 2^20 bytes is `Limit`; else the refusals are tested in the order
 /// `NotTokens`, `Limit`, `NotAScript`, `Repeated`, `MisplacedDot`, and the first that applies is answered. `NoMemory`
@@ -19,28 +18,17 @@ pub enum ScriptRefusal {
     /// 5: the text, a number, a name, the braces or a run of operators is over its limit.
     Limit,
     /// 6: out of memory.
-    NoMemory,
+    NoMemory(NoMemory),
 }
 
-impl From<AllocError> for ScriptRefusal {
+impl From<NoMemory> for ScriptRefusal {
     ghost use Rattle.std.specs.Prelude.{◌≡◌};
     ghost use Rattle.ldscript.specs.declared.refusal.ScriptRefusal.TheVariants.{NoMemory};
 
-    ghost from_gives = { λ _ e. e ≡ NoMemory };
+    ghost from_gives = { λ no_memory e. e ≡ NoMemory no_memory };
 
-    fn from(_failed: AllocError) -> ScriptRefusal {
-        ScriptRefusal::NoMemory
-    }
-}
-
-impl From<NoRoom> for ScriptRefusal {
-    ghost use Rattle.std.specs.Prelude.{◌≡◌};
-    ghost use Rattle.ldscript.specs.declared.refusal.ScriptRefusal.TheVariants.{NoMemory};
-
-    ghost from_gives = { λ _ e. e ≡ NoMemory };
-
-    fn from(_failed: NoRoom) -> ScriptRefusal {
-        ScriptRefusal::NoMemory
+    fn from(no_memory: NoMemory) -> ScriptRefusal {
+        ScriptRefusal::NoMemory(no_memory)
     }
 }
 
@@ -58,7 +46,7 @@ impl ScriptRefusal {
             ScriptRefusal::Repeated => 3,
             ScriptRefusal::MisplacedDot => 4,
             ScriptRefusal::Limit => 5,
-            ScriptRefusal::NoMemory => 6,
+            ScriptRefusal::NoMemory(_) => 6,
         }
     }
 }

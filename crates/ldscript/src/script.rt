@@ -10,6 +10,7 @@ ghost use Rattle.ldscript_statements.specs.Numbered.{shown_directives, shown_inp
 
 use crate::read_script::statements_of;
 use crate::refusal::ScriptRefusal;
+use growth::NoMemory;
 use ldscript_statements::dots::has_misplaced_dot;
 use ldscript_statements::given::Given;
 use ldscript_statements::mentions::has_clash;
@@ -21,7 +22,7 @@ use ldscript_statements::tables::Tables;
 use ldscript_tokens::cursor::Cursor;
 use ldscript_tokens::lexer::tokens;
 use ldscript_tokens::refusal::TokenRefusal;
-use std::alloc::{AllocError, Global};
+use std::alloc::Global;
 use std::marker::Model;
 
 /// A script: its statements in the order of the text, in which nothing clashes and no `.` is misplaced, with tables of
@@ -59,7 +60,7 @@ fn read_tree(alloc: Global, text: &[u8]) -> Result<Sequence<Statement>, ScriptRe
         Ok(tokens) => tokens,
         Err(TokenRefusal::NotAToken) => return Err(ScriptRefusal::NotTokens),
         Err(TokenRefusal::Limit) => return Err(ScriptRefusal::Limit),
-        Err(TokenRefusal::NoMemory) => return Err(ScriptRefusal::NoMemory),
+        Err(TokenRefusal::NoMemory(no_memory)) => return Err(ScriptRefusal::NoMemory(no_memory)),
     };
     match statements_of(alloc, Cursor::new(text, &tokens))? {
         Some(statements) => Ok(statements),
@@ -116,14 +117,14 @@ impl Script {
     }
 
     /// The output sections in the order of the text, without `/DISCARD/`.
-    pub fn output_sections(&self, alloc: Global) -> Result<Vec<OutputSectionAt<'_>>, AllocError>
+    pub fn output_sections(&self, alloc: Global) -> Result<Vec<OutputSectionAt<'_>>, NoMemory>
         ensures { IfOk result (λ found. shown_sections found.items ≡ output_sections self.now) }
     {
         numbering::output_sections(alloc, self.statements.as_slice())
     }
 
     /// The input statements in the order of the text, with those of `/DISCARD/`.
-    pub fn input_statements(&self, alloc: Global) -> Result<Vec<InputStatementAt<'_>>, AllocError>
+    pub fn input_statements(&self, alloc: Global) -> Result<Vec<InputStatementAt<'_>>, NoMemory>
         ensures { IfOk result (λ found. shown_inputs found.items ≡ input_statements self.now) }
     {
         numbering::input_statements(alloc, self.statements.as_slice())
@@ -131,14 +132,14 @@ impl Script {
 
     /// The assignments of symbols, `PROVIDE`s and `ASSERT`s in the order of the text: outside of `SECTIONS`, in it, and
     /// in output sections.
-    pub fn all_directives(&self, alloc: Global) -> Result<Vec<DirectiveAt<'_>>, AllocError>
+    pub fn all_directives(&self, alloc: Global) -> Result<Vec<DirectiveAt<'_>>, NoMemory>
         ensures { IfOk result (λ found. shown_directives found.items ≡ all_directives self.now) }
     {
         numbering::all_directives(alloc, self.statements.as_slice())
     }
 
     /// The memory regions in the order of the text.
-    pub fn regions(&self, alloc: Global) -> Result<Vec<&Region>, AllocError>
+    pub fn regions(&self, alloc: Global) -> Result<Vec<&Region>, NoMemory>
         ensures { IfOk result (λ found. shown_regions found.items ≡ regions self.now) }
     {
         numbering::regions(alloc, self.statements.as_slice())

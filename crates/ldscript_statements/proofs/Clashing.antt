@@ -1,15 +1,14 @@
 -- What the set of mentions tells of those before a place.
-use Rattle.std.proofs.Common.{◌≡◌, ℕ, ◌<◌, List, [], ◌∷◌, ◌++◌, Bool, true, false, not, refl, ap, ◌∙◌, sym, subst, inl}
-use Rattle.std.proofs.Common.{inr, length, get_or, arith, MatchBool, Bor}
+use Rattle.ldscript_statements.proofs.Common.{Bool, Bor, Clashes, EntryGiven, Holds, IsOnce, List, MatchBool, Meets}
+use Rattle.ldscript_statements.proofs.Common.{MemoryGiven, Mention, Ordering, RegionDeclared, RegionUsed, SectionNamed}
+use Rattle.ldscript_statements.proofs.Common.{SectionsGiven, SymbolGiven, [], ap, arith, false, false≢true, get_or, inl}
+use Rattle.ldscript_statements.proofs.Common.{inr, is_eq, length, match_ordering, mention_of, not, refl, shown, subst}
+use Rattle.ldscript_statements.proofs.Common.{sym, true, true≢false, ℕ, ◌++◌, ◌<◌, ◌||◌, ◌∙◌, ◌∷◌, ◌≡◌}
 use Rattle.std.specs.List.{Contains, list_any}
 use Rattle.std.specs.List.Sorted.{IsPermutation}
-use Rattle.std.specs.Prelude.{◌||◌}
 use Rattle.std.specs.Bool.{OnFalse}
 use Rattle.std.specs.BTreeSet.{insert_key}
-use Rattle.std.specs.Ordering.{is_eq, match_ordering}
-use Rattle.std.specs.declared.cmp.Ordering.{Ordering}
 use Rattle.std.specs.declared.cmp.Ordering.TheVariants.{Less, Equal, Greater}
-use Rattle.std.proofs.lemmas.Bool.{false≢true, true≢false}
 use Rattle.std.proofs.lemmas.List.{length-map, get_or-map}
 use Rattle.std.proofs.lemmas.List.Elements.{Contains-append_left, Contains-append_right, Contains-append_cases}
 use Rattle.std.proofs.lemmas.List.Folds.{Any-from_list_any, list_any_at}
@@ -18,10 +17,6 @@ use Rattle.std.proofs.lemmas.List.Sorted.{IsPermutation-append_comm, IsPermutati
 use Rattle.std.proofs.lemmas.List.Sorted.{IsPermutation-append_right, Contains-permutation}
 use Rattle.ldscript_statements.specs.declared.mention.Mention as code
 use Rattle.ldscript_statements.specs.declared.mention.Mention.TheVariants as variant
-use Rattle.ldscript_statements.specs.Mentions.{Mention, EntryGiven, MemoryGiven, SectionsGiven, SectionNamed}
-use Rattle.ldscript_statements.specs.Mentions.{SymbolGiven}
-use Rattle.ldscript_statements.specs.Mentions.{RegionDeclared, RegionUsed, Clashes}
-use Rattle.ldscript_statements.specs.Listed.{mention_of, shown, Holds, IsOnce, Meets}
 use Rattle.ldscript_statements.proofs.Derived.{same, same_shown, shown_same}
 
 -- what `contains` finds is there

@@ -1,10 +1,7 @@
 -- What the order of mentions says of two that it takes for equal.
-use Rattle.std.proofs.Common.{◌≡◌, Bool, true, arith}
-use Rattle.std.specs.Ordering.{is_eq}
+use Rattle.ldscript_statements.proofs.Common.{Bool, arith, bytes_eq-Decides, is_eq, mention_of, true, ◌≡◌}
 use Rattle.std.proofs.lemmas.Map.Text.{is_eq-slice_cmp}
-use Rattle.std.proofs.lemmas.Slice.Eq.{bytes_eq-Decides}
 use Rattle.ldscript_statements.specs.declared.mention.Mention as code
-use Rattle.ldscript_statements.specs.Listed.{mention_of}
 use Rattle.ldscript_statements.specs.contracts.mention.MentionOrd.TheImpl as derived
 
 abbrev pub same : code.Mention → code.Mention → Bool

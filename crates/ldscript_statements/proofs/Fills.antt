@@ -1,8 +1,6 @@
 -- Pairs of hex digits.
-use Rattle.std.proofs.Common.{◌≡◌, ◌∙◌, ap, ℕ, zero, suc, ◌+◌, ◌≤◌, ◌-◌, ◌++◌, ◌∷◌, [], List, Some, None, sym, subst}
-use Rattle.std.proofs.Common.{arith}
-use Rattle.ldscript_statements.specs.Fill.{hex_bytes, hex_pair, with_pair}
-use Rattle.std.specs.Prelude.{slice_index, ◌*◌}
+use Rattle.ldscript_statements.proofs.Common.{List, None, Some, [], ap, arith, hex_bytes, hex_pair, slice_index, subst}
+use Rattle.ldscript_statements.proofs.Common.{suc, sym, with_pair, zero, ℕ, ◌*◌, ◌++◌, ◌+◌, ◌-◌, ◌∙◌, ◌∷◌, ◌≡◌, ◌≤◌}
 
 -- where a pair is none, no more pairs make it good
 more_none : (digits : List ℕ) (i k : ℕ) → hex_bytes digits i ≡ None → hex_bytes digits (k + i) ≡ None

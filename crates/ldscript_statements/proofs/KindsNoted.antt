@@ -1,11 +1,8 @@
 -- Kinds of names: a bit that is set, and a table that gets a name.
-use Rattle.std.proofs.Common.{◌≡◌, ◌≢◌, ℕ, ◌<◌, ◌==◌, List, Bool, true, false, cond, Option, Some, Result, Ok, Err, ap}
-use Rattle.std.proofs.Common.{arith, sym, ◌∙◌, refl}
-use Rattle.std.specs.Prelude.{bytes_eq, is_some, max, OnErr, OnOk}
-use Rattle.std.specs.Int.{bit_at}
-use Rattle.std.specs.Int.Bits.{bit_or}
+use Rattle.ldscript_statements.proofs.Common.{Bool, Err, List, Ok, OnErr, OnOk, Option, Result, Some, ap, arith, bit_at}
+use Rattle.ldscript_statements.proofs.Common.{bit_at-lt, bit_at_or, bit_or, bytes_eq, cond, false, is_some, max, refl}
+use Rattle.ldscript_statements.proofs.Common.{sym, true, ℕ, ◌<◌, ◌==◌, ◌∙◌, ◌≡◌, ◌≢◌}
 use Rattle.std.proofs.lemmas.Bool.Decides.{nat_tests}
-use Rattle.std.proofs.lemmas.Nat.Bits.{bit_at-lt, bit_at_or}
 use Rattle.ldscript_statements.proofs.NameTables.{same_bytes}
 
 neither : (a b : ℕ) → a < 2 → b < 2 → (max a b == 1) ≡ false → (a == 1) ≡ false

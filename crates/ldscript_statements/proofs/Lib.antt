@@ -1,3 +1,4 @@
+pub mod Common
 pub mod Fills
 pub mod Listing
 pub mod Derived

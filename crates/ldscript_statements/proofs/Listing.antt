@@ -1,7 +1,7 @@
 -- How lists of mentions grow by an expression.
-use Rattle.std.proofs.Common.{◌≡◌, ℕ, List, [], ◌∷◌, ◌++◌, refl, ap, ◌∙◌, sym, append_assoc}
+use Rattle.ldscript_statements.proofs.Common.{List, Mention, RegionUsed, [], ap, append_assoc, in_expression, refl}
+use Rattle.ldscript_statements.proofs.Common.{regions_of, sym, used, ℕ, ◌++◌, ◌∙◌, ◌∷◌, ◌≡◌}
 use Rattle.ldscript_terms.specs.Expressions.{Expr}
-use Rattle.ldscript_statements.specs.Mentions.{Mention, RegionUsed, used, regions_of, in_expression}
 
 used_append : (xs ys : List (List ℕ)) → used (xs ++ ys) ≡ used xs ++ used ys
 used_append [] ys = refl

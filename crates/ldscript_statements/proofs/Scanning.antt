@@ -1,11 +1,11 @@
 -- A pass over a list of mentions.
-use Rattle.std.proofs.Common.{◌≡◌, ℕ, ◌+◌, ◌<◌, ◌≤◌, List, [], ◌∷◌, ◌++◌, Bool, true, false, refl, ap, ◌∙◌, sym, subst}
-use Rattle.std.proofs.Common.{inl, inr, ◌⊎◌, length, get_or, take, drop, MatchBool, Result, Ok, Err, IfOk}
+use Rattle.ldscript_statements.proofs.Common.{Bool, Clashes, Err, HasClash, HasClashIn, Holds, IfOk, List, MatchBool}
+use Rattle.ldscript_statements.proofs.Common.{Meets, Mention, Ok, Result, [], ap, drop, false, get_or, inl, inr, length}
+use Rattle.ldscript_statements.proofs.Common.{mention_of, mentions, refl, shown, subst, sym, take, true, ℕ, ◌++◌, ◌+◌}
+use Rattle.ldscript_statements.proofs.Common.{◌<◌, ◌∙◌, ◌∷◌, ◌≡◌, ◌≤◌, ◌⊎◌}
 use Rattle.std.proofs.lemmas.List.{take_more, take_all, take-append-drop, drop_more, map-append}
 use Rattle.ldscript_statements.specs.declared.mention.Mention as code
 use Rattle.ldscript_statements.specs.declared.statement.Statement.{Statement}
-use Rattle.ldscript_statements.specs.Mentions.{Mention, Clashes, HasClash, mentions}
-use Rattle.ldscript_statements.specs.Listed.{mention_of, shown, Holds, HasClashIn, Meets}
 
 -- the keys hold these, and none of these clashes with those before it
 pub record Scanned (keys : List code.Mention) (before : List Mention) : Type 0 where

@@ -6,8 +6,9 @@ ghost use Rattle.ldscript_tokens.specs.Bytes.{is_hex_digit};
 ghost use Rattle.ldscript_tokens.specs.Numbers.{digit_value};
 ghost use Rattle.ldscript_statements.specs.Fill.{fill_of, has_fill_length, hex_bytes, hex_pair};
 
+use growth::{NoMemory, vec};
 use ldscript_tokens::bytes::{byte_at, is_hex_digit};
-use std::alloc::{AllocError, Global};
+use std::alloc::Global;
 use std::marker::Model;
 
 /// The 1 to 8 bytes that gaps of an output section are filled with, repeated.
@@ -51,7 +52,7 @@ fn hex_pair(high: u8, low: u8) -> Option<u8>
 }
 
 /// The bytes that `count` pairs of hex digits spell, from left to right, or `None` if one of them is no digit.
-fn hex_bytes(alloc: Global, digits: &[u8], count: usize) -> Result<Option<Fill>, AllocError>
+fn hex_bytes(alloc: Global, digits: &[u8], count: usize) -> Result<Option<Fill>, NoMemory>
     requires some { 0 < count }
     requires few { count ≤ 8 }
     ensures { IfOk result (λ r. r ≡ hex_bytes digits.now count) }
@@ -59,7 +60,7 @@ fn hex_bytes(alloc: Global, digits: &[u8], count: usize) -> Result<Option<Fill>,
     let mut bytes = Vec::new(alloc);
     for i in 0..count {
         match hex_pair(byte_at(digits, 2 * i), byte_at(digits, 2 * i + 1)) {
-            Some(byte) => bytes.push(byte)?,
+            Some(byte) => vec::push(&mut bytes, byte)?,
             None => return Ok(None),
         }
     }
@@ -78,7 +79,7 @@ impl Fill {
     /// Reads a fill from the spelling of a number: two hex digits for each byte, from left to right. `None` if the
     /// number spells none: that is `0x`, an even number of 2 to 16 hex digits, and no suffix.
     #[tactic(auto, unfolding(crate::specs::Fill::fill_of))]
-    pub fn read(alloc: Global, spelled: &[u8]) -> Result<Option<Fill>, AllocError>
+    pub fn read(alloc: Global, spelled: &[u8]) -> Result<Option<Fill>, NoMemory>
         ensures { IfOk result (λ found. found ≡ fill_of spelled.now) }
     {
         if byte_at(spelled, 0) != b'0' || byte_at(spelled, 1) != b'x' {

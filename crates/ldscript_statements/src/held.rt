@@ -2,7 +2,8 @@
 
 ghost use Rattle.std.specs.Prelude.{◌≡◌, IfOk};
 
-use std::alloc::{AllocError, Global};
+use growth::{NoMemory, boxed};
+use std::alloc::Global;
 use std::marker::Model;
 
 /// A large case of an enum of the tree, in a box, so that the other cases do not take its size. Contracts see it as the
@@ -33,10 +34,10 @@ impl<T: Drop> Held<T> {
     /// # Errors
     ///
     /// If memory runs out. The part is then dropped.
-    pub fn new(alloc: Global, part: T) -> Result<Held<T>, AllocError>
+    pub fn new(alloc: Global, part: T) -> Result<Held<T>, NoMemory>
         ensures { IfOk result (λ held. held ≡ part) }
     {
-        let part = Box::new(alloc, part)?;
+        let part = boxed::new(alloc, part)?;
         Ok(Held { part })
     }
 }

@@ -27,5 +27,3 @@ pub mod sequence;
 pub mod statement;
 pub mod symbols;
 pub mod tables;
-
-pub use crate::mention::NoRoom;

@@ -14,19 +14,9 @@ use crate::directive::{Assignment, Directive, DotCommand};
 use crate::formula::Formula;
 use crate::section::{BodyCommand, BodyStatement, Load, OutputSection};
 use crate::statement::{Command, Item, ItemCommand, Region, Statement};
+use growth::{NoMemory, vec};
 use ldscript_terms::expression::Expr;
 use ldscript_tokens::name::ScriptName;
-use std::alloc::AllocFailed;
-
-/// Out of memory.
-#[derive(Clone, Copy, Debug)]
-pub struct NoRoom;
-
-impl<T: Drop> From<AllocFailed<T>> for NoRoom {
-    fn from(_failed: AllocFailed<T>) -> NoRoom {
-        NoRoom
-    }
-}
 
 /// A use of a name in a script, or a command that a script may have once.
 #[derive(Clone, Copy, PartialEq, Eq, PartialOrd, Ord)]
@@ -48,15 +38,15 @@ pub(crate) enum Mention<'a> {
 }
 
 /// Adds a mention at the end.
-fn note<'a>(list: &mut Vec<Mention<'a>>, mention: Mention<'a>) -> Result<(), NoRoom>
+fn note<'a>(list: &mut Vec<Mention<'a>>, mention: Mention<'a>) -> Result<(), NoMemory>
     ensures { OnOk result (Adds list.old.items list.new.items (mention_of mention.entry ∷ [])) }
 {
-    list.push(mention)?;
+    vec::push(list, mention)?;
     Ok(())
 }
 
 /// Adds what an expression mentions.
-fn note_expression<'a>(list: &mut Vec<Mention<'a>>, expr: &'a Expr) -> Result<(), NoRoom>
+fn note_expression<'a>(list: &mut Vec<Mention<'a>>, expr: &'a Expr) -> Result<(), NoMemory>
     ensures { OnOk result (Adds list.old.items list.new.items (in_expression (expr_of expr.now))) }
 {
     match expr {
@@ -78,14 +68,17 @@ fn note_expression<'a>(list: &mut Vec<Mention<'a>>, expr: &'a Expr) -> Result<()
 }
 
 /// Adds what an expression of a statement mentions.
-fn note_formula<'a>(list: &mut Vec<Mention<'a>>, value: &'a Formula) -> Result<(), NoRoom>
+fn note_formula<'a>(list: &mut Vec<Mention<'a>>, value: &'a Formula) -> Result<(), NoMemory>
     ensures { OnOk result (Adds list.old.items list.new.items (in_expression value.now)) }
 {
     note_expression(list, value.expr())
 }
 
 /// Adds what an expression mentions, if there is one.
-fn note_optional<'a>(list: &mut Vec<Mention<'a>>, value: &'a Option<Formula>) -> Result<(), NoRoom>
+fn note_optional<'a>(
+    list: &mut Vec<Mention<'a>>,
+    value: &'a Option<Formula>,
+) -> Result<(), NoMemory>
     ensures { OnOk result (Adds list.old.items list.new.items (in_optional value.now)) }
 {
     match value {
@@ -98,7 +91,7 @@ fn note_optional<'a>(list: &mut Vec<Mention<'a>>, value: &'a Option<Formula>) ->
 fn note_assignment<'a>(
     list: &mut Vec<Mention<'a>>,
     assignment: &'a Assignment,
-) -> Result<(), NoRoom>
+) -> Result<(), NoMemory>
     ensures { OnOk result (Adds list.old.items list.new.items (in_assignment assignment.now)) }
 {
     note(list, Mention::SymbolGiven(assignment.name.as_bytes()))?;
@@ -107,7 +100,7 @@ fn note_assignment<'a>(
 }
 
 /// Adds what a directive mentions.
-fn note_directive<'a>(list: &mut Vec<Mention<'a>>, command: &'a Directive) -> Result<(), NoRoom>
+fn note_directive<'a>(list: &mut Vec<Mention<'a>>, command: &'a Directive) -> Result<(), NoMemory>
     ensures { OnOk result (Adds list.old.items list.new.items (in_directive command.now)) }
 {
     match command {
@@ -119,7 +112,10 @@ fn note_directive<'a>(list: &mut Vec<Mention<'a>>, command: &'a Directive) -> Re
 }
 
 /// Adds what an assignment to `.` mentions.
-fn note_dot_command<'a>(list: &mut Vec<Mention<'a>>, command: &'a DotCommand) -> Result<(), NoRoom>
+fn note_dot_command<'a>(
+    list: &mut Vec<Mention<'a>>,
+    command: &'a DotCommand,
+) -> Result<(), NoMemory>
     ensures { OnOk result (Adds list.old.items list.new.items (in_dot_command command.now)) }
 {
     match command {
@@ -131,7 +127,7 @@ fn note_dot_command<'a>(list: &mut Vec<Mention<'a>>, command: &'a DotCommand) ->
 fn note_body_command<'a>(
     list: &mut Vec<Mention<'a>>,
     command: &'a BodyCommand,
-) -> Result<(), NoRoom>
+) -> Result<(), NoMemory>
     ensures { OnOk result (Adds list.old.items list.new.items (in_body_command command.now)) }
 {
     match command {
@@ -143,7 +139,7 @@ fn note_body_command<'a>(
 }
 
 /// Adds what the statements of an output section mention.
-fn note_body<'a>(list: &mut Vec<Mention<'a>>, body: &'a [BodyStatement]) -> Result<(), NoRoom>
+fn note_body<'a>(list: &mut Vec<Mention<'a>>, body: &'a [BodyStatement]) -> Result<(), NoMemory>
     ensures { OnOk result (Adds list.old.items list.new.items (in_body body.now)) }
 {
     for statement in body {
@@ -156,7 +152,7 @@ fn note_body<'a>(list: &mut Vec<Mention<'a>>, body: &'a [BodyStatement]) -> Resu
 fn note_region_name<'a>(
     list: &mut Vec<Mention<'a>>,
     region: &'a Option<ScriptName>,
-) -> Result<(), NoRoom>
+) -> Result<(), NoMemory>
     ensures { OnOk result (Adds list.old.items list.new.items (in_region_name region.now)) }
 {
     match region {
@@ -166,7 +162,7 @@ fn note_region_name<'a>(
 }
 
 /// Adds what a section's head mentions for its load address.
-fn note_load_head<'a>(list: &mut Vec<Mention<'a>>, load: &'a Load) -> Result<(), NoRoom>
+fn note_load_head<'a>(list: &mut Vec<Mention<'a>>, load: &'a Load) -> Result<(), NoMemory>
     ensures { OnOk result (Adds list.old.items list.new.items (in_load_head load.now)) }
 {
     match load {
@@ -176,7 +172,7 @@ fn note_load_head<'a>(list: &mut Vec<Mention<'a>>, load: &'a Load) -> Result<(),
 }
 
 /// Adds what a section mentions after its body for its load address.
-fn note_load_tail<'a>(list: &mut Vec<Mention<'a>>, load: &'a Load) -> Result<(), NoRoom>
+fn note_load_tail<'a>(list: &mut Vec<Mention<'a>>, load: &'a Load) -> Result<(), NoMemory>
     ensures { OnOk result (Adds list.old.items list.new.items (in_load_tail load.now)) }
 {
     match load {
@@ -186,7 +182,7 @@ fn note_load_tail<'a>(list: &mut Vec<Mention<'a>>, load: &'a Load) -> Result<(),
 }
 
 /// Adds what an output section mentions.
-fn note_section<'a>(list: &mut Vec<Mention<'a>>, section: &'a OutputSection) -> Result<(), NoRoom>
+fn note_section<'a>(list: &mut Vec<Mention<'a>>, section: &'a OutputSection) -> Result<(), NoMemory>
     ensures { OnOk result (Adds list.old.items list.new.items (in_section section.now)) }
 {
     note(list, Mention::SectionNamed(section.name.as_bytes()))?;
@@ -203,7 +199,7 @@ fn note_section<'a>(list: &mut Vec<Mention<'a>>, section: &'a OutputSection) -> 
 fn note_item_command<'a>(
     list: &mut Vec<Mention<'a>>,
     command: &'a ItemCommand,
-) -> Result<(), NoRoom>
+) -> Result<(), NoMemory>
     ensures { OnOk result (Adds list.old.items list.new.items (in_item_command command.now)) }
 {
     match command {
@@ -215,7 +211,7 @@ fn note_item_command<'a>(
 }
 
 /// Adds what the statements of `SECTIONS` mention.
-fn note_items<'a>(list: &mut Vec<Mention<'a>>, items: &'a [Item]) -> Result<(), NoRoom>
+fn note_items<'a>(list: &mut Vec<Mention<'a>>, items: &'a [Item]) -> Result<(), NoMemory>
     ensures { OnOk result (Adds list.old.items list.new.items (in_items items.now)) }
 {
     for item in items {
@@ -225,7 +221,7 @@ fn note_items<'a>(list: &mut Vec<Mention<'a>>, items: &'a [Item]) -> Result<(), 
 }
 
 /// Adds what the regions of `MEMORY` mention.
-fn note_regions<'a>(list: &mut Vec<Mention<'a>>, regions: &'a [Region]) -> Result<(), NoRoom>
+fn note_regions<'a>(list: &mut Vec<Mention<'a>>, regions: &'a [Region]) -> Result<(), NoMemory>
     ensures { OnOk result (Adds list.old.items list.new.items (in_regions regions.now)) }
 {
     for region in regions {
@@ -237,7 +233,7 @@ fn note_regions<'a>(list: &mut Vec<Mention<'a>>, regions: &'a [Region]) -> Resul
 }
 
 /// Adds what a statement of a script mentions.
-fn note_command<'a>(list: &mut Vec<Mention<'a>>, command: &'a Command) -> Result<(), NoRoom>
+fn note_command<'a>(list: &mut Vec<Mention<'a>>, command: &'a Command) -> Result<(), NoMemory>
     ensures { OnOk result (Adds list.old.items list.new.items (in_top_command command.now)) }
 {
     match command {
@@ -260,7 +256,7 @@ fn note_command<'a>(list: &mut Vec<Mention<'a>>, command: &'a Command) -> Result
 pub(crate) fn note_statements<'a>(
     list: &mut Vec<Mention<'a>>,
     statements: &'a [Statement],
-) -> Result<(), NoRoom>
+) -> Result<(), NoMemory>
     ensures { OnOk result (Adds list.old.items list.new.items (mentions statements.now)) }
 {
     for statement in statements {

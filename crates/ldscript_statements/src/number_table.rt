@@ -8,7 +8,8 @@ ghost use Rattle.std.specs.Vec.{vec_items};
 ghost use Rattle.ldscript_statements.specs.NameKinds.{AreKindsOf};
 
 use crate::name_kinds::NameKinds;
-use std::alloc::{AllocError, Global};
+use growth::{NoMemory, btree_map, vec};
+use std::alloc::Global;
 use std::collections::BTreeMap;
 
 /// Numbers under names.
@@ -35,18 +36,13 @@ impl NumberTable {
     }
 
     /// Inserts a number under a name, in place of an earlier one.
-    pub(crate) fn put(
-        &mut self,
-        alloc: Global,
-        name: &[u8],
-        number: usize,
-    ) -> Result<(), AllocError>
+    pub(crate) fn put(&mut self, alloc: Global, name: &[u8], number: usize) -> Result<(), NoMemory>
         ensures { OnOk result ((q : List ℕ)
             → number_at self.new q ≡ (if bytes_eq q name.now then Some number else number_at self.old q)) }
     {
-        let key = Vec::from_slice(alloc, name)?;
+        let key = vec::from_slice(alloc, name)?;
         self.kinds.note(name);
-        self.numbers.insert(key, number)?;
+        btree_map::insert(&mut self.numbers, key, number)?;
         Ok(())
     }
 

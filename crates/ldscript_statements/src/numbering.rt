@@ -22,7 +22,8 @@ use crate::input::{Input, InputStatement};
 use crate::place::InputPlace;
 use crate::section::{BodyCommand, BodyStatement, OutputSection};
 use crate::statement::{Command, Item, ItemCommand, Region, Statement};
-use std::alloc::{AllocError, Global};
+use growth::{NoMemory, vec};
+use std::alloc::Global;
 
 /// An output section, and the line of its name.
 #[derive(Clone, Copy)]
@@ -54,17 +55,17 @@ pub struct DirectiveAt<'a> {
 }
 
 /// Adds statements of `SECTIONS` to a list.
-fn add_items<'a>(list: &mut Vec<&'a Item>, these: &'a [Item]) -> Result<(), AllocError>
+fn add_items<'a>(list: &mut Vec<&'a Item>, these: &'a [Item]) -> Result<(), NoMemory>
     ensures { OnOk result (AddsItems list.old.items list.new.items these.now) }
 {
     for item in these {
-        list.push(item)?;
+        vec::push(list, item)?;
     }
     Ok(())
 }
 
 /// Adds the statements of a command if it is `SECTIONS`.
-fn add_command_items<'a>(list: &mut Vec<&'a Item>, command: &'a Command) -> Result<(), AllocError>
+fn add_command_items<'a>(list: &mut Vec<&'a Item>, command: &'a Command) -> Result<(), NoMemory>
     ensures { OnOk result (AddsItems list.old.items list.new.items (items_of command.now)) }
 {
     match command {
@@ -74,7 +75,7 @@ fn add_command_items<'a>(list: &mut Vec<&'a Item>, command: &'a Command) -> Resu
 }
 
 /// The statements of `SECTIONS`.
-fn items<'a>(alloc: Global, statements: &'a [Statement]) -> Result<Vec<&'a Item>, AllocError>
+fn items<'a>(alloc: Global, statements: &'a [Statement]) -> Result<Vec<&'a Item>, NoMemory>
     ensures { IfOk result (λ v. shown_items v.items ≡ items statements.now) }
 {
     let mut list = Vec::new(alloc);
@@ -85,14 +86,14 @@ fn items<'a>(alloc: Global, statements: &'a [Statement]) -> Result<Vec<&'a Item>
 }
 
 /// Adds a statement of `SECTIONS` if it is an output section.
-fn add_section<'a>(list: &mut Vec<OutputSectionAt<'a>>, item: &'a Item) -> Result<(), AllocError>
+fn add_section<'a>(list: &mut Vec<OutputSectionAt<'a>>, item: &'a Item) -> Result<(), NoMemory>
     ensures { OnOk result (AddsSections list.old.items list.new.items (item_sections item.now.line item.now.command)) }
 {
     match &item.command {
         ItemCommand::Section(section) => {
             let line = item.line;
             let section = section.get();
-            list.push(OutputSectionAt { line, section })?;
+            vec::push(list, OutputSectionAt { line, section })?;
             Ok(())
         }
         ItemCommand::Dot(_) | ItemCommand::Directive(_) | ItemCommand::Discard(_) => Ok(()),
@@ -103,7 +104,7 @@ fn add_section<'a>(list: &mut Vec<OutputSectionAt<'a>>, item: &'a Item) -> Resul
 fn sections_of_items<'a>(
     alloc: Global,
     items: &[&'a Item],
-) -> Result<Vec<OutputSectionAt<'a>>, AllocError>
+) -> Result<Vec<OutputSectionAt<'a>>, NoMemory>
     ensures { IfOk result (λ v. shown_sections v.items ≡ sections_in (shown_items items.now)) }
 {
     let mut list = Vec::new(alloc);
@@ -117,7 +118,7 @@ fn sections_of_items<'a>(
 pub fn output_sections<'a>(
     alloc: Global,
     statements: &'a [Statement],
-) -> Result<Vec<OutputSectionAt<'a>>, AllocError>
+) -> Result<Vec<OutputSectionAt<'a>>, NoMemory>
     ensures { IfOk result (λ found. shown_sections found.items ≡ output_sections statements.now) }
 {
     let items = items(alloc, statements)?;
@@ -129,14 +130,14 @@ fn add_input<'a>(
     list: &mut Vec<InputStatementAt<'a>>,
     place: InputPlace,
     statement: &'a BodyStatement,
-) -> Result<(), AllocError>
+) -> Result<(), NoMemory>
     ensures { OnOk result (AddsInputs list.old.items list.new.items
         (inputs_of place statement.now.line statement.now.command)) }
 {
     match &statement.command {
         BodyCommand::Input(input) => {
             let line = statement.line;
-            list.push(InputStatementAt { line, place, input })?;
+            vec::push(list, InputStatementAt { line, place, input })?;
             Ok(())
         }
         BodyCommand::Dot(_) | BodyCommand::Directive(_) | BodyCommand::Data(_, _) => Ok(()),
@@ -148,7 +149,7 @@ fn add_body_inputs<'a>(
     list: &mut Vec<InputStatementAt<'a>>,
     place: InputPlace,
     body: &'a [BodyStatement],
-) -> Result<(), AllocError>
+) -> Result<(), NoMemory>
     ensures { OnOk result (AddsInputs list.old.items list.new.items (inputs_in place body.now)) }
 {
     for statement in body {
@@ -161,15 +162,18 @@ fn add_body_inputs<'a>(
 fn add_discarded<'a>(
     list: &mut Vec<InputStatementAt<'a>>,
     inputs: &'a [InputStatement],
-) -> Result<(), AllocError>
+) -> Result<(), NoMemory>
     ensures { OnOk result (AddsInputs list.old.items list.new.items (discarded_inputs inputs.now)) }
 {
     for statement in inputs {
-        list.push(InputStatementAt {
-            line: statement.line,
-            place: InputPlace::InDiscard,
-            input: &statement.input,
-        })?;
+        vec::push(
+            list,
+            InputStatementAt {
+                line: statement.line,
+                place: InputPlace::InDiscard,
+                input: &statement.input,
+            },
+        )?;
     }
     Ok(())
 }
@@ -179,7 +183,7 @@ fn add_item_inputs<'a>(
     list: &mut Vec<InputStatementAt<'a>>,
     number: usize,
     command: &'a ItemCommand,
-) -> Result<(), AllocError>
+) -> Result<(), NoMemory>
     ensures { OnOk result (AddsInputs list.old.items list.new.items (item_inputs number command.now)) }
 {
     match command {
@@ -207,7 +211,7 @@ fn section_count(item: &Item) -> usize
 fn inputs_of_items<'a>(
     alloc: Global,
     items: &[&'a Item],
-) -> Result<Vec<InputStatementAt<'a>>, AllocError>
+) -> Result<Vec<InputStatementAt<'a>>, NoMemory>
     ensures { IfOk result (λ v. shown_inputs v.items ≡ inputs_from 0 (shown_items items.now)) }
 {
     let mut list = Vec::new(alloc);
@@ -224,7 +228,7 @@ fn inputs_of_items<'a>(
 pub fn input_statements<'a>(
     alloc: Global,
     statements: &'a [Statement],
-) -> Result<Vec<InputStatementAt<'a>>, AllocError>
+) -> Result<Vec<InputStatementAt<'a>>, NoMemory>
     ensures { IfOk result (λ found. shown_inputs found.items ≡ input_statements statements.now) }
 {
     let items = items(alloc, statements)?;
@@ -236,11 +240,11 @@ fn add_directive<'a>(
     list: &mut Vec<DirectiveAt<'a>>,
     line: u32,
     command: &'a Directive,
-) -> Result<(), AllocError>
+) -> Result<(), NoMemory>
     ensures { OnOk result (AddsDirectives list.old.items list.new.items
         (record { line = line; command = command.now } ∷ [])) }
 {
-    list.push(DirectiveAt { line, command })?;
+    vec::push(list, DirectiveAt { line, command })?;
     Ok(())
 }
 
@@ -248,7 +252,7 @@ fn add_directive<'a>(
 fn add_body_directive<'a>(
     list: &mut Vec<DirectiveAt<'a>>,
     statement: &'a BodyStatement,
-) -> Result<(), AllocError>
+) -> Result<(), NoMemory>
     ensures { OnOk result (AddsDirectives list.old.items list.new.items
         (directives_of statement.now.line statement.now.command)) }
 {
@@ -262,7 +266,7 @@ fn add_body_directive<'a>(
 fn add_body_directives<'a>(
     list: &mut Vec<DirectiveAt<'a>>,
     body: &'a [BodyStatement],
-) -> Result<(), AllocError>
+) -> Result<(), NoMemory>
     ensures { OnOk result (AddsDirectives list.old.items list.new.items (directives_in body.now)) }
 {
     for statement in body {
@@ -272,10 +276,7 @@ fn add_body_directives<'a>(
 }
 
 /// Adds the directives of a statement of `SECTIONS`.
-fn add_item_directives<'a>(
-    list: &mut Vec<DirectiveAt<'a>>,
-    item: &'a Item,
-) -> Result<(), AllocError>
+fn add_item_directives<'a>(list: &mut Vec<DirectiveAt<'a>>, item: &'a Item) -> Result<(), NoMemory>
     ensures { OnOk result (AddsDirectives list.old.items list.new.items (item_directives item.now.line
         item.now.command)) }
 {
@@ -290,7 +291,7 @@ fn add_item_directives<'a>(
 fn add_items_directives<'a>(
     list: &mut Vec<DirectiveAt<'a>>,
     items: &'a [Item],
-) -> Result<(), AllocError>
+) -> Result<(), NoMemory>
     ensures { OnOk result (AddsDirectives list.old.items list.new.items (items_directives items.now)) }
 {
     for item in items {
@@ -303,7 +304,7 @@ fn add_items_directives<'a>(
 fn add_top_directives<'a>(
     list: &mut Vec<DirectiveAt<'a>>,
     statement: &'a Statement,
-) -> Result<(), AllocError>
+) -> Result<(), NoMemory>
     ensures { OnOk result (AddsDirectives list.old.items list.new.items
         (top_directives statement.now.line statement.now.command)) }
 {
@@ -319,7 +320,7 @@ fn add_top_directives<'a>(
 pub fn all_directives<'a>(
     alloc: Global,
     statements: &'a [Statement],
-) -> Result<Vec<DirectiveAt<'a>>, AllocError>
+) -> Result<Vec<DirectiveAt<'a>>, NoMemory>
     ensures { IfOk result (λ found. shown_directives found.items ≡ all_directives statements.now) }
 {
     let mut list = Vec::new(alloc);
@@ -330,20 +331,17 @@ pub fn all_directives<'a>(
 }
 
 /// Adds memory regions to a list.
-fn add_regions<'a>(list: &mut Vec<&'a Region>, these: &'a [Region]) -> Result<(), AllocError>
+fn add_regions<'a>(list: &mut Vec<&'a Region>, these: &'a [Region]) -> Result<(), NoMemory>
     ensures { OnOk result (AddsRegions list.old.items list.new.items these.now) }
 {
     for region in these {
-        list.push(region)?;
+        vec::push(list, region)?;
     }
     Ok(())
 }
 
 /// Adds the memory regions of a command if it is `MEMORY`.
-fn add_command_regions<'a>(
-    list: &mut Vec<&'a Region>,
-    command: &'a Command,
-) -> Result<(), AllocError>
+fn add_command_regions<'a>(list: &mut Vec<&'a Region>, command: &'a Command) -> Result<(), NoMemory>
     ensures { OnOk result (AddsRegions list.old.items list.new.items (regions_in command.now)) }
 {
     match command {
@@ -353,10 +351,7 @@ fn add_command_regions<'a>(
 }
 
 /// The memory regions of a script.
-pub fn regions<'a>(
-    alloc: Global,
-    statements: &'a [Statement],
-) -> Result<Vec<&'a Region>, AllocError>
+pub fn regions<'a>(alloc: Global, statements: &'a [Statement]) -> Result<Vec<&'a Region>, NoMemory>
     ensures { IfOk result (λ found. shown_regions found.items ≡ regions statements.now) }
 {
     let mut list = Vec::new(alloc);

@@ -2,7 +2,8 @@
 
 ghost use Rattle.std.specs.Prelude.{◌≡◌, [], ◌∷◌, ◌++◌, OnOk};
 
-use std::alloc::{AllocError, Global};
+use growth::{NoMemory, vec};
+use std::alloc::Global;
 use std::marker::Model;
 
 /// A list in the order of the text. Contracts see its elements, not where they are in memory.
@@ -43,13 +44,13 @@ impl<T: Drop> Sequence<T> {
     /// # Errors
     ///
     /// If memory runs out.
-    pub fn push(&mut self, element: T) -> Result<(), AllocError>
+    pub fn push(&mut self, element: T) -> Result<(), NoMemory>
         ensures { OnOk result (self.new ≡ self.old ++ element ∷ []) }
     {
         if self.elements.is_empty() {
-            self.elements.reserve_exact(1)?;
+            vec::reserve_exact(&mut self.elements, 1)?;
         }
-        self.elements.push(element)?;
+        vec::push(&mut self.elements, element)?;
         Ok(())
     }
 }

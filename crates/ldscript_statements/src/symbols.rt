@@ -5,17 +5,17 @@ ghost use Rattle.ldscript_terms.specs.CodeTerms.{expr_of};
 ghost use Rattle.ldscript_statements.specs.Given.{expression_symbols};
 ghost use Rattle.ldscript_statements.specs.Tables.{AddsNames};
 
+use growth::{NoMemory, vec};
 use ldscript_terms::expression::Expr;
-use std::alloc::AllocError;
 
 /// Adds the symbols that an expression names to a list, from left to right, each as often as it is named.
-pub fn add_symbols<'a>(list: &mut Vec<&'a [u8]>, expr: &'a Expr) -> Result<(), AllocError>
+pub fn add_symbols<'a>(list: &mut Vec<&'a [u8]>, expr: &'a Expr) -> Result<(), NoMemory>
     ensures { OnOk result (AddsNames list.old.items list.new.items (expression_symbols (expr_of expr.now))) }
 {
     match expr {
         Expr::Number(_) | Expr::Dot | Expr::OfRegion(_, _) | Expr::OfSection(_, _) => Ok(()),
         Expr::Name(name) => {
-            list.push(name.as_bytes())?;
+            vec::push(list, name.as_bytes())?;
             Ok(())
         }
         Expr::Unary(_, a) | Expr::AlignDot(a) => add_symbols(list, a),

@@ -11,7 +11,8 @@ use crate::given::Given;
 use crate::number_table::NumberTable;
 use crate::numbering::{DirectiveAt, OutputSectionAt, all_directives, output_sections, regions};
 use crate::statement::{Region, Statement};
-use std::alloc::{AllocError, Global};
+use growth::NoMemory;
+use std::alloc::Global;
 
 /// The numbers under which a script defines its names: symbols, output sections and memory regions.
 #[derive(Drop)]
@@ -28,7 +29,7 @@ fn enter_assigned(
     table: &mut NumberTable,
     number: usize,
     command: &Directive,
-) -> Result<(), AllocError>
+) -> Result<(), NoMemory>
     ensures { OnOk result (AssignsOver table.old table.new number command.now) }
 {
     match command {
@@ -38,7 +39,7 @@ fn enter_assigned(
 }
 
 /// The names that are assigned. The last command is entered first, so that the first one stays.
-fn assigned_names(alloc: Global, directives: &[DirectiveAt]) -> Result<NumberTable, AllocError>
+fn assigned_names(alloc: Global, directives: &[DirectiveAt]) -> Result<NumberTable, NoMemory>
     ensures { IfOk result (λ t. HasAssigned t (shown_directives directives.now)) }
 {
     let mut table = NumberTable::new(alloc);
@@ -56,7 +57,7 @@ fn enter_provided(
     table: &mut NumberTable,
     number: usize,
     command: &Directive,
-) -> Result<(), AllocError>
+) -> Result<(), NoMemory>
     ensures { OnOk result (ProvidesOver table.old table.new number command.now) }
 {
     match command {
@@ -66,7 +67,7 @@ fn enter_provided(
 }
 
 /// The names that are provided.
-fn provided_names(alloc: Global, directives: &[DirectiveAt]) -> Result<NumberTable, AllocError>
+fn provided_names(alloc: Global, directives: &[DirectiveAt]) -> Result<NumberTable, NoMemory>
     ensures { IfOk result (λ t. HasProvided t (shown_directives directives.now)) }
 {
     let mut table = NumberTable::new(alloc);
@@ -79,7 +80,7 @@ fn provided_names(alloc: Global, directives: &[DirectiveAt]) -> Result<NumberTab
 }
 
 /// The names of output sections.
-fn section_names(alloc: Global, sections: &[OutputSectionAt]) -> Result<NumberTable, AllocError>
+fn section_names(alloc: Global, sections: &[OutputSectionAt]) -> Result<NumberTable, NoMemory>
     ensures { IfOk result (λ t. HasSections t (shown_sections sections.now)) }
 {
     let mut table = NumberTable::new(alloc);
@@ -93,7 +94,7 @@ fn section_names(alloc: Global, sections: &[OutputSectionAt]) -> Result<NumberTa
 }
 
 /// The names of memory regions.
-fn region_names(alloc: Global, regions: &[&Region]) -> Result<NumberTable, AllocError>
+fn region_names(alloc: Global, regions: &[&Region]) -> Result<NumberTable, NoMemory>
     ensures { IfOk result (λ t. HasRegions t (shown_regions regions.now)) }
 {
     let mut table = NumberTable::new(alloc);
@@ -120,7 +121,7 @@ impl Tables {
     }
 
     /// The tables of these statements.
-    pub fn of(alloc: Global, statements: &[Statement]) -> Result<Tables, AllocError>
+    pub fn of(alloc: Global, statements: &[Statement]) -> Result<Tables, NoMemory>
         ensures { IfOk result (λ tables. IsTablesOf statements.now tables) }
     {
         let directives = all_directives(alloc, statements)?;

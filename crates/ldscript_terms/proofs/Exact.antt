@@ -1,15 +1,10 @@
 -- Patterns of bytes alone, and the pattern `*`.
-use Rattle.std.proofs.Common.{◌≡◌, ℕ, ◌↔◌, List, [], ◌∷◌, ◌++◌, map, Option, Some, None, MatchOption, IfSome, refl, sym}
-use Rattle.std.proofs.Common.{◌∙◌, ap, subst, append-nil, append_assoc}
+use Rattle.ldscript_terms.proofs.Common.{AnyByte, AnyRun, BeginsWith, Byte, CodePart, EndsHere, IfSome, List}
+use Rattle.ldscript_terms.proofs.Common.{MatchOption, Matches, None, OneOf, Option, Part, Some, SpellsPattern, [], ap}
+use Rattle.ldscript_terms.proofs.Common.{append-nil, append_assoc, code_byte, exact_name, map, option_map, part_of}
+use Rattle.ldscript_terms.proofs.Common.{refl, subst, sym, ℕ, ◌++◌, ◌↔◌, ◌∙◌, ◌∷◌, ◌≡◌}
 use Rattle.std.specs.Borrow.{Bor}
-use Rattle.std.specs.Option.{option_map}
-use Rattle.ldscript_terms.specs.Parts.{Part, AnyRun, AnyByte, Byte, OneOf}
-use Rattle.ldscript_terms.specs.CodeTerms.{part_of, code_byte}
-use Rattle.ldscript_terms.specs.Matching.{Matches, nothing, part}
-use Rattle.ldscript_terms.specs.CodeTerms.{exact_name}
-use Rattle.ldscript_terms.specs.Spelling.{SpellsPattern}
-use Rattle.ldscript_terms.specs.Trying.{BeginsWith, EndsHere}
-use Rattle.ldscript_terms.specs.declared.part.CodePart.{CodePart}
+use Rattle.ldscript_terms.specs.Matching.{nothing, part}
 use Rattle.ldscript_terms.specs.declared.part.CodePart.TheVariants as code
 use Rattle.ldscript_terms.proofs.Stars.{nothing_left}
 

@@ -1,15 +1,14 @@
 -- The front of a word is the part that its first bytes spell, and no other part is spelled there.
-use Rattle.std.proofs.Common.{◌≡◌, ◌≢◌, ℕ, zero, suc, ◌+◌, ◌-◌, ◌<◌, Bool, true, false, cond, eqb, ltb, ◌⊎◌, inl, inr}
-use Rattle.std.proofs.Common.{List, [], ◌∷◌, ◌++◌, length, take, get_or, Option, Some, None, refl, sym, ◌∙◌, ap, subst}
-use Rattle.std.proofs.Common.{append_assoc, length-append, arith}
+use Rattle.ldscript_terms.proofs.Common.{AnyByte, AnyRun, Bool, Byte, List, None, OneOf, Option, Part, Some, SpellsPart}
+use Rattle.ldscript_terms.proofs.Common.{[], ap, append_assoc, arith, cond, eq-eqb, eqb, eqb-true, false, false≢true}
+use Rattle.ldscript_terms.proofs.Common.{get_or, inl, inr, is_plain, length, length-append, ltb, ranges_of, refl, subst}
+use Rattle.ldscript_terms.proofs.Common.{suc, sym, take, true, zero, ℕ, ◌++◌, ◌+◌, ◌-◌, ◌<◌, ◌∙◌, ◌∷◌, ◌≡◌, ◌≢◌, ◌⊎◌}
 use Rattle.std.specs.List.{take_while, list_all, slice_range, prefix_len}
 use Rattle.std.proofs.Math.Seq.{take-append_seam, get_or-append_seam}
-use Rattle.std.proofs.lemmas.Bool.{false≢true, eqb-true, eq-eqb, lt-ltb, ltb-true, and_parts, and_from, cond-true}
-use Rattle.std.proofs.lemmas.Bool.{cond-false}
+use Rattle.std.proofs.lemmas.Bool.{lt-ltb, ltb-true, and_parts, and_from, cond-true, cond-false}
 use Rattle.std.proofs.lemmas.List.{take_more, length-take-le}
 use Rattle.std.proofs.lemmas.List.Sums.{take_while-cons, prefix_len-le-length}
-use Rattle.ldscript_terms.specs.Parts.{Part, AnyRun, AnyByte, Byte, OneOf, ranges_of}
-use Rattle.ldscript_terms.specs.Spelling.{is_plain, is_set_byte, IsSetBody, SpellsPart}
+use Rattle.ldscript_terms.specs.Spelling.{is_set_byte, IsSetBody}
 use Rattle.ldscript_tokens.specs.Bytes.{is_escapable}
 use Rattle.ldscript_terms.specs.Front.{Front, front_part, front, escape_front, set_front, set_length}
 

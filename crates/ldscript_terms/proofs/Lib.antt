@@ -1,3 +1,4 @@
+pub mod Common
 pub mod Readings
 pub mod Uniqueness
 pub mod Refusals

@@ -1,9 +1,6 @@
 -- What is answered of a pattern, from what is kept of it.
-use Rattle.std.proofs.Common.{◌≡◌, ℕ, ◌↔◌, Bool, IsTrue, List, [], ◌∷◌, map, sym, ◌∙◌, subst}
-use Rattle.ldscript_terms.specs.Parts.{Part, AnyRun, Byte}
-use Rattle.ldscript_terms.specs.Spelling.{SpellsPattern}
-use Rattle.ldscript_terms.specs.Matching.{Matches}
-use Rattle.ldscript_terms.specs.Forms.{spelled}
+use Rattle.ldscript_terms.proofs.Common.{AnyRun, Bool, Byte, IsTrue, List, Matches, Part, SpellsPattern, [], map}
+use Rattle.ldscript_terms.proofs.Common.{spelled, subst, sym, ℕ, ◌↔◌, ◌∙◌, ◌∷◌, ◌≡◌}
 use Rattle.ldscript_terms.proofs.Exact.{matches_bytes}
 use Rattle.ldscript_terms.proofs.Reading.{any_is_star}
 

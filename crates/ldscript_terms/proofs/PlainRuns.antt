@@ -1,12 +1,10 @@
 -- Bytes at the front of a word that spell themselves and meet those of a name, and a `*` at the end of a word.
-use Rattle.std.proofs.Common.{◌≡◌, ◌≢◌, ℕ, ◌+◌, ◌<◌, true, List, [], ◌∷◌, length, drop, get_or, refl, sym, ◌∙◌, ap}
-use Rattle.std.proofs.Common.{subst, append-nil, arith}
+use Rattle.ldscript_terms.proofs.Common.{AnyRun, BeginsWith, Byte, List, Matches, Part, Passed, SpellsPattern, [], ap}
+use Rattle.ldscript_terms.proofs.Common.{append-nil, arith, drop, get_or, is_plain, length, refl, subst, sym, true, ℕ}
+use Rattle.ldscript_terms.proofs.Common.{◌+◌, ◌<◌, ◌∙◌, ◌∷◌, ◌≡◌, ◌≢◌}
 use Rattle.std.proofs.lemmas.List.{drop_more, length-drop}
-use Rattle.ldscript_terms.specs.Parts.{Part, AnyRun, Byte}
-use Rattle.ldscript_terms.specs.Spelling.{SpellsPattern, is_plain}
-use Rattle.ldscript_terms.specs.Matching.{Matches, nothing, part}
+use Rattle.ldscript_terms.specs.Matching.{nothing, part}
 use Rattle.ldscript_terms.specs.Front.{front, front_part}
-use Rattle.ldscript_terms.specs.Trying.{BeginsWith, Passed}
 use Rattle.ldscript_terms.specs.declared.part.CodePart.TheVariants as code
 use Rattle.ldscript_terms.proofs.Fronts.{front_of_plain}
 use Rattle.ldscript_terms.proofs.Reading.{begins_with, none_left}

@@ -1,15 +1,12 @@
 -- A word read part by part.
-use Rattle.std.proofs.Common.{◌≡◌, ℕ, zero, suc, ◌≤◌, ◌<◌, ◌↔◌, Bool, false, IsTrue, eqb, List, [], ◌∷◌, ◌++◌, length}
-use Rattle.std.proofs.Common.{take, drop, None, refl, sym, ◌∙◌, ap, subst, length-append, arith}
-use Rattle.std.proofs.Math.Seq.{drop-append_seam}
-use Rattle.std.proofs.lemmas.Bool.{false≢true, eqb-true, eq-eqb}
+use Rattle.ldscript_terms.proofs.Common.{AnyRun, BeginsWith, Bool, EndsHere, IsSpelled, IsTrue, List, None, Part}
+use Rattle.ldscript_terms.proofs.Common.{SpellsPart, SpellsPattern, [], ap, arith, drop, drop-append_seam, eq-eqb, eqb}
+use Rattle.ldscript_terms.proofs.Common.{eqb-true, exact_name, false, false≢true, length, length-append, refl, spelled}
+use Rattle.ldscript_terms.proofs.Common.{subst, suc, sym, take, zero, ℕ, ◌++◌, ◌<◌, ◌↔◌, ◌∙◌, ◌∷◌, ◌≡◌, ◌≤◌}
 use Rattle.std.proofs.lemmas.List.{nil_from_length, take-append-drop}
-use Rattle.ldscript_terms.specs.Parts.{Part, AnyRun}
-use Rattle.ldscript_terms.specs.Spelling.{SpellsPart, SpellsPattern, IsPatternOf, nothing, part}
+use Rattle.ldscript_terms.specs.Spelling.{IsPatternOf, nothing, part}
 use Rattle.ldscript_terms.specs.Front.{front, front_part}
-use Rattle.ldscript_terms.specs.CodeTerms.{exact_name}
-use Rattle.ldscript_terms.specs.Forms.{with_rest, spelled_within, spelled}
-use Rattle.ldscript_terms.specs.Trying.{IsSpelled, EndsHere, BeginsWith}
+use Rattle.ldscript_terms.specs.Forms.{with_rest, spelled_within}
 use Rattle.ldscript_terms.proofs.Fronts.{front_same, front_of_spelled, spelled_at_front, nothing_in_front, empty_front}
 
 pub none_left : {word : List ℕ} {ps : List Part} → word ≡ [] → SpellsPattern ps word → ps ≡ []

@@ -1,18 +1,10 @@
 -- What of an expression the rules determine: readings, and that there is none.
-use Rattle.std.proofs.Common.{◌≡◌, ℕ, suc, ◌^◌, ◌<◌, List, [], ◌∷◌, length, Option, Some, None, refl, sym, ap, subst}
-use Rattle.std.proofs.Common.{arith, ◌∙◌}
-use Rattle.ldscript_tokens.specs.Tokens.{Lexeme}
-use Rattle.ldscript_tokens.specs.declared.token.Mark.{Mark}
-use Rattle.ldscript_tokens.specs.declared.token.Mark.TheVariants.{OpenParenthesis, CloseParenthesis, Comma, Question}
-use Rattle.ldscript_tokens.specs.declared.token.Mark.TheVariants.{Colon}
-use Rattle.ldscript_terms.specs.declared.operator.UnaryOperator.{UnaryOperator}
-use Rattle.ldscript_terms.specs.declared.operator.BinaryOperator.{BinaryOperator}
+use Rattle.ldscript_terms.proofs.Common.{BinaryOperator, CloseParenthesis, Colon, Comma, Expr, Lexeme, List, Mark, Name}
+use Rattle.ldscript_terms.proofs.Common.{None, OpenParenthesis, Option, Question, SectionQuery, Some, UnaryOperator, []}
+use Rattle.ldscript_terms.proofs.Common.{ap, arith, length, refl, subst, suc, sym, ℕ, ◌<◌, ◌^◌, ◌∙◌, ◌∷◌, ◌≡◌}
 use Rattle.ldscript_terms.specs.declared.expression.RegionQuery.{RegionQuery}
-use Rattle.ldscript_terms.specs.declared.expression.SectionQuery.{SectionQuery}
 use Rattle.ldscript_terms.specs.Operators.{unary_of, binary_of, level_of}
-use Rattle.ldscript_terms.specs.Expressions.{Expr, Number, Dot, Name, Unary, Binary, Choice, OfRegion, OfSection}
-use Rattle.ldscript_terms.specs.Expressions.{AlignDot}
-use Rattle.ldscript_terms.specs.Expressions.{Align}
+use Rattle.ldscript_terms.specs.Expressions.{Number, Dot, Unary, Binary, Choice, OfRegion, OfSection, AlignDot, Align}
 use Rattle.ldscript_terms.specs.Grammar.{Point, AsksRegion, AsksSection, Aligns, Free, Reserved, Terminal, Numeral}
 use Rattle.ldscript_terms.specs.Grammar.{Worded, Sign, Other, terminal_of, Begins, BeginsUnary, BeginsBinary}
 use Rattle.ldscript_terms.specs.Grammar.{BeginsNamed, Primary, Arguments, Within, Whole, Spells, number, dot, name}

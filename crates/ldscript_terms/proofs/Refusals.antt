@@ -1,15 +1,9 @@
 -- Where there is no expression.
-use Rattle.std.proofs.Common.{◌≡◌, ℕ, suc, List, [], ◌∷◌, Option, Some, None, Result, Ok, Err, refl, subst}
+use Rattle.ldscript_terms.proofs.Common.{BinaryOperator, CloseParenthesis, Colon, Comma, Err, Expr, Lexeme, List, Mark}
+use Rattle.ldscript_terms.proofs.Common.{None, Ok, OpenParenthesis, Option, Question, Result, SectionQuery, Some, Token}
+use Rattle.ldscript_terms.proofs.Common.{UnaryOperator, [], lexeme, refl, subst, suc, ℕ, ◌∷◌, ◌≡◌}
 use Rattle.ldscript_tokens.specs.Tokens as token
-use Rattle.ldscript_tokens.specs.Tokens.{Token, Lexeme, lexeme}
-use Rattle.ldscript_tokens.specs.declared.token.Mark.{Mark}
-use Rattle.ldscript_tokens.specs.declared.token.Mark.TheVariants.{OpenParenthesis, CloseParenthesis, Comma, Question}
-use Rattle.ldscript_tokens.specs.declared.token.Mark.TheVariants.{Colon}
-use Rattle.ldscript_terms.specs.declared.operator.UnaryOperator.{UnaryOperator}
-use Rattle.ldscript_terms.specs.declared.operator.BinaryOperator.{BinaryOperator}
 use Rattle.ldscript_terms.specs.declared.expression.RegionQuery.{RegionQuery}
-use Rattle.ldscript_terms.specs.declared.expression.SectionQuery.{SectionQuery}
-use Rattle.ldscript_terms.specs.Expressions.{Expr}
 use Rattle.ldscript_terms.specs.Grammar.{AsksRegion, AsksSection, Aligns, Free, Reserved, Worded, Sign, terminal_of}
 use Rattle.ldscript_terms.specs.Grammar.{Begins, BeginsUnary, BeginsBinary, BeginsNamed, Primary, Arguments, Within}
 use Rattle.ldscript_terms.specs.Grammar.{Whole, Spells, number, dot, name, group, of_region, of_section, align}

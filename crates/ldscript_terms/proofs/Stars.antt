@@ -1,14 +1,9 @@
 -- How parts at the front of a pattern meet a name.
-use Rattle.std.proofs.Common.{◌≡◌, ℕ, ◌+◌, ◌↔◌, List, [], ◌∷◌, ◌++◌, length, take, drop, get_or, refl, sym, ◌∙◌, ap}
-use Rattle.std.proofs.Common.{subst, append_assoc, arith}
-use Rattle.std.proofs.Math.Seq.{drop-append_seam}
+use Rattle.ldscript_terms.proofs.Common.{AnyRun, CodePart, IsSingle, List, Matches, Meets, Part, Passed, SpellsPattern}
+use Rattle.ldscript_terms.proofs.Common.{[], ap, append_assoc, arith, drop, drop-append_seam, get_or, length, part_of}
+use Rattle.ldscript_terms.proofs.Common.{refl, subst, sym, take, ℕ, ◌++◌, ◌+◌, ◌↔◌, ◌∙◌, ◌∷◌, ◌≡◌}
 use Rattle.std.proofs.lemmas.List.{drop-drop, take-append-drop}
-use Rattle.ldscript_terms.specs.Spelling.{SpellsPattern}
-use Rattle.ldscript_terms.specs.Parts.{Part, AnyRun}
-use Rattle.ldscript_terms.specs.CodeTerms.{part_of, IsSingle}
-use Rattle.ldscript_terms.specs.Matching.{Meets, Matches, nothing, part}
-use Rattle.ldscript_terms.specs.Trying.{Passed}
-use Rattle.ldscript_terms.specs.declared.part.CodePart.{CodePart}
+use Rattle.ldscript_terms.specs.Matching.{nothing, part}
 use Rattle.ldscript_terms.specs.declared.part.CodePart.TheVariants as code
 
 -- a part that takes one byte takes the first

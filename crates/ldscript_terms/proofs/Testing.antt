@@ -1,12 +1,9 @@
 -- The test of a name is the relation, and no word spells two patterns.
-use Rattle.std.proofs.Common.{◌≡◌, ℕ, Bool, true, false, ◌&&◌, ◌||◌, List, [], ◌∷◌, ◌++◌, IsTrue, ◌↔◌, refl, sym, ◌∙◌}
-use Rattle.std.proofs.Common.{ap, subst, inl, inr}
-use Rattle.std.proofs.Math.Dec.{eqb}
-use Rattle.std.proofs.lemmas.Bool.{or_cases, eqb-true, eq-eqb}
-use Rattle.ldscript_terms.specs.Parts.{Part, AnyRun, AnyByte, Byte, OneOf, is_in_any}
-use Rattle.ldscript_terms.specs.Matching.{Meets, Matches, nothing, part, passes_some_end, passes_after_one}
-use Rattle.ldscript_terms.specs.Matching.{passes_after}
-use Rattle.ldscript_terms.specs.Matching.{is_match}
+use Rattle.ldscript_terms.proofs.Common.{AnyByte, AnyRun, Bool, Byte, IsTrue, List, Matches, Meets, OneOf, Part, [], ap}
+use Rattle.ldscript_terms.proofs.Common.{eq-eqb, eqb, eqb-true, false, inl, inr, is_in_any, refl, subst, sym, true, ℕ}
+use Rattle.ldscript_terms.proofs.Common.{◌&&◌, ◌++◌, ◌||◌, ◌↔◌, ◌∙◌, ◌∷◌, ◌≡◌}
+use Rattle.std.proofs.lemmas.Bool.{or_cases}
+use Rattle.ldscript_terms.specs.Matching.{nothing, part, passes_some_end, passes_after_one, passes_after, is_match}
 use Rattle.ldscript_terms.proofs.Stars.{nothing_left}
 
 and_left : (x y : Bool) → (x && y) ≡ true → x ≡ true

@@ -1,8 +1,5 @@
 -- Each derivation whose rest can't go on it is a reading, so no tokens have two.
-use Rattle.std.proofs.Common.{ℕ, zero, suc, List, sym}
-use Rattle.ldscript_tokens.specs.Tokens.{Lexeme}
-use Rattle.ldscript_tokens.specs.declared.token.Mark.TheVariants.{Question}
-use Rattle.ldscript_terms.specs.Expressions.{Expr}
+use Rattle.ldscript_terms.proofs.Common.{Expr, Lexeme, List, Question, suc, sym, zero, ℕ}
 use Rattle.ldscript_terms.specs.Grammar.{Sign, Level, Primary, Arguments, Within, Whole, Spells, number, dot, name}
 use Rattle.ldscript_terms.specs.Grammar.{group, of_region, of_section, align, one_argument, two_arguments, primary}
 use Rattle.ldscript_terms.specs.Grammar.{unary, operand, binary, operators, choice}

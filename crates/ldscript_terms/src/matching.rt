@@ -33,7 +33,8 @@ fn split(bytes: &[u8]) -> Option<(u8, &[u8])>
 fn plain_run(word: &[u8], name: &[u8]) -> usize
     ensures word { result ≤ length word.now }
     ensures name { result ≤ length name.now }
-    ensures passed { (ps : List Part) → SpellsPattern ps word.now → (qs : List Part) × SpellsPattern qs (drop result word.now)
+    ensures passed { (ps : List Part) → SpellsPattern ps word.now → (qs : List Part) × SpellsPattern qs
+        (drop result word.now)
         × Passed ps qs name.now (drop result name.now) }
     ensures apart { result < length word.now → result < length name.now
         → is_plain (slice_index word.now result) ≡ true

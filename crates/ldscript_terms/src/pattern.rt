@@ -10,8 +10,9 @@ ghost use Rattle.ldscript_terms.specs.Trying.{IsSpelled};
 
 use crate::matching::matches_word;
 use crate::word::{exact_bytes, is_same, is_spelled, is_star};
+use growth::NoMemory;
 use ldscript_tokens::name::ScriptName;
-use std::alloc::{AllocError, Global};
+use std::alloc::Global;
 use std::marker::Model;
 
 /// What is kept of a pattern: a word or a name, and no list of parts, since a script may have half a million patterns.
@@ -45,7 +46,7 @@ impl Model for Pattern {
 }
 
 /// What is kept of the pattern that a word spells.
-fn form_of(alloc: Global, word: &[u8]) -> Result<Form, AllocError>
+fn form_of(alloc: Global, word: &[u8]) -> Result<Form, NoMemory>
     requires { IsSpelled word.now }
     ensures form { IfOk result (λ f. IsForm f) }
     ensures spelled { IfOk result (λ f. SpellsPattern (parts_in f) word.now) }
@@ -63,7 +64,7 @@ impl Pattern {
     /// # Errors
     ///
     /// If memory runs out.
-    pub fn read(alloc: Global, word: &[u8]) -> Result<Option<Pattern>, AllocError>
+    pub fn read(alloc: Global, word: &[u8]) -> Result<Option<Pattern>, NoMemory>
         ensures { IfOk result (λ found. MatchOption found ((parts : List Part) → SpellsPattern parts word.now → ⊥)
             (λ parts. IsPatternOf word.now parts)) }
     {

@@ -10,14 +10,15 @@ use crate::expression::{Branches, Expr};
 use crate::opening::{
     Opening, after, binary_ahead, name_in_parentheses, read_opening, unary_ahead,
 };
+use growth::{NoMemory, boxed};
 use ldscript_tokens::cursor::Cursor;
 use ldscript_tokens::name::ScriptName;
 use ldscript_tokens::token::Mark;
-use std::alloc::{AllocError, Global};
+use std::alloc::Global;
 
 /// What a reader returns: what it read at the front of the tokens, with the cursor after it, or `None` if it is not
 /// there. The only error is out of memory.
-pub type Parsed<'a, T> = Result<Option<(T, Cursor<'a>)>, AllocError>;
+pub type Parsed<'a, T> = Result<Option<(T, Cursor<'a>)>, NoMemory>;
 
 /// The loosest level of precedence.
 const LOOSEST: u8 = 9;
@@ -76,7 +77,7 @@ fn arguments<'a>(alloc: Global, tokens: Cursor<'a>) -> Parsed<'a, Expr>
         return Ok(None);
     };
     if let Some(rest) = after(&rest, Mark::CloseParenthesis) {
-        let tree = Expr::AlignDot(Box::new(alloc, first)?);
+        let tree = Expr::AlignDot(boxed::new(alloc, first)?);
         return Ok(Some((tree, rest)));
     }
     let Some(rest) = after(&rest, Mark::Comma) else {
@@ -88,7 +89,7 @@ fn arguments<'a>(alloc: Global, tokens: Cursor<'a>) -> Parsed<'a, Expr>
     let Some(rest) = after(&rest, Mark::CloseParenthesis) else {
         return Ok(None);
     };
-    let tree = Expr::Align(Box::new(alloc, first)?, Box::new(alloc, second)?);
+    let tree = Expr::Align(boxed::new(alloc, first)?, boxed::new(alloc, second)?);
     Ok(Some((tree, rest)))
 }
 
@@ -103,7 +104,7 @@ fn unary<'a>(alloc: Global, tokens: Cursor<'a>) -> Parsed<'a, Expr>
     let Some((operand, rest)) = unary(alloc, rest)? else {
         return Ok(None);
     };
-    let tree = Expr::Unary(operator, Box::new(alloc, operand)?);
+    let tree = Expr::Unary(operator, boxed::new(alloc, operand)?);
     Ok(Some((tree, rest)))
 }
 
@@ -123,7 +124,11 @@ fn binary<'a>(alloc: Global, below: u8, tokens: Cursor<'a>) -> Parsed<'a, Expr>
         let Some((right, behind)) = operand(alloc, below, more)? else {
             return Ok(None);
         };
-        tree = Expr::Binary(operator, Box::new(alloc, tree)?, Box::new(alloc, right)?);
+        tree = Expr::Binary(
+            operator,
+            boxed::new(alloc, tree)?,
+            boxed::new(alloc, right)?,
+        );
         rest = behind;
     }
 }
@@ -166,7 +171,7 @@ fn whole<'a>(alloc: Global, tokens: Cursor<'a>) -> Parsed<'a, Expr>
         first,
         second,
     };
-    let tree = Expr::Choice(Box::new(alloc, branches)?);
+    let tree = Expr::Choice(boxed::new(alloc, branches)?);
     Ok(Some((tree, rest)))
 }
 

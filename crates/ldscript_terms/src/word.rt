@@ -9,7 +9,8 @@ ghost use Rattle.ldscript_terms.specs.Trying.{BeginsWith, EndsHere, IsSpelled};
 
 use crate::front::front;
 use crate::part::CodePart;
-use std::alloc::{AllocError, Global};
+use growth::{NoMemory, vec};
+use std::alloc::Global;
 
 /// The rest of a word.
 fn word_from(word: &[u8], at: usize) -> &[u8]
@@ -65,7 +66,7 @@ pub fn is_spelled(word: &[u8]) -> bool
 }
 
 /// The bytes of the pattern that a word spells, if it has no wildcard.
-pub fn exact_bytes(alloc: Global, word: &[u8]) -> Result<Option<Vec<u8>>, AllocError>
+pub fn exact_bytes(alloc: Global, word: &[u8]) -> Result<Option<Vec<u8>>, NoMemory>
     ensures { IfOk result (λ found. (parts : List Part) → SpellsPattern parts word.now
         → option_map (λ bytes. bytes.items) found ≡ exact_name parts) }
 {
@@ -73,7 +74,7 @@ pub fn exact_bytes(alloc: Global, word: &[u8]) -> Result<Option<Vec<u8>>, AllocE
     let mut rest = word;
     while let Some((part, more)) = first_part(rest) {
         match part.byte() {
-            Some(b) => bytes.push(b)?,
+            Some(b) => vec::push(&mut bytes, b)?,
             None => return Ok(None),
         }
         rest = more;

@@ -1,17 +1,12 @@
 -- A cut of a text, a token at a time.
-use Rattle.std.proofs.Common.{◌≡◌, ℕ, List, [], ◌∷◌, ◌++◌, drop, take, map, ◌+◌, ◌-◌, ◌≤◌, refl, sym, ◌∙◌, ap, subst}
-use Rattle.std.proofs.Common.{append_assoc, append-nil, arith, cond, ◌==◌}
-use Rattle.std.specs.List.{slice_range}
-use Rattle.std.proofs.lemmas.List.{drop-drop, map-append}
-use Rattle.std.proofs.lemmas.List.Sums.{sum_by-append}
+use Rattle.ldscript_tokens.proofs.Common.{CodeToken, IsCut, IsShallow, LexState, List, [], ap, append-nil, append_assoc}
+use Rattle.ldscript_tokens.proofs.Common.{arith, at_start, cond, drop, drop-drop, lexeme_of, line_at, line_feeds, map}
+use Rattle.ldscript_tokens.proofs.Common.{map-append, refl, slice_range, state_after, subst, sum_by-append, sym, take}
+use Rattle.ldscript_tokens.proofs.Common.{token_of, ℕ, ◌++◌, ◌+◌, ◌-◌, ◌==◌, ◌∙◌, ◌∷◌, ◌≡◌, ◌≤◌}
 use Rattle.std.proofs.Math.Seq.{take-add}
 use Rattle.ldscript_tokens.specs.Tokens.{Token, Lexeme, lexeme, End, Blank, Begins, Nothing, front}
-use Rattle.ldscript_tokens.specs.CodeTokens.{token_of, piece_of, lexeme_of, spelled_token, front_of}
-use Rattle.ldscript_tokens.specs.Modes.{IsCutFrom, IsCut, ended, blank, token, line_feeds, line_at, mode_of}
-use Rattle.ldscript_tokens.specs.Modes.{state_after, at_start}
-use Rattle.ldscript_tokens.specs.CodeTokens.{IsShallow, IsShortStretch}
-use Rattle.ldscript_tokens.specs.declared.token.LexState.{LexState}
-use Rattle.ldscript_tokens.specs.declared.token.CodeToken.{CodeToken}
+use Rattle.ldscript_tokens.specs.CodeTokens.{piece_of, spelled_token, front_of, IsShortStretch}
+use Rattle.ldscript_tokens.specs.Modes.{IsCutFrom, ended, blank, token, mode_of}
 use Rattle.ldscript_tokens.specs.declared.front.FrontToken.{FrontToken}
 use Rattle.ldscript_tokens.specs.declared.token.ExpressionStretch.{ExpressionStretch}
 use Rattle.ldscript_tokens.specs.declared.token.ExpressionStretch.TheVariants.{Closed, Awaited, ToSemicolon}

@@ -1,7 +1,7 @@
 -- Digits never lower a number.
-use Rattle.std.proofs.Common.{ℕ, ◌+◌, ◌*◌, ◌<◌, ◌≤◌, List, [], ◌∷◌, suc, length, get_or, drop, fold, arith, drop-cons}
+use Rattle.ldscript_tokens.proofs.Common.{List, [], arith, digit_value, drop, drop-cons, fold, get_or, length, suc, ℕ}
+use Rattle.ldscript_tokens.proofs.Common.{◌*◌, ◌+◌, ◌<◌, ◌∷◌, ◌≤◌}
 use Rattle.std.proofs.Math.Nat.{mul-le-mul_left}
-use Rattle.ldscript_tokens.specs.Numbers.{digit_value}
 
 abbrev pub more_digits : ℕ → ℕ → List ℕ → ℕ
 more_digits base v digits = fold (λ v d. v * base + digit_value d) v digits

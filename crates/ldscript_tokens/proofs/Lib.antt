@@ -1,3 +1,4 @@
+pub mod Common
 pub mod Cut
 pub mod Digits
 pub mod Longest

@@ -1,9 +1,8 @@
 -- The longest mark by the first two bytes of a text, where 0 stands for the second of a text of one byte.
-use Rattle.std.proofs.Common.{◌≡◌, ℕ, ◌<◌, List, [], ◌∷◌, length, slice_index, Option, None, Some, refl, arith}
+use Rattle.ldscript_tokens.proofs.Common.{List, Mode, None, Option, Some, [], arith, length, option_or, refl}
+use Rattle.ldscript_tokens.proofs.Common.{slice_index, ℕ, ◌<◌, ◌∷◌, ◌≡◌}
 use Rattle.std.proofs.Math.Bool.{and-false}
-use Rattle.std.specs.Option.{option_or}
 use Rattle.ldscript_tokens.specs.Marks.{spelled_row, row_in, longest_mark}
-use Rattle.ldscript_tokens.specs.declared.token.Mode.{Mode}
 
 -- no mark has a byte 0
 pub no_zero : (b : ℕ) → spelled_row (b ∷ 0 ∷ []) ≡ None

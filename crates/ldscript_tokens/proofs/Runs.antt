@@ -1,17 +1,10 @@
 -- The signs of runs, counted from left to right.
-use Rattle.std.proofs.Common.{◌≡◌, ℕ, ◌+◌, ◌≤◌, ◌<◌, length, map, drop, get_or, drop-cons, add-one, List, [], ◌∷◌, ◌++◌}
-use Rattle.std.proofs.Common.{Bool, true, false, cond, if◌then◌else◌, ◌&&◌, nat_le, refl, sym, ◌∙◌, ap, subst, arith}
-use Rattle.std.proofs.Common.{rules}
-use Rattle.std.specs.List.{list_any, count_by}
-use Rattle.std.proofs.lemmas.List.Sums.{sum_by-cons}
-use Rattle.std.proofs.lemmas.List.{drop_all}
+use Rattle.ldscript_tokens.proofs.Common.{Bool, CodeToken, LexState, List, Mode, [], add-one, ap, arith, cond, count_by}
+use Rattle.ldscript_tokens.proofs.Common.{drop, drop-cons, drop_all, false, get_or, if◌then◌else◌, length, list_any}
+use Rattle.ldscript_tokens.proofs.Common.{map, moded, nat_le, refl, rules, state_after, subst, sum_by-cons, sym}
+use Rattle.ldscript_tokens.proofs.Common.{token_of, true, ℕ, ◌&&◌, ◌++◌, ◌+◌, ◌<◌, ◌∙◌, ◌∷◌, ◌≡◌, ◌≤◌}
 use Rattle.ldscript_tokens.specs.Tokens.{Token}
-use Rattle.ldscript_tokens.specs.CodeTokens.{token_of}
-use Rattle.ldscript_tokens.specs.Modes.{state_after}
-use Rattle.ldscript_tokens.specs.Limits.{ModedToken, is_break, is_sign, HasShortRuns, counted_mode, moded}
-use Rattle.ldscript_tokens.specs.declared.token.Mode.{Mode}
-use Rattle.ldscript_tokens.specs.declared.token.LexState.{LexState}
-use Rattle.ldscript_tokens.specs.declared.token.CodeToken.{CodeToken}
+use Rattle.ldscript_tokens.specs.Limits.{ModedToken, is_break, is_sign, HasShortRuns, counted_mode}
 
 abbrev pub breaks : ModedToken → Bool
 breaks m = is_break m.mode m.token

@@ -1,11 +1,7 @@
 -- Tokens of a text one by one.
-use Rattle.std.proofs.Common.{◌≡◌, ℕ, ◌<◌, ◌≤◌, ◌^◌, List, [], ◌∷◌, length, map, get_or, refl, sym, ap, subst}
-use Rattle.std.specs.List.{All}
-use Rattle.std.proofs.lemmas.List.{get_or-map, length-map}
-use Rattle.ldscript_tokens.specs.CodeTokens.{token_of, lexeme_of}
-use Rattle.ldscript_tokens.specs.Modes.{IsCut}
+use Rattle.ldscript_tokens.proofs.Common.{All, CodeToken, IsCut, List, [], ap, get_or, get_or-map, length, length-map}
+use Rattle.ldscript_tokens.proofs.Common.{lexeme_of, map, refl, subst, sym, token_of, ℕ, ◌<◌, ◌^◌, ◌∷◌, ◌≡◌, ◌≤◌}
 use Rattle.ldscript_tokens.specs.Limits.{IsWithinLimits, IsTokens, IsPastLimits, tokens_of}
-use Rattle.ldscript_tokens.specs.declared.token.CodeToken.{CodeToken}
 use Rattle.ldscript_tokens.specs.declared.token.TokenKind.TheVariants as kind
 
 -- what stands past the end of a list

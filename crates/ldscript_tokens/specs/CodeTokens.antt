@@ -66,4 +66,4 @@ IsInText n t = (t.start ≤ t.end) × (t.end ≤ n)
 abbrev pub token_refusal_number : TokenRefusal → ℕ
 token_refusal_number NotAToken = 1
 token_refusal_number Limit = 5
-token_refusal_number NoMemory = 6
+token_refusal_number (NoMemory _) = 6

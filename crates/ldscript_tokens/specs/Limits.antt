@@ -119,4 +119,4 @@ pub record IsPastLimits (text : List ℕ) : Type 0 where
 abbrev pub IsTokenRefusal : List ℕ → TokenRefusal → Type 0
 IsTokenRefusal text Limit = (2 ^ 20 < length text) ⊎ IsPastLimits text
 IsTokenRefusal text NotAToken = (length text ≤ 2 ^ 20) × ((lexemes : List Lexeme) → IsCut text lexemes → ⊥)
-IsTokenRefusal text NoMemory = Unit {0}
+IsTokenRefusal text (NoMemory _) = Unit {0}

@@ -11,6 +11,7 @@ use super::front::{Ahead, FrontToken, front};
 use super::limits::are_within_limits;
 use super::refusal::TokenRefusal;
 use super::token::{CodeToken, LexState};
+use growth::vec;
 use std::alloc::Global;
 
 /// The greatest length of a text, in bytes.
@@ -83,8 +84,8 @@ fn cut(alloc: Global, text: &[u8]) -> Result<Vec<CodeToken>, TokenRefusal>
             }
             Ahead::Found(piece, n) => {
                 let token = piece.behind(at, line);
-                if tokens.push(token).is_err() {
-                    return Err(TokenRefusal::NoMemory);
+                if let Err(no_memory) = vec::push(&mut tokens, token) {
+                    return Err(TokenRefusal::NoMemory(no_memory));
                 }
                 state = state.after(token.kind, token.bytes(text));
                 line += line_feeds(&text[at..at + n]);

@@ -3,7 +3,8 @@
 ghost use Rattle.std.specs.Prelude.{◌≡◌, ◌≤◌, IfOk, length};
 ghost use Rattle.ldscript_tokens.specs.Names.{stored, IsStored};
 
-use std::alloc::{AllocError, Global};
+use growth::{NoMemory, boxed, vec};
+use std::alloc::Global;
 use std::marker::Model;
 
 /// The greatest length in bytes of a name that is kept without the heap.
@@ -53,7 +54,7 @@ impl ScriptName {
     /// # Errors
     ///
     /// If memory runs out.
-    pub fn new(alloc: Global, bytes: &[u8]) -> Result<ScriptName, AllocError>
+    pub fn new(alloc: Global, bytes: &[u8]) -> Result<ScriptName, NoMemory>
         ensures { IfOk result (λ n. n ≡ bytes.now) }
     {
         if bytes.len() <= MAX_INLINE {
@@ -61,8 +62,8 @@ impl ScriptName {
                 bytes: inline(bytes),
             });
         }
-        let bytes = Vec::from_slice(alloc, bytes)?;
-        let bytes = NameBytes::Heap(Box::new(alloc, bytes)?);
+        let bytes = vec::from_slice(alloc, bytes)?;
+        let bytes = NameBytes::Heap(boxed::new(alloc, bytes)?);
         Ok(ScriptName { bytes })
     }
 

@@ -1,5 +1,7 @@
 //! Why a text has no tokens.
 
+use growth::NoMemory;
+
 /// Why `tokens` refuses a text.
 #[derive(Clone, Copy, Debug, PartialEq, Eq)]
 pub enum TokenRefusal {
@@ -8,7 +10,7 @@ pub enum TokenRefusal {
     /// 5: more than 2^20 bytes, or tokens past a limit.
     Limit,
     /// 6: out of memory.
-    NoMemory,
+    NoMemory(NoMemory),
 }
 
 impl TokenRefusal {
@@ -22,7 +24,7 @@ impl TokenRefusal {
         match self {
             TokenRefusal::NotAToken => 1,
             TokenRefusal::Limit => 5,
-            TokenRefusal::NoMemory => 6,
+            TokenRefusal::NoMemory(_) => 6,
         }
     }
 }

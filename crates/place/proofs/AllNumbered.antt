@@ -1,31 +1,15 @@
 -- All entries of the rows of a project have numbers.
-use Rattle.std.proofs.Common.{◌≡◌, ◌<◌, ◌+◌, ◌∙◌, ℕ, sym, ap, subst, List, [], ◌∷◌, length, drop, map}
-use Rattle.std.proofs.Common.{flat_map, Option, Vec, Global}
-use Rattle.std.proofs.lemmas.Bool.{eqb-true}
-use Rattle.std.proofs.lemmas.Slice.Eq.{bytes_eq-Decides}
-use Rattle.std.specs.List.{Contains}
-use Rattle.std.specs.Option.{option_map_or}
-use Rattle.std.specs.Prelude.{IsSome}
+use Rattle.place.proofs.Common.{Contains, Each, Global, HaveNumbers, IndexedSection, InputSection, IsOfObject, IsOwned}
+use Rattle.place.proofs.Common.{IsSome, IsTableOf, List, NamedObject, Option, Part, Project, Vec, [], all_entries}
+use Rattle.place.proofs.Common.{all_of_each, ap, bytes_eq-Decides, drop, each_append, each_parts, eqb-true, flat_map}
+use Rattle.place.proofs.Common.{input_sections, length, map, number_of, object_name, option_map_or, piece_in}
+use Rattle.place.proofs.Common.{row_entries, rows_in, subst, sym, ℕ, ◌+◌, ◌<◌, ◌∙◌, ◌∷◌, ◌≡◌}
 use Rattle.ldmodel.specs.Edits.{AreNamesDistinct}
-use Rattle.ldmodel.specs.Each.{Each}
-use Rattle.ldmodel.specs.InputSections.{input_sections}
-use Rattle.ldmodel.specs.NameFaults.{object_name}
-use Rattle.ldmodel.specs.Project.{NamedObject, Project}
 use Rattle.ldmodel.specs.Rows as model
-use Rattle.ldmodel.specs.Sections.{InputSection}
 use Rattle.ldmodel.specs.declared.rows.Piece.{Piece}
-use Rattle.ldmodel.specs.declared.sections.Part.{Part}
-use Rattle.ldmodel_project.specs.ByPlace.{piece_in, rows_in}
-use Rattle.gather.specs.OfObjects.{IsOfObject}
-use Rattle.gather.specs.SectionTable.{IsTableOf, number_of}
 use Rattle.gather.specs.declared.input_section_table.InputSectionTable.{InputSectionTable}
-use Rattle.place.specs.Columns.{HaveNumbers}
-use Rattle.place.specs.Entries.{all_entries, row_entries}
-use Rattle.place.specs.InPlace.{IsOwned}
-use Rattle.place.specs.declared.indexed_section.IndexedSection.{IndexedSection}
 use Rattle.place.proofs.Numbers.{same_key}
 use Rattle.place.proofs.Owned.{IsInput}
-use Rattle.ldmodel_laws.proofs.EachOf.{each_parts, each_append, all_of_each}
 
 module _ (p : Project) (t : InputSectionTable) (distinct : AreNamesDistinct p.objects) (table : IsTableOf p t)
     (of_objects : (s : InputSection) → Contains (input_sections p) s → IsOfObject p s) where

@@ -1,13 +1,7 @@
 -- Objects whose sections have different numbers.
-use Rattle.std.proofs.Common.{◌≡◌, ◌<◌, ◌==◌, ℕ, zero, suc, false, List, [], ◌∷◌, map, arith, get_or, length, subst}
-use Rattle.std.proofs.Common.{take}
-use Rattle.std.specs.List.{All, AllPairs}
-use Rattle.std.proofs.lemmas.Bool.{ne_eqb}
+use Rattle.place.proofs.Common.{All, AllPairs, Each, EachLater, LinkedSection, List, Section, [], arith, false, get_or}
+use Rattle.place.proofs.Common.{length, map, ne_eqb, section_of, subst, suc, take, zero, ℕ, ◌<◌, ◌==◌, ◌∷◌, ◌≡◌}
 use Rattle.std.proofs.lemmas.List.Elements.{All-head, All-tail}
-use Rattle.elfobj.specs.Sections.{LinkedSection, section_of}
-use Rattle.elfobj.specs.declared.section.Section.{Section}
-use Rattle.ldmodel_laws.specs.Spread.{EachLater}
-use Rattle.ldmodel.specs.Each.{Each}
 
 -- the first of ascending numbers is below the others
 above : (n : ℕ) (xs : List LinkedSection) → All (λ (s : Section). n < s.number.0) (map section_of xs)

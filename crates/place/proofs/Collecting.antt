@@ -1,14 +1,10 @@
 -- Entries that are collected one by one and row by row.
-use Rattle.std.proofs.Common.{◌≡◌, ◌<◌, ◌≤◌, ◌+◌, ◌⊎◌, inl, inr, ℕ, suc, refl, sym, ap, ◌∙◌, arith, min, Vec, Global}
-use Rattle.std.proofs.Common.{List, [], ◌∷◌, ◌++◌, length, get_or, drop, map}
+use Rattle.place.proofs.Common.{Global, IndexedSection, List, Vec, [], all_entries, ap, append_assoc, arith, cases_lt}
+use Rattle.place.proofs.Common.{drop, drop_min, entry_of, get_or, inl, inr, length, map, min, refl, row_entries, suc}
+use Rattle.place.proofs.Common.{sym, zip, ℕ, ◌++◌, ◌+◌, ◌<◌, ◌∙◌, ◌∷◌, ◌≡◌, ◌≤◌, ◌⊎◌}
 use Rattle.std.proofs.Math.ListN.{drop_of_length-le}
 use Rattle.std.proofs.Math.Seq.{drop-cons}
-use Rattle.std.proofs.lemmas.Bool.{cases_lt}
-use Rattle.std.proofs.lemmas.List.{append_assoc, drop_min}
-use Rattle.std.specs.List.{zip}
 use Rattle.ldmodel.specs.declared.rows.Piece.{Piece}
-use Rattle.place.specs.Entries.{all_entries, entry_of, row_entries}
-use Rattle.place.specs.declared.indexed_section.IndexedSection.{IndexedSection}
 
 -- one more of a row
 pub row_more : (n k : ℕ) (row : List Piece) (starts : List ℕ) (xs all : List IndexedSection) (x : Piece) (t : ℕ)

@@ -1,22 +1,12 @@
 -- Columns of a table: under each number stands the place of the first entry that has it.
-use Rattle.std.proofs.Common.{◌≡◌, ◌≢◌, ◌<◌, ◌==◌, ℕ, suc, refl, sym, ap, subst, arith, ◌∙◌}
-use Rattle.std.proofs.Common.{List, [], ◌∷◌, ◌++◌, length, get_or, set, find, cond, Bool, true, false, not, ⊎_elim}
-use Rattle.std.proofs.Common.{Option, Some, None}
-use Rattle.std.proofs.lemmas.Bool.{cases_eq, eq-eqb, eqb-true, false≢true, ne_eqb, and_parts, and_from}
-use Rattle.std.proofs.lemmas.List.{append_assoc, get_or-set_other, get_or-set_same, get_or_default, length-set}
-use Rattle.std.proofs.lemmas.List.Folds.{find-append}
-use Rattle.std.specs.Cmp.{both_ways}
-use Rattle.std.specs.Option.{is_none, is_some, option_and_then, option_map, option_or}
-use Rattle.std.specs.Prelude.{IsSome}
-use Rattle.ldmodel.specs.declared.sections.Part.{Part}
-use Rattle.ldmodel.specs.Project.{Project}
-use Rattle.ldmodel.specs.Sections.{is_same_part}
-use Rattle.place.specs.Columns.{AddsEntries, HaveNumbers, IsColumn, has_number, is_number, address_of_entry}
-use Rattle.place.specs.Entries.{is_part_of}
-use Rattle.place.specs.declared.indexed_section.IndexedSection.{IndexedSection}
-use Rattle.gather.specs.SectionTable.{IsTableOf, len_of, number_of}
+use Rattle.place.proofs.Common.{AddsEntries, Bool, HaveNumbers, IndexedSection, IsColumn, IsSome, IsTableOf, List, None}
+use Rattle.place.proofs.Common.{Option, Part, Project, SectionAddress, Some, [], address_of_entry, and_from, and_parts}
+use Rattle.place.proofs.Common.{ap, append_assoc, arith, both_ways, cases_eq, cond, eq-eqb, eqb-true, false, false≢true}
+use Rattle.place.proofs.Common.{find, find-append, get_or, get_or-set_other, get_or-set_same, get_or_default}
+use Rattle.place.proofs.Common.{has_number, is_none, is_number, is_part_of, is_same_part, is_some, len_of, length}
+use Rattle.place.proofs.Common.{length-set, ne_eqb, not, number_of, option_and_then, option_map, option_or, refl, set}
+use Rattle.place.proofs.Common.{subst, suc, sym, true, ℕ, ⊎_elim, ◌++◌, ◌<◌, ◌==◌, ◌∙◌, ◌∷◌, ◌≡◌, ◌≢◌}
 use Rattle.gather.specs.declared.input_section_table.InputSectionTable.{InputSectionTable}
-use Rattle.place.specs.declared.indexed_layout.SectionAddress.{SectionAddress}
 use Rattle.ldmodel_laws.proofs.SameParts.{same_part, own_part}
 
 -- ---- what is found

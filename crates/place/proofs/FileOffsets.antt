@@ -1,19 +1,13 @@
 -- Where segments stand in the file.
-use Rattle.std.proofs.Common.{◌≡◌, ◌∙◌, sym, refl, ap, ℕ, ◌+◌, ◌-◌, ◌*◌, ◌%◌, ◌≤◌, ◌<◌, ◌^◌, List, [], ◌∷◌, ◌++◌}
-use Rattle.std.proofs.Common.{length, fold, drop, get_or, append_assoc, min, subst, suc}
-use Rattle.std.proofs.lemmas.List.{append-nil, drop_all, drop_more}
-use Rattle.std.proofs.Common.{◌==◌, arith, if◌then◌else◌}
+use Rattle.place.proofs.Common.{AllZip, Follow, HaveRoom, IsGroup, IsSegment, List, PlacedOutput, [], ap, append-nil}
+use Rattle.place.proofs.Common.{append_assoc, arith, drop, drop_all, drop_more, fold, get_or, groups, if◌then◌else◌}
+use Rattle.place.proofs.Common.{length, min, nonempty, past, refl, segment_at, segments, segments_from, subst, suc, sym}
+use Rattle.place.proofs.Common.{ℕ, ◌%◌, ◌*◌, ◌++◌, ◌+◌, ◌-◌, ◌<◌, ◌==◌, ◌^◌, ◌∙◌, ◌∷◌, ◌≡◌, ◌≤◌}
 use Rattle.std.proofs.Math.Nat.{min-eq_left}
 use Rattle.std.proofs.lemmas.Nat.{mod_below}
-use Rattle.std.specs.List.{AllZip}
-use Rattle.ldmodel.specs.Layout.{PlacedOutput}
-use Rattle.ldmodel.specs.PlacementView.{IsSegment}
-use Rattle.ldmodel.specs.Segments.{Group, Segment, begun, begun_from, congruent, file_end, file_size, groups}
-use Rattle.ldmodel.specs.Segments.{headers_end, nonempty, segments}
+use Rattle.ldmodel.specs.Segments.{Group, Segment, begun, begun_from, congruent, file_end, file_size, headers_end}
 use Rattle.ldmodel.specs.declared.segment.Segment as code
 use Rattle.place.specs.declared.group.Group as code_group
-use Rattle.place.specs.Grouping.{IsGroup}
-use Rattle.place.specs.Placing.{Follow, HaveRoom, past, segment_at, segments_from}
 use Rattle.std.proofs.lemmas.List.Elements.{All-nil, All-push}
 
 segment_is : (s : List PlacedOutput) (end : ℕ) (g : Group) (x : code_group.Group) → IsGroup s g x

@@ -1,9 +1,7 @@
 -- The groups of the code, from the first output section to the last, are those of the definition.
-use Rattle.std.proofs.Common.{◌≡◌, ◌∙◌, sym, refl, ap, List, [], ◌∷◌, ◌++◌, append_assoc}
-use Rattle.std.proofs.Common.{None, Bool, true, false, if◌then◌else◌}
-use Rattle.ldmodel.specs.Layout.{PlacedOutput}
-use Rattle.ldmodel.specs.Segments.{Group, groups, group_sections, shares_segment, with_front}
-use Rattle.place.specs.Grouping.{Current, single, extended, groups_after, groups_from}
+use Rattle.place.proofs.Common.{Bool, Current, List, None, PlacedOutput, [], ap, append_assoc, extended, false, groups}
+use Rattle.place.proofs.Common.{groups_after, groups_from, if◌then◌else◌, refl, single, sym, true, ◌++◌, ◌∙◌, ◌∷◌, ◌≡◌}
+use Rattle.ldmodel.specs.Segments.{Group, group_sections, shares_segment, with_front}
 
 -- a group that may go on, before the groups of those after it
 abbrev continue : Current → List Group → List Group

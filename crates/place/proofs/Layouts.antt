@@ -1,20 +1,11 @@
 -- From a placement to the layout of a project.
-use Rattle.std.proofs.Common.{◌≡◌, ◌∙◌, ℕ, List, [], Ok, map, refl, sym, subst}
-use Rattle.std.specs.List.{AllZip}
-use Rattle.ldmodel_laws.specs.ImageBytes.{AreNamed}
-use Rattle.ldmodel.specs.Layout.{Layout}
-use Rattle.ldmodel.specs.PlacementView.{AreSegments, placed_of}
+use Rattle.place.proofs.Common.{AllZip, AreAllSegments, AreNamed, AreSegments, IsOffset, Layout, List, Ok, Placed}
+use Rattle.place.proofs.Common.{Project, [], map, placed_of, provided, refl, rows, segments, subst, sym, ℕ, ◌∙◌, ◌≡◌}
 use Rattle.ldmodel.specs.Link.{layout, of_length}
-use Rattle.ldmodel.specs.Names.{provided}
 use Rattle.ldmodel.specs.Overlaps.{overlaps}
 use Rattle.ldmodel.specs.Placement.{placement}
-use Rattle.ldmodel.specs.Project.{Project}
-use Rattle.ldmodel.specs.Rows.{Piece, rows}
+use Rattle.ldmodel.specs.Rows.{Piece}
 use Rattle.ldmodel.specs.SectionHeaders.{image_length}
-use Rattle.ldmodel.specs.Segments.{segments}
-use Rattle.ldmodel.specs.declared.placed.Placed.{Placed}
-use Rattle.place.specs.Offsets.{IsOffset}
-use Rattle.place.specs.Placing.{AreAllSegments}
 use Rattle.ldscript.specs.statements.declared.statement.Statement.{Statement}
 use Rattle.place_sections.specs.Outcomes as outcomes
 use Rattle.place_sections.specs.Places.{IsPlacement, Places}

@@ -1,5 +1,6 @@
 pub use Rattle.place_terms.proofs.Numbers as TermNumbers
-pub use Rattle.place_terms.proofs.Tabled as TermTables
+pub use Rattle.place_terms.proofs.TablesByNumber as TermTables
+pub mod Common
 pub mod Grouped
 pub mod Steps
 pub mod FileOffsets

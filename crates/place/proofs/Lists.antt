@@ -1,10 +1,6 @@
 -- Lists whose members differ from one another, and what is found in them.
-use Rattle.std.proofs.Common.{◌≡◌, ◌∙◌, refl, ap, subst, ℕ, zero, suc, List, [], ◌∷◌, find, Some}
-use Rattle.std.proofs.Common.{None}
-use Rattle.std.proofs.Common.{Bool, true, false, cond, slice_get}
-use Rattle.std.proofs.lemmas.Option.{same_Some}
-use Rattle.ldmodel_laws.specs.Spread.{EachLater}
-use Rattle.ldmodel.specs.Each.{Each}
+use Rattle.place.proofs.Common.{Bool, Each, EachLater, List, None, Some, [], ap, cond, false, find, refl, same_Some}
+use Rattle.place.proofs.Common.{slice_get, subst, suc, true, zero, ℕ, ◌∙◌, ◌∷◌, ◌≡◌}
 
 pub each_at : {X : Type 0} (P : X → Type 0) (xs : List X) (k : ℕ) (x : X) → Each P xs → slice_get xs k ≡ Some x → P x
 each_at P [] k x h e = absurd (let none : ⊥ = cc in none)

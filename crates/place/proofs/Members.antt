@@ -1,10 +1,6 @@
 -- Members of lists.
-use Rattle.std.proofs.Common.{◌≡◌, ℕ, zero, suc, Bool, true, false, cond, refl}
-use Rattle.std.proofs.Common.{List, [], ◌∷◌, find, subst}
-use Rattle.std.proofs.Common.{Some, slice_get}
-use Rattle.std.specs.List.{AllZip, Contains}
-use Rattle.std.proofs.lemmas.Option.{same_Some}
-use Rattle.ldmodel_laws.proofs.Members.{here, later}
+use Rattle.place.proofs.Common.{AllZip, Bool, Contains, List, Some, [], cond, false, find, here, later, refl, same_Some}
+use Rattle.place.proofs.Common.{slice_get, subst, suc, true, zero, ℕ, ◌∷◌, ◌≡◌}
 
 -- what is found is a member that passes
 pub find_in : {X : Type 0} (p : X → Bool) (xs : List X) (x : X) → find p xs ≡ Some x → Contains xs x × (p x ≡ true)

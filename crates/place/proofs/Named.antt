@@ -1,13 +1,8 @@
 -- No two output sections of a script without a clash have one name.
-use Rattle.std.proofs.Common.{◌≡◌, ◌≢◌, List, bytes_eq, false, sym, subst}
-use Rattle.ldmodel_laws.specs.ImageBytes.{AreNamed}
-use Rattle.ldmodel_laws.specs.Spread.{EachLater}
-use Rattle.ldmodel.specs.Layout.{PlacedOutput}
-use Rattle.ldmodel.specs.Project.{Project}
-use Rattle.ldscript.specs.Script.{IsSound}
+use Rattle.place.proofs.Common.{AreNamed, EachLater, IsSound, List, PlacedOutput, Project, bytes_eq, false, later_imply}
+use Rattle.place.proofs.Common.{later_of_map, subst, sym, ◌≡◌, ◌≢◌}
 use Rattle.ldscript.specs.statements.Numbering.{output_sections}
-use Rattle.place_sections.specs.Meetings.{AreOutputs}
-use Rattle.ldmodel_laws.proofs.EachOf.{later_imply, later_of_map}
+use Rattle.place_sections.specs.OverlapFaults.{AreOutputs}
 use Rattle.ldmodel_laws.proofs.Mentioned.{other_name, section_names, sections_differ}
 
 -- the output sections of a script have different names

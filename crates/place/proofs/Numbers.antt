@@ -1,15 +1,9 @@
 -- Keys of objects are one exactly where their names are one, which has bytes.
-use Rattle.std.proofs.Common.{◌≡◌, ◌<◌, ◌≤◌, ℕ, zero, suc, Bool, true, cond, refl, sym, ap, ◌∙◌, ◌==◌, arith}
-use Rattle.std.proofs.Common.{bytes_eq, List, [], ◌∷◌, length, Option, Some, None}
-use Rattle.std.proofs.lemmas.Bool.{eqb-true, eq-eqb}
+use Rattle.place.proofs.Common.{Bool, List, NamedObject, None, Option, Project, Some, [], ap, arith, both_ways}
+use Rattle.place.proofs.Common.{bytes_eq, bytes_eq-Decides, cond, count_by, eq-eqb, eqb-true, length, object_name}
+use Rattle.place.proofs.Common.{option_map_or, refl, slice_get, suc, sym, true, zero, ℕ, ◌<◌, ◌==◌, ◌∙◌, ◌∷◌, ◌≡◌, ◌≤◌}
 use Rattle.std.proofs.lemmas.List.Sums.{sum_by-cons}
-use Rattle.std.proofs.lemmas.Slice.Eq.{bytes_eq-Decides}
-use Rattle.std.specs.Cmp.{both_ways}
-use Rattle.std.specs.List.{count_by, slice_get}
-use Rattle.std.specs.Option.{option_map_or}
 use Rattle.ldmodel.specs.Edits.{AreNamesDistinct, has_name}
-use Rattle.ldmodel.specs.NameFaults.{object_name}
-use Rattle.ldmodel.specs.Project.{NamedObject, Project}
 
 module _ (p : NamedObject → Bool) where
   abbrev one_if : NamedObject → ℕ

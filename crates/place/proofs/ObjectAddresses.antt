@@ -1,16 +1,11 @@
 -- The addresses of the sections of an object: a part of the column of all.
-use Rattle.std.proofs.Common.{◌≡◌, ◌∙◌, ◌<◌, ◌≤◌, ◌+◌, ◌-◌, ◌⊎◌, inl, inr, ℕ, refl, sym, ap, arith}
-use Rattle.std.proofs.Common.{List, [], length, get_or, drop, take, cond, Bool, true, false, Option, Some, None}
-use Rattle.std.proofs.lemmas.Bool.{cases_lt, ltb-false, ltb-true}
-use Rattle.std.proofs.lemmas.List.{get_or-drop, get_or-take, get_or_past}
-use Rattle.std.specs.Option.{option_and_then}
-use Rattle.std.specs.Prelude.{min, nat_lt}
+use Rattle.place.proofs.Common.{Bool, List, None, Option, SectionAddress, Some, [], address_in, ap, arith, cases_lt}
+use Rattle.place.proofs.Common.{cond, drop, false, get_or, get_or-drop, get_or-take, get_or_past, inl, inr, length}
+use Rattle.place.proofs.Common.{ltb-false, ltb-true, min, nat_lt, option_and_then, refl, slots_at, sym, table_key, take}
+use Rattle.place.proofs.Common.{true, ℕ, ◌+◌, ◌-◌, ◌<◌, ◌∙◌, ◌≡◌, ◌≤◌, ◌⊎◌}
 use Rattle.elfobj.specs.declared.section.SectionIndex.{SectionIndex}
 use Rattle.ldmodel.specs.declared.names.ObjectPlace.{ObjectPlace}
-use Rattle.gather.specs.SectionTable.{slots_at}
-use Rattle.place.specs.IndexedLayout.{address_in, table_key}
 use Rattle.place.specs.declared.indexed_layout.IndexedLayout.{IndexedLayout}
-use Rattle.place.specs.declared.indexed_layout.SectionAddress.{SectionAddress}
 
 module _ {X : Type 0} (xs : List (Option X)) (first count : ℕ) where
   abbrev pub end : ℕ

@@ -1,23 +1,12 @@
 -- Each input section in the output is of an object of the project.
-use Rattle.std.proofs.Common.{◌≡◌, ◌∙◌, ◌<◌, ℕ, Bool, true, false, cond, not, sym, subst, refl}
-use Rattle.std.proofs.Common.{List, [], ◌∷◌, length, filter, flat_map}
-use Rattle.std.specs.List.{Contains, enumerate_from, range_with_len}
+use Rattle.place.proofs.Common.{AreObjectsNamed, Bool, Contains, Each, InputSection, IsOfObject, IsOwned, List}
+use Rattle.place.proofs.Common.{NamedObject, Part, Project, [], at_place, cond, each_always, each_filter, each_flat}
+use Rattle.place.proofs.Common.{each_into_map, each_sorted, enumerate_from, false, filter, flat_map, input_sections}
+use Rattle.place.proofs.Common.{length, not, range_with_len, refl, rows, subst, sym, true, ℕ, ◌<◌, ◌∙◌, ◌∷◌, ◌≡◌}
 use Rattle.ldscript.specs.statements.Numbering.{InputStatementAt, input_statements, output_sections}
-use Rattle.ldmodel.specs.Each.{Each}
 use Rattle.ldmodel.specs.Gathering.{candidates, is_discarded}
-use Rattle.ldmodel.specs.InputSections.{input_sections}
 use Rattle.ldmodel.specs.Live.{live}
-use Rattle.ldmodel.specs.Project.{NamedObject, Project}
-use Rattle.ldmodel.specs.Rows.{Piece, below, is_in_section, is_taken_by, piece_of, pieces_in, row, rows, sorted_pieces}
-use Rattle.ldmodel.specs.Rows.{taken}
-use Rattle.ldmodel.specs.Sections.{InputSection}
-use Rattle.ldmodel.specs.declared.sections.Part.{Part}
-use Rattle.ldmodel_project.specs.Inputs.{AreObjectsNamed}
-use Rattle.gather.specs.OfObjects.{IsOfObject}
-use Rattle.place.specs.InPlace.{IsOwned}
-use Rattle.ldmodel_laws.proofs.EachOf.{each_filter, each_into_map, each_always, each_flat}
-use Rattle.ldmodel_laws.proofs.EachOf.{each_sorted}
-use Rattle.ldmodel_laws.proofs.Members.{at_place}
+use Rattle.ldmodel.specs.Rows.{Piece, below, is_in_section, is_taken_by, piece_of, pieces_in, row, sorted_pieces, taken}
 use Rattle.ldmodel_laws.proofs.Finding.{member_of, each_member}
 
 -- ---- lists

@@ -1,41 +1,25 @@
 -- The entries of all rows say where input sections stand.
-use Rattle.std.proofs.Common.{◌≡◌, ◌+◌, ◌&&◌, ◌||◌, ℕ, Bool, true, false, cond, refl, sym, ap, subst, bytes_eq}
-use Rattle.std.proofs.Common.{◌<◌, ◌∙◌}
-use Rattle.std.proofs.Common.{Vec, Global}
-use Rattle.std.proofs.Common.{List, [], ◌∷◌, ◌++◌, length, drop, map, flat_map, find, Option, Some, None}
-use Rattle.std.proofs.lemmas.List.{drop_at, length-map}
+use Rattle.place.proofs.Common.{AreInPlace, Bool, Each, Global, HaveNumbers, IndexedSection, IsColumn, IsOwned}
+use Rattle.place.proofs.Common.{IsSectionAddress, IsTableOf, Layout, List, None, Option, PlacedOutput, PlacedPiece}
+use Rattle.place.proofs.Common.{Project, SectionAddress, Some, Vec, [], address_in, all_entries, ap, bytes_eq, cond}
+use Rattle.place.proofs.Common.{drop, drop_at, each_parts, entries_in, entries_of, entry_of, false, find, find-append}
+use Rattle.place.proofs.Common.{flat_map, is_part_of, is_same_part, is_some, length, length-map, list_any, map}
+use Rattle.place.proofs.Common.{object_name, option_map, option_or, piece_in, position_from, refl, row_entries, rows_in}
+use Rattle.place.proofs.Common.{starts_of, subst, sym, true, ℕ, ◌&&◌, ◌++◌, ◌+◌, ◌<◌, ◌||◌, ◌∙◌, ◌∷◌, ◌≡◌}
 use Rattle.std.proofs.lemmas.Iterator.Adapters.{position_from-zero}
-use Rattle.std.proofs.lemmas.List.Folds.{find-append}
-use Rattle.std.specs.List.{list_any, position_from}
-use Rattle.std.specs.Option.{is_some, option_map, option_or}
 use Rattle.std.specs.Vec.{vec_items}
 use Rattle.ldmodel.specs.Edits.{AreNamesDistinct}
-use Rattle.ldmodel.specs.Each.{Each}
-use Rattle.ldmodel.specs.Layout.{Layout, PlacedPiece, PlacedOutput}
-use Rattle.ldmodel.specs.PlacementView.{starts_of}
-use Rattle.ldmodel.specs.NameFaults.{object_name}
-use Rattle.ldmodel.specs.Project.{Project}
 use Rattle.ldmodel.specs.Rows as model
-use Rattle.ldmodel.specs.Sections.{is_same_part}
 use Rattle.ldmodel.specs.SymbolValues.{is_part}
 use Rattle.ldmodel.specs.declared.rows.Piece.{Piece}
-use Rattle.ldmodel.specs.declared.sections.SectionKey.{SectionKey}
-use Rattle.ldmodel_laws.specs.Spread.{entries_in}
-use Rattle.ldmodel_project.specs.ByPlace.{piece_in, rows_in}
-use Rattle.place.specs.Columns.{HaveNumbers, IsColumn}
-use Rattle.place.specs.Entries.{all_entries, entry_of, is_part_of, row_entries}
+use Rattle.ldmodel.specs.declared.sections.SectionRef.{SectionRef}
 use Rattle.place.specs.LinkLayout.{IsLinkLayout}
-use Rattle.place.specs.InPlace.{AreInPlace, IsOwned, entries_of}
-use Rattle.gather.specs.SectionTable.{IsTableOf}
-use Rattle.place.specs.IndexedLayout.{IsIndexedLayout, IsSectionAddress, address_in}
-use Rattle.place.specs.declared.indexed_section.IndexedSection.{IndexedSection}
-use Rattle.place.specs.declared.indexed_layout.SectionAddress.{SectionAddress}
+use Rattle.place.specs.IndexedLayout.{IsIndexedLayout}
 use Rattle.place.specs.declared.indexed_layout.IndexedLayout.{IndexedLayout}
 use Rattle.place.proofs.Numbers.{same_key}
 use Rattle.place.proofs.Column.{has_first}
-use Rattle.ldmodel_laws.proofs.EachOf.{each_parts}
 
-module _ (p : Project) (distinct : AreNamesDistinct p.objects) (k : SectionKey) where
+module _ (p : Project) (distinct : AreNamesDistinct p.objects) (k : SectionRef) where
   -- an entry is the one that is looked for
   abbrev sought : IndexedSection → Bool
   sought = is_part_of k.object.0 k.part
@@ -203,7 +187,7 @@ all_places p s starts x distinct apart placed begin table rows link_layout numbe
       apart = apart;
     }
   where
-    same : (k : SectionKey) → address_in x k
+    same : (k : SectionRef) → address_in x k
         ≡ option_map (λ (e : IndexedSection). e.address)
         (find (is_part_of k.object.0 k.part) (all_entries 0 x.rows.items (flat_map starts_of s.sections)))
     same k =

@@ -1,24 +1,17 @@
 -- One more output section for the groups so far.
-use Rattle.std.proofs.Common.{◌≡◌, ◌∙◌, sym, refl, ap, subst, ℕ, ◌+◌, ◌-◌, List, [], ◌∷◌, ◌++◌, append_assoc, drop}
-use Rattle.std.proofs.Common.{map, add-one}
-use Rattle.std.proofs.Common.{Option, Some, None, zero, suc, length, get_or, ◌<◌, ◌≤◌, Bool, true, false, ◌==◌, arith}
-use Rattle.std.proofs.Common.{slice_get, if◌then◌else◌, not}
+use Rattle.place.proofs.Common.{AllZip, Bool, Current, Grouped, IsGroup, List, None, Option, Placed, PlacedOutput, Some}
+use Rattle.place.proofs.Common.{Takes, [], add-one, ap, append-nil, append_assoc, arith, drop, drop_all, extended}
+use Rattle.place.proofs.Common.{false, false_from_ne_true, get_or, groups, groups_after, groups_from, if◌then◌else◌}
+use Rattle.place.proofs.Common.{length, length-map, map, nonempty, not, placed_of, refl, single, slice_get, subst, suc}
+use Rattle.place.proofs.Common.{sym, true, zero, zip_more, ℕ, ◌++◌, ◌+◌, ◌-◌, ◌<◌, ◌==◌, ◌∙◌, ◌∷◌, ◌≡◌, ◌≤◌}
 use Rattle.std.proofs.lemmas.Grind.{fold-append}
-use Rattle.std.proofs.lemmas.Bool.{false_from_ne_true}
 use Rattle.std.proofs.lemmas.Bool.Decides.{Decides-eqb}
-use Rattle.std.proofs.lemmas.List.{append-nil, drop_all, length-map}
-use Rattle.std.specs.List.{AllZip}
-use Rattle.ldmodel.specs.Layout.{PlacedOutput}
-use Rattle.ldmodel.specs.PlacementView.{placed_of}
-use Rattle.ldmodel.specs.Segments.{Group, file_size, groups, nonempty, reach, shares_segment}
+use Rattle.ldmodel.specs.Segments.{Group, file_size, reach, shares_segment}
 use Rattle.ldmodel.specs.declared.placed.OutputIndex.{OutputIndex}
-use Rattle.ldmodel.specs.declared.placed.Placed.{Placed}
 use Rattle.place.specs.declared.group.Group as code
 use Rattle.place.specs.declared.group.Running.{Running}
-use Rattle.place.specs.Grouping.{IsGroup, Current, IsRunning, Grouped, Takes, bare, begun, joined, single}
-use Rattle.place.specs.Grouping.{extended, groups_after, groups_from}
+use Rattle.place.specs.Grouping.{IsRunning, bare, begun, joined}
 use Rattle.place.proofs.Grouped.{from_none}
-use Rattle.ldmodel_laws.proofs.EachOf.{zip_more}
 use Rattle.place_terms.proofs.FoundSections.{last_or_push}
 
 -- an output section alone

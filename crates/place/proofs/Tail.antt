@@ -1,20 +1,14 @@
 -- The length of the image's tail.
-use Rattle.std.proofs.Common.{◌≡◌, ◌∙◌, sym, refl, ap, ℕ, ◌+◌, ◌*◌, List, [], ◌∷◌, length, fold, arith}
-use Rattle.std.proofs.Common.{flat_map, length-append, subst, suc}
+use Rattle.place.proofs.Common.{AreSegments, Follow, IsSegment, Layout, List, PlacedOutput, Project, [], ap, arith}
+use Rattle.place.proofs.Common.{enumerate_from, flat_map, fold, groups, length, length-append, nonempty, past, refl}
+use Rattle.place.proofs.Common.{segments, subst, suc, sym, ℕ, ◌*◌, ◌+◌, ◌∙◌, ◌∷◌, ◌≡◌}
 use Rattle.std.proofs.lemmas.List.FromFn.{length-enumerate_from}
 use Rattle.std.specs.Int.{next_multiple_of}
-use Rattle.std.specs.List.{enumerate_from}
-use Rattle.ldmodel.specs.Layout.{Layout, PlacedOutput}
-use Rattle.ldmodel.specs.PlacementView.{AreSegments, IsSegment}
-use Rattle.ldmodel.specs.Project.{Project}
 use Rattle.ldmodel.specs.SectionHeaders.{SectionHeader, header_bytes, header_name_table, header_names, header_part}
 use Rattle.ldmodel.specs.SectionHeaders.{image_length, output_header, section_headers, table_headers, tables}
-use Rattle.ldmodel.specs.Segments.{begun_from, file_end, headers_end, loaded_end, segments, Group, Segment, begun}
-use Rattle.ldmodel.specs.Segments.{groups, nonempty}
-use Rattle.ldmodel.specs.Tail.{symbol_bytes, symbol_entry, symbol_name_table, output_symbol_table}
-use Rattle.ldmodel.specs.Tail.{table_symbols}
+use Rattle.ldmodel.specs.Segments.{begun_from, file_end, headers_end, loaded_end, Group, Segment, begun}
+use Rattle.ldmodel.specs.Tail.{symbol_bytes, symbol_entry, symbol_name_table, output_symbol_table, table_symbols}
 use Rattle.ldmodel.specs.declared.segment.Segment as code
-use Rattle.place.specs.Placing.{Follow, past}
 use Rattle.place.proofs.FileOffsets.{ends_are, follow_are, zip_long}
 
 length_flat : {A B : Type 0} (f : A → List B) (n : ℕ) → ((x : A) → length (f x) ≡ n) → (xs : List A)

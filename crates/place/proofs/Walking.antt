@@ -1,29 +1,18 @@
 -- The walk over output sections and segments finds where each output section begins in the file.
-use Rattle.std.proofs.Common.{◌≡◌, ◌∙◌, sym, refl, ap, subst, ℕ, ◌+◌, ◌-◌, ◌<◌, ◌≤◌, List, [], ◌∷◌, ◌++◌, length, map}
-use Rattle.std.proofs.Common.{flat_map, fold, Some, Bool, true, false, cond, not, arith}
-use Rattle.std.proofs.Common.{append-nil, drop, bytes_eq, eq-eqb, nat_le, nat_lt, ◌&&◌, ◌==◌, zero, suc, slice_get}
+use Rattle.place.proofs.Common.{AllZip, AreNamed, AreSegments, Bool, Each, EachLater, IsOffset, IsSegment, Layout, List}
+use Rattle.place.proofs.Common.{Placed, PlacedOutput, Some, [], and_parts, ap, append-nil, arith, bytes_eq}
+use Rattle.place.proofs.Common.{bytes_eq-Decides, cond, drop, drop_all, each_by, each_filter, each_of_map, each_parts}
+use Rattle.place.proofs.Common.{eq-eqb, eqb-true, false, false_from_ne_true, flat_map, fold, is_last, later_filter}
+use Rattle.place.proofs.Common.{later_of_map, leb-true, length, map, map-append, nat_le, nat_lt, nonempty, not}
+use Rattle.place.proofs.Common.{offset_at, offsets_in, option_map_or, placed_of, refl, same_Some, segments, slice_get}
+use Rattle.place.proofs.Common.{subst, suc, sym, true, zero, ℕ, ◌&&◌, ◌++◌, ◌+◌, ◌-◌, ◌<◌, ◌==◌, ◌∙◌, ◌∷◌, ◌≡◌, ◌≤◌}
 use Rattle.std.specs.Bool.{beq}
-use Rattle.std.specs.List.{AllZip}
-use Rattle.std.specs.Option.{option_map_or}
-use Rattle.std.proofs.lemmas.Bool.{leb-true, eqb-true, false_from_ne_true, and_parts}
-use Rattle.std.proofs.lemmas.Option.{same_Some}
-use Rattle.std.proofs.lemmas.List.{drop_all, map-append}
-use Rattle.std.proofs.lemmas.Slice.Eq.{bytes_eq-Decides}
-use Rattle.ldmodel_laws.specs.ImageBytes.{AreNamed}
-use Rattle.ldmodel_laws.specs.Spread.{EachLater}
-use Rattle.ldmodel.specs.Each.{Each}
 use Rattle.ldmodel_laws.specs.FileLayout.{IsFileLayout, IsTogether, Neighbours, Shares, last_from}
-use Rattle.ldmodel.specs.Layout.{Layout, PlacedOutput}
-use Rattle.ldmodel.specs.PlacementView.{AreSegments, IsSegment, placed_of}
 use Rattle.ldmodel.specs.Placement.{difference_of}
-use Rattle.ldmodel.specs.Segments.{Group, SectionInFile, Segment, end_of, file_offset, in_file}
-use Rattle.ldmodel.specs.Segments.{in_segment, nonempty, page_size, reach, group_sections, segments, segment_start}
-use Rattle.ldmodel.specs.declared.placed.Placed.{Placed}
+use Rattle.ldmodel.specs.Segments.{Group, SectionInFile, Segment, end_of, file_offset, in_file, in_segment, page_size}
+use Rattle.ldmodel.specs.Segments.{reach, group_sections, segment_start}
 use Rattle.ldmodel.specs.declared.segment.Segment as code
 use Rattle.place.proofs.Lists.{each_at, find_at, find_none}
-use Rattle.place.specs.Offsets.{is_last, offset_at, offsets_in}
-use Rattle.place.specs.Offsets.{IsOffset}
-use Rattle.ldmodel_laws.proofs.EachOf.{each_parts, each_filter, later_filter, each_of_map, later_of_map, each_by}
 
 -- sections of nonzero size, and where they begin in the file, in the segments from one on
 data Ahead : List code.Segment → List PlacedOutput → List ℕ → Type 0 where

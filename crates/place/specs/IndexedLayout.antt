@@ -10,7 +10,7 @@ use Rattle.elfobj.specs.declared.section.SectionIndex.{SectionIndex}
 use Rattle.ldmodel.specs.declared.names.ObjectPlace.{ObjectPlace}
 use Rattle.ldmodel.specs.declared.sections.Part.{Part}
 use Rattle.ldmodel.specs.declared.sections.Part.TheVariants.{InTable}
-use Rattle.ldmodel.specs.declared.sections.SectionKey.{SectionKey}
+use Rattle.ldmodel.specs.declared.sections.SectionRef.{SectionRef}
 use Rattle.place.specs.InPlace.{AreInPlace}
 use Rattle.place.specs.LinkLayout.{IsLinkLayout}
 pub use Rattle.gather.specs.Slots.{linked_in}
@@ -22,7 +22,7 @@ use Rattle.place.specs.declared.indexed_layout.SectionAddress.{SectionAddress}
 use Rattle.place.specs.declared.indexed_layout.IndexedLayout.{IndexedLayout}
 
 -- where an input section stands, how many bytes it takes, and the number of its output section
-abbrev pub IsSectionAddress : Project → Layout → SectionKey → Option SectionAddress → Type 0
+abbrev pub IsSectionAddress : Project → Layout → SectionRef → Option SectionAddress → Type 0
 IsSectionAddress project layout k None = placed_part layout (object_name project k.object.0) k.part ≡ None
 IsSectionAddress project layout k (Some x) =
     (option_map (λ (y : PlacedPiece). y.start) (placed_part layout (object_name project k.object.0) k.part)
@@ -42,11 +42,11 @@ abbrev pub part_in : IndexedLayout → ℕ → Part → Option SectionAddress
 part_in x n part = option_and_then (address_under x) (number_of x.table n part)
 
 -- where an input section stands
-abbrev pub address_in : IndexedLayout → SectionKey → Option SectionAddress
+abbrev pub address_in : IndexedLayout → SectionRef → Option SectionAddress
 address_in x k = part_in x k.object.0 k.part
 
 -- the key of a section of an object by its header number
-abbrev pub table_key : ObjectPlace → SectionIndex → SectionKey
+abbrev pub table_key : ObjectPlace → SectionIndex → SectionRef
 table_key object number = record { object = object; part = InTable number }
 
 -- the numbers, the rows and the layout are those of the project, input sections are found where they stand, and each
@@ -55,5 +55,5 @@ pub record IsIndexedLayout (project : Project) (layout : Layout) (x : IndexedLay
   pub table : IsTableOf project x.table
   pub rows : rows_in project x.rows.items ≡ model.rows project
   pub link_layout : IsLinkLayout project layout x.link_layout
-  pub places : (k : SectionKey) → IsSectionAddress project layout k (address_in x k)
+  pub places : (k : SectionRef) → IsSectionAddress project layout k (address_in x k)
   pub apart : AreInPlace project layout

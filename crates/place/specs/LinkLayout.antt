@@ -47,9 +47,9 @@ pub record HasLayout (project : Project) (l : LinkLayout) : Type 0 where
 -- the project has no layout, and these are all the faults; or memory ran out
 abbrev pub IsWhy : Project → LayoutFault → Type 0
 IsWhy project (Faulty fs) = layout project ≡ Err (faults_in project fs.items)
-IsWhy project NoMemory = ⊤
+IsWhy project (NoMemory _) = ⊤
 
 -- this fault alone, or memory ran out
 abbrev pub IsOne : LayoutFault → Fault → Type 0
 IsOne (Faulty fs) fault = fs.items ≡ fault ∷ []
-IsOne NoMemory fault = ⊤
+IsOne (NoMemory _) fault = ⊤

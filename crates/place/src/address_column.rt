@@ -8,7 +8,7 @@ ghost use Rattle.place.specs.Entries.{all_entries, row_entries};
 use crate::indexed_layout::SectionAddress;
 use crate::indexed_section::IndexedSection;
 use gather::input_section_table::InputSectionTable;
-use ldmodel::memory::NoMemory;
+use growth::{NoMemory, vec};
 use ldmodel::names::ObjectPlace;
 use ldmodel::placed::OutputIndex;
 use ldmodel::rows::Piece;
@@ -83,7 +83,7 @@ pub(crate) fn address_column(
 ) -> Result<Vec<Option<SectionAddress>>, NoMemory>
     ensures { IfOk result (λ v. IsColumn table.now (all_entries 0 rows.now starts.now) v.items) }
 {
-    let mut column = vec![in alloc; None; table.len() as usize]?;
+    let mut column = vec::from_elem(alloc, None, table.len() as usize)?;
     let mut left = starts;
     for (number, row) in rows.iter().enumerate() {
         let section = output_index(number)?;

@@ -5,7 +5,7 @@ ghost use Rattle.std.specs.List.{All};
 ghost use Rattle.ldmodel.specs.Segments.{shares_segment};
 ghost use Rattle.place.specs.Grouping.{Ends, AreGroups, Takes, bare, begun, joined};
 
-use ldmodel::memory::NoMemory;
+use growth::{NoMemory, vec};
 use ldmodel::placed::{OutputIndex, Placed};
 use place_terms::output_number::output_index;
 use std::alloc::Global;
@@ -122,7 +122,7 @@ impl Grouping {
                         last: *section,
                     });
                 } else {
-                    self.done.push(running.group)?;
+                    vec::push(&mut self.done, running.group)?;
                     self.running = Some(Running {
                         group: begin(number, section),
                         last: *section,
@@ -154,7 +154,7 @@ pub(crate) fn groups(alloc: Global, sections: &[Placed]) -> Result<Vec<Group>, N
     }
     match grouping.running {
         Some(running) => {
-            grouping.done.push(running.group)?;
+            vec::push(&mut grouping.done, running.group)?;
             Ok(grouping.done)
         }
         None => Ok(grouping.done),

@@ -14,13 +14,13 @@ use crate::link_layout::LinkLayout;
 use crate::numbered::are_numbered;
 use gather::input_section_table::{InputSectionTable, SectionNumber};
 use gather::law::sections_of_objects;
-use ldmodel::memory::NoMemory;
+use growth::NoMemory;
 use ldmodel::names::ObjectPlace;
 use ldmodel::placed::OutputIndex;
 use ldmodel::rows::Piece;
-use ldmodel::sections::{Part, SectionKey};
+use ldmodel::sections::{Part, SectionRef};
 use ldmodel_laws::gathering::{live_by_path, once_in_rows};
-use ldmodel_laws::layout::{nothing_meets, placed_are_rows};
+use ldmodel_laws::layout::{nothing_overlaps, placed_are_rows};
 use ldmodel_project::view::ProjectView;
 use std::alloc::Global;
 
@@ -73,7 +73,7 @@ impl IndexedLayout {
             → IsIndexedLayout project.now layout x) }
     {
         // for the prover: bring in these laws
-        nothing_meets();
+        nothing_overlaps();
         placed_are_rows();
         once_in_rows();
         live_by_path();
@@ -136,7 +136,7 @@ impl IndexedLayout {
     /// The address of an input section, if it is in the output. For a section the time is constant, for a common block
     /// it is logarithmic in the number of common blocks.
     #[inline]
-    pub fn find(&self, section: SectionKey) -> Option<SectionAddress>
+    pub fn find(&self, section: SectionRef) -> Option<SectionAddress>
         ensures is { result ≡ address_in self.now section }
         ensures place { (project : Project) (layout : Layout) → IsIndexedLayout project layout self.now
             → IsSectionAddress project layout section result }

@@ -16,6 +16,7 @@ ghost use Rattle.place_sections.specs.Outcomes as outcomes;
 use crate::offsets::offsets;
 use crate::segments::segments;
 use elfobj::Meter;
+use growth::{NoMemory, vec};
 use ldmodel::fault::Fault;
 use ldmodel::rows::Piece;
 use ldmodel::script_symbol::DirectiveIndex;
@@ -26,7 +27,7 @@ use place_sections::law::outputs_are_of_script;
 use place_sections::place::place;
 use place_sections::placement::Placement;
 use place_sections::resume_point::ResumePoint;
-use std::alloc::{AllocError, Global};
+use std::alloc::Global;
 
 /// The layout of a project.
 #[derive(Drop)]
@@ -45,17 +46,17 @@ pub enum LayoutFault {
     /// The project has these faults: `F4` to `F10`.
     Faulty(Vec<Fault>),
     /// Out of memory.
-    NoMemory,
+    NoMemory(NoMemory),
 }
 
-impl From<AllocError> for LayoutFault {
+impl From<NoMemory> for LayoutFault {
     ghost use Rattle.std.specs.Prelude.{◌≡◌};
     ghost use Rattle.place.specs.declared.link_layout.LayoutFault.TheVariants.{NoMemory};
 
-    ghost from_gives = { λ _ e. e ≡ NoMemory };
+    ghost from_gives = { λ no_memory e. e ≡ NoMemory no_memory };
 
-    fn from(_failed: AllocError) -> LayoutFault {
-        LayoutFault::NoMemory
+    fn from(no_memory: NoMemory) -> LayoutFault {
+        LayoutFault::NoMemory(no_memory)
     }
 }
 
@@ -63,9 +64,9 @@ impl From<AllocError> for LayoutFault {
 fn one(alloc: Global, fault: Fault) -> LayoutFault
     ensures { IsOne result fault }
 {
-    match vec![in alloc; fault] {
+    match vec::of_one(alloc, fault) {
         Ok(faults) => LayoutFault::Faulty(faults),
-        Err(_) => LayoutFault::NoMemory,
+        Err(no_memory) => LayoutFault::NoMemory(no_memory),
     }
 }
 
@@ -78,7 +79,7 @@ fn reported(alloc: Global, fault: PlaceFault) -> LayoutFault
     match fault {
         PlaceFault::First(fault) => one(alloc, fault),
         PlaceFault::Overlapping(faults) => LayoutFault::Faulty(faults),
-        PlaceFault::NoMemory => LayoutFault::NoMemory,
+        PlaceFault::NoMemory(no_memory) => LayoutFault::NoMemory(no_memory),
     }
 }
 
@@ -101,7 +102,8 @@ fn place_rows(
     ensures counted { CountsPieces meter.old meter.new (entries 0 (map (λ v. v.items) rows.now)) }
     ensures resumed { IfOk result (λ _. IfSome kept.entry (λ k.
         CountsPieces meter.old meter.new (entries k.first_row (map (λ v. v.items) rows.now)))) }
-    ensures exact { IfOk result (λ p. meter.new ≡ raised meter.old Pieces (placed_from (first_of kept.entry) p.counts)) }
+    ensures exact { IfOk result (λ p. meter.new ≡ raised meter.old Pieces
+        (placed_from (first_of kept.entry) p.counts)) }
 {
     match place(alloc, project.script(), rows, in_force, kept, meter) {
         Ok(placement) => Ok(placement),

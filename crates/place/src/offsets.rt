@@ -10,7 +10,7 @@ ghost use Rattle.place.specs.Offsets.{is_last, offset_at, offsets_in};
 ghost use Rattle.place.specs.Offsets.{IsOffset};
 ghost use Rattle.place.specs.Placing.{HaveRoom};
 
-use ldmodel::memory::NoMemory;
+use growth::{NoMemory, vec};
 use ldmodel::placed::Placed;
 use ldmodel::segment::Segment;
 use ldmodel_laws::segments::segments_by_neighbours;
@@ -86,11 +86,11 @@ pub(crate) fn offsets(
 {
     // for the prover: brings in this law
     segments_by_neighbours();
-    let mut offsets = Vec::with_capacity(alloc, sections.len())?;
+    let mut offsets = vec::with_capacity(alloc, sections.len())?;
     let mut number = 0;
     for section in sections {
         let step = step(segments, number, section);
-        offsets.push(step.offset)?;
+        vec::push(&mut offsets, step.offset)?;
         number = step.segment;
     }
     Ok(offsets)

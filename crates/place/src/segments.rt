@@ -6,7 +6,7 @@ ghost use Rattle.place.specs.Grouping.{Ends};
 ghost use Rattle.place.specs.Placing.{AreAllSegments, HaveRoom, segment_at, past};
 
 use crate::group::{Group, PAGE_SIZE, groups};
-use ldmodel::memory::NoMemory;
+use growth::{NoMemory, vec};
 use ldmodel::placed::PlacementView;
 use ldmodel::segment::Segment;
 use std::alloc::Global;
@@ -71,11 +71,11 @@ pub fn segments(alloc: Global, placement: PlacementView<'_>) -> Result<Vec<Segme
 {
     let groups = groups(alloc, placement.sections)?;
     let mut end = header_length(groups.len());
-    let mut segments = Vec::with_capacity(alloc, groups.len())?;
+    let mut segments = vec::with_capacity(alloc, groups.len())?;
     for group in &groups {
         let segment = place_segment(end, group);
         end = end_after(end, segment);
-        segments.push(segment)?;
+        vec::push(&mut segments, segment)?;
     }
     Ok(segments)
 }

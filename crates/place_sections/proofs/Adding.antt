@@ -1,18 +1,11 @@
 -- What an output section adds to a layout.
-use Rattle.std.proofs.Common.{◌≡◌, ℕ, List, [], ◌∷◌, ◌++◌, length, Ok, refl, sym, ap, ◌∙◌}
-use Rattle.std.proofs.Common.{arith, map, subst, ◌+◌, ◌<◌, ◌^◌}
-use Rattle.std.specs.List.{enumerate_from}
-use Rattle.ldscript.specs.statements.declared.section.OutputSection.{OutputSection}
-use Rattle.ldmodel.specs.Placement.{Body, body_step}
-use Rattle.ldmodel.specs.Chain.{run}
-use Rattle.ldmodel.specs.Layout.{Layout, PlacedOutput, address}
-use Rattle.ldmodel.specs.Placement.{opened, section_step}
+use Rattle.place_sections.proofs.Common.{Begins, Body, Head, Layout, List, Ok, OutputSection, PlacedOutput, [], address}
+use Rattle.place_sections.proofs.Common.{ap, arith, body_step, enumerate_from, find_region, freed_from, head_of, length}
+use Rattle.place_sections.proofs.Common.{load_region, map, opened, placed_section, refl, run, section_end, section_step}
+use Rattle.place_sections.proofs.Common.{subst, sym, with_room, with_section, ℕ, ◌++◌, ◌+◌, ◌<◌, ◌^◌, ◌∙◌, ◌∷◌, ◌≡◌}
 use Rattle.ldmodel.specs.Rows.{Piece}
-use Rattle.ldmodel.specs.Placement.{find_region, freed_from, load_region, placed_section, section_end, with_room}
-use Rattle.ldmodel.specs.Placement.{with_section, Head, head_of}
 use Rattle.place_sections.proofs.Ending.{address_fits, chained}
 use Rattle.place_sections.proofs.Grows.{Grown, body_grows, given_is, the_piece}
-use Rattle.place_sections.specs.Leads.{Begins}
 
 -- the numbers of a list go on
 pub enumerate_more : {X : Type 0} (k : ℕ) (xs ys : List X) → enumerate_from k (xs ++ ys)

@@ -1,26 +1,17 @@
 -- The body of an output section goes on alongside that of a previous layout.
-use Rattle.std.proofs.Common.{◌≡◌, ℕ, ◌+◌, ◌==◌, List, [], ◌∷◌, ◌++◌, Bool, true, false, Ok, refl, sym, ap, subst, ◌∙◌}
-use Rattle.std.proofs.Common.{drop, length, map, ◌<◌, suc, arith, cond, eq-eqb, get_or, Bor}
-use Rattle.std.proofs.Common.{Option, Some, None, IfSome, Result}
-use Rattle.std.specs.Prelude.{⊤, slice_get}
-use Rattle.std.proofs.lemmas.List.{drop_more, length-map}
+use Rattle.place_sections.proofs.Common.{Begins, Body, BodyAlongside, BodyCommand, BodyStatement, Bool, Bor, Counted}
+use Rattle.place_sections.proofs.Common.{Head, IfSome, Layout, LayoutCursor, List, Naming, None, Ok, Option}
+use Rattle.place_sections.proofs.Common.{OutputSection, PlacedOutput, PlacedPiece, Result, SectionAlongside, Some}
+use Rattle.place_sections.proofs.Common.{StartAt, [], address, and_then, ap, arith, body_command_step, body_of}
+use Rattle.place_sections.proofs.Common.{body_step, cond, drop, drop_more, eq-eqb, false, get_or, head_of, input_step}
+use Rattle.place_sections.proofs.Common.{keyed_piece, length, length-map, map, names_on, noted, opened, piece_at}
+use Rattle.place_sections.proofs.Common.{piece_named, piece_placed, piece_start, pieces_placed, placed_section, refl}
+use Rattle.place_sections.proofs.Common.{row_named, run, section_end, section_step, slice_get, starts_of, subst, suc}
+use Rattle.place_sections.proofs.Common.{sym, true, with_dot, ℕ, ⊤, ◌++◌, ◌+◌, ◌<◌, ◌==◌, ◌∙◌, ◌∷◌, ◌≡◌}
 use Rattle.ldscript.specs.statements.Numbering.{directives_in, directives_of}
-use Rattle.ldscript.specs.statements.declared.section.BodyCommand.{BodyCommand}
 use Rattle.ldscript.specs.statements.declared.section.BodyCommand.TheVariants as body
-use Rattle.ldscript.specs.statements.declared.section.BodyStatement.{BodyStatement}
-use Rattle.ldscript.specs.statements.declared.section.OutputSection.{OutputSection}
-use Rattle.ldmodel.specs.Placement.{Body, body_command_step, body_step, input_step, piece_placed, piece_start}
-use Rattle.ldmodel.specs.Placement.{pieces_placed, with_dot}
-use Rattle.ldmodel.specs.Chain.{and_then, run}
-use Rattle.ldmodel.specs.Layout.{Layout, PlacedPiece, PlacedOutput, address, noted}
-use Rattle.ldmodel.specs.PlacementView.{starts_of}
-use Rattle.ldmodel.specs.Placement.{opened, section_step}
 use Rattle.ldmodel.specs.Rows.{Piece}
-use Rattle.ldmodel.specs.Placement.{placed_section, section_end, Head, head_of}
 use Rattle.ldmodel.specs.declared.rows.Piece as rows
-use Rattle.place_terms.specs.Keyed.{piece_at}
-use Rattle.place_terms.specs.Naming.{Naming, piece_named, row_named}
-use Rattle.place_terms.specs.SectionTable.{keyed_piece}
 use Rattle.ldmodel_laws.specs.Alike.{AreBodiesAlike, BodiesStayAlike, HeadsAgree, names_given}
 use Rattle.place_sections.proofs.Counting.{along_none}
 use Rattle.place_sections.proofs.Adding.{end_is}
@@ -30,13 +21,8 @@ use Rattle.place_sections.proofs.Grows.{body_grows, given_is, pieces_grow}
 use Rattle.place_sections.proofs.Runs.{drop_at}
 use Rattle.place_sections.proofs.Taking.{after_first}
 use Rattle.place_sections.proofs.Options.{for_some}
-use Rattle.place_sections.specs.Alongside.{BodyAlongside, IfInput, SectionAlongside, StartAt, StartsThere}
-use Rattle.place_sections.specs.Counted.{Counted}
-use Rattle.place_sections.specs.Leads.{Begins}
-use Rattle.place_sections.specs.State.{body_of}
+use Rattle.place_sections.specs.Alongside.{IfInput, StartsThere}
 use Rattle.place_sections.specs.declared.state.CurrentOutput.{CurrentOutput}
-use Rattle.place_sections.specs.declared.state.LayoutCursor.{LayoutCursor}
-use Rattle.ldmodel_laws.proofs.Mentioned.{names_on}
 
 -- a list from an element on
 pub from_here : {X : Type 0} (xs : List X) (k : ℕ) (x : X) → k < length xs → x ≡ get_or xs k x

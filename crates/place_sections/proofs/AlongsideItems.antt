@@ -1,36 +1,22 @@
 -- The statements of SECTIONS, and those of a script, go on alongside a previous layout.
-use Rattle.std.proofs.Common.{◌≡◌, ℕ, ◌≤◌, ◌<◌, List, [], ◌∷◌, ◌++◌, Ok, refl, sym, ap, subst, ◌∙◌, arith}
-use Rattle.std.proofs.Common.{Bool, true, false, get_or, length, map}
+use Rattle.place_sections.proofs.Common.{Bool, Command, HasStarts, Input, Item, ItemCommand, ItemsAlongside}
+use Rattle.place_sections.proofs.Common.{KeyedSection, Layout, Leads, List, Naming, Ok, OutputSection, ScriptAlongside}
+use Rattle.place_sections.proofs.Common.{SectionAlongside, Statement, [], after_sections, and_then, ap, arith}
+use Rattle.place_sections.proofs.Common.{before_sections, earlier_of, false, get_or, if_sections, item_command_step}
+use Rattle.place_sections.proofs.Common.{item_step, items_within, length, length-map, map, names_of_both, names_on}
+use Rattle.place_sections.proofs.Common.{next_row, noted, refl, row_named, rows_of, run, section_of, section_step}
+use Rattle.place_sections.proofs.Common.{starts_in, statement_step, subst, sym, true, ℕ, ◌++◌, ◌<◌, ◌∙◌, ◌∷◌, ◌≡◌, ◌≤◌}
 use Rattle.std.proofs.Math.ListN.{get_or-map}
-use Rattle.std.proofs.lemmas.List.{length-map}
 use Rattle.ldscript.specs.statements.Numbering.{all_directives, item_directives, items_directives}
-use Rattle.ldscript.specs.statements.declared.section.OutputSection.{OutputSection}
-use Rattle.ldscript.specs.statements.declared.statement.Command.{Command}
 use Rattle.ldscript.specs.statements.declared.statement.Command.TheVariants as top
-use Rattle.ldscript.specs.statements.declared.statement.Item.{Item}
-use Rattle.ldscript.specs.statements.declared.statement.ItemCommand.{ItemCommand}
 use Rattle.ldscript.specs.statements.declared.statement.ItemCommand.TheVariants as item
-use Rattle.ldscript.specs.statements.declared.statement.Statement.{Statement}
-use Rattle.ldmodel.specs.Chain.{and_then, run}
-use Rattle.ldmodel.specs.Layout.{Layout, noted}
-use Rattle.ldmodel.specs.Placement.{item_command_step, item_step, next_row, section_step, statement_step}
 use Rattle.ldmodel.specs.declared.rows.Piece as rows
 use Rattle.ldmodel_laws.specs.Alike.{AreAlike, ItemsStayAlike, StatementsStayAlike, names_given}
-use Rattle.place_terms.specs.Keyed.{KeyedSection, section_of}
-use Rattle.place_terms.specs.Naming.{Naming, row_named}
 use Rattle.place_sections.proofs.Ending.{Chained, chained}
 use Rattle.place_sections.proofs.InParts.{in_parts, whole}
 use Rattle.place_sections.proofs.Onward.{items_on, leads_before, statements_on}
 use Rattle.place_sections.proofs.Taking.{count_is, grown, has_starts, starts_are}
-use Rattle.place_terms.specs.PreviousLayout.{HasStarts, earlier_of}
-use Rattle.place_terms.specs.Wholes.{starts_in}
-use Rattle.place_sections.specs.Alongside.{HasKept, IfSection, IsAlongside, ItemsAlongside, ScriptAlongside}
-use Rattle.place_sections.specs.Alongside.{SectionAlongside}
-use Rattle.place_sections.specs.Inputs.{rows_of}
-use Rattle.place_sections.specs.Leads.{Leads}
-use Rattle.place_sections.specs.Parts.{after_sections, before_sections, if_sections, items_within}
-use Rattle.place_sections.specs.declared.script.Input.{Input}
-use Rattle.ldmodel_laws.proofs.Mentioned.{names_on, names_of_both}
+use Rattle.place_sections.specs.Alongside.{HasKept, IfSection, IsAlongside}
 
 module _ (n : Naming) (i : Input) (script : List Statement) (s : Layout) (x : Item) (xs : List Item)
     (a : ItemsAlongside n i script s (x ∷ xs)) where

@@ -1,12 +1,7 @@
 -- Lists that begin with others.
-use Rattle.std.proofs.Common.{◌≡◌, ℕ, ◌≤◌, List, [], ◌∷◌, ◌++◌, length, map, take, drop, sym, ap, ◌∙◌}
-use Rattle.std.proofs.Common.{append_assoc, length-append, arith}
-use Rattle.std.specs.Prelude.{flat_map}
-use Rattle.std.proofs.Math.Seq.{take-append_seam}
-use Rattle.std.proofs.lemmas.Grind.{flat_map-append}
-use Rattle.std.proofs.lemmas.List.{append-nil, drop-map, map-append, take-map}
-use Rattle.place_sections.specs.Leads.{Begins}
-use Rattle.place_terms.specs.PreviousLayout.{part_of}
+use Rattle.place_sections.proofs.Common.{Begins, List, [], ap, append-nil, append_assoc, arith, drop, drop-map}
+use Rattle.place_sections.proofs.Common.{flat_map, flat_map-append, length, length-append, map, map-append, part_of}
+use Rattle.place_sections.proofs.Common.{sym, take, take-append_seam, take-map, ℕ, ◌++◌, ◌∙◌, ◌∷◌, ◌≡◌, ◌≤◌}
 
 pub begins_on : {X : Type 0} (xs ys zs : List X) → Begins xs ys → Begins ys zs → Begins xs zs
 begins_on xs ys zs a b = record {

@@ -1,22 +1,15 @@
 -- The entries of rows, and how many are placed anew.
-use Rattle.std.proofs.Common.{◌≡◌, ℕ, zero, suc, ◌+◌, ◌≤◌, ◌<◌, max, List, [], ◌∷◌, ◌++◌, length, get_or, map}
-use Rattle.std.proofs.Common.{Option, Some, None, IfSome, IfNone, drop, ◌∙◌}
-use Rattle.std.proofs.Common.{Result, Ok, Err, OnOk, refl, ap, arith}
-use Rattle.std.specs.Prelude.{sum_by}
-use Rattle.std.proofs.lemmas.List.Sums.{sum_by-append, sum_by-cons}
-use Rattle.std.proofs.lemmas.List.{drop-append-le, drop_all, length-map, map-append}
+use Rattle.place_sections.proofs.Common.{Adds, CountsAlong, Err, IfNone, IfSome, Input, KeyedSection, LayoutCursor}
+use Rattle.place_sections.proofs.Common.{LayoutStop, List, None, Ok, OnOk, Option, PlacesAnew, Result, Resumes, Some}
+use Rattle.place_sections.proofs.Common.{[], ap, arith, counts_in, drop, drop-append-le, drop_all, entries, first_of}
+use Rattle.place_sections.proofs.Common.{get_or, left_after, length, length-map, map, map-append, max, placed_from}
+use Rattle.place_sections.proofs.Common.{refl, suc, sum_by, sum_by-append, sum_by-cons, zero, ℕ, ◌++◌, ◌+◌, ◌<◌, ◌∙◌}
+use Rattle.place_sections.proofs.Common.{◌∷◌, ◌≡◌, ◌≤◌}
 use Rattle.elfobj.specs.Counts.{Counts, capped}
 use Rattle.elfobj.specs.Raised.{raised}
 use Rattle.elfobj.specs.declared.meter.Count.TheVariants as count
 use Rattle.ldmodel.specs.declared.rows.Piece.{Piece}
-use Rattle.place_terms.specs.Keyed.{KeyedSection}
-use Rattle.place_terms.specs.Wholes.{counts_in}
-use Rattle.place_sections.specs.Counted.{Adds, CountsAlong, PlacesAnew, Resumes, entries, first_of, left_after}
-use Rattle.place_sections.specs.Counted.{placed_from}
 use Rattle.place_sections.specs.declared.resume_point.ResumePoint.{ResumePoint}
-use Rattle.place_sections.specs.declared.script.Input.{Input}
-use Rattle.place_sections.specs.declared.state.LayoutCursor.{LayoutCursor}
-use Rattle.place_sections.specs.declared.stop.LayoutStop.{LayoutStop}
 
 pub entries_more : (k : ℕ) (rows : List (List Piece)) → entries k rows
     ≡ length (get_or rows k []) + entries (k + 1) rows

@@ -1,13 +1,8 @@
 -- How many ranges an address is in.
-use Rattle.std.proofs.Common.{◌≡◌, ◌∙◌, refl, ap, subst, ℕ, ◌+◌, ◌≤◌, ◌<◌, List, [], ◌∷◌, length, take, get_or}
-use Rattle.std.proofs.Common.{true, false, ◌&&◌, nat_le, nat_lt, arith, inl, inr, if◌then◌else◌}
-use Rattle.std.proofs.Math.Numerals.{add-one}
-use Rattle.std.proofs.Math.Seq.{take-suc}
-use Rattle.std.proofs.lemmas.Bool.{cases_lt, false_from_ne_true, le-leb, le-ltb, leb-true, lt-ltb}
-use Rattle.std.proofs.lemmas.List.{take_all}
-use Rattle.std.proofs.lemmas.List.Sums.{sum_by-append}
-use Rattle.place_sections.specs.Extents.{cover, covers}
-use Rattle.place_sections.specs.declared.extent.Extent.{Extent}
+use Rattle.place_sections.proofs.Common.{Extent, List, [], add-one, ap, arith, cases_lt, cover, covers, false}
+use Rattle.place_sections.proofs.Common.{false_from_ne_true, get_or, if◌then◌else◌, inl, inr, le-leb, le-ltb, leb-true}
+use Rattle.place_sections.proofs.Common.{length, lt-ltb, nat_le, nat_lt, refl, subst, sum_by-append, take, take-suc}
+use Rattle.place_sections.proofs.Common.{take_all, true, ℕ, ◌&&◌, ◌+◌, ◌<◌, ◌∙◌, ◌∷◌, ◌≡◌, ◌≤◌}
 
 pub record Ascending (extents : List Extent) (k end : ℕ) : Type 0 where
   pub one : (address : ℕ) → cover address (take k extents) ≤ 1

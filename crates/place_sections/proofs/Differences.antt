@@ -1,12 +1,7 @@
 -- The difference of a region does not turn on the names of input sections.
-use Rattle.std.proofs.Common.{◌≡◌, ℕ, List, [], ◌∷◌, map, filter, Bool, true, false, cond, Option, Some, None, refl}
-use Rattle.std.specs.List.{last_or}
-use Rattle.std.specs.Option.{option_map_or}
-use Rattle.ldmodel.specs.Layout.{PlacedOutput}
-use Rattle.ldmodel.specs.Placement.{difference_in, difference_of, same_region}
-use Rattle.place_terms.specs.Keyed.{KeyedSection, section_of}
-use Rattle.place_terms.specs.Naming.{Naming}
-use Rattle.place_terms.specs.SectionTable.{nameless, difference_by}
+use Rattle.place_sections.proofs.Common.{Bool, KeyedSection, List, Naming, None, Option, PlacedOutput, Some, [], cond}
+use Rattle.place_sections.proofs.Common.{difference_by, difference_in, difference_of, false, filter, last_or, map}
+use Rattle.place_sections.proofs.Common.{nameless, option_map_or, refl, same_region, section_of, true, ℕ, ◌∷◌, ◌≡◌}
 
 last_difference : (n m : Naming) (region : Option (List ℕ)) (a b : Option PlacedOutput) (xs : List KeyedSection)
     → option_map_or difference_of a 0 ≡ option_map_or difference_of b 0

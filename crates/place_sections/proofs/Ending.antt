@@ -1,26 +1,12 @@
 -- The end of an output section.
-use Rattle.std.proofs.Common.{Bool, true, false, cond, ◌≡◌, ℕ, ◌+◌, ◌-◌, ◌<◌, ◌^◌, max, List, [], ◌∷◌, ◌++◌}
-use Rattle.std.proofs.lemmas.Bool.{ltb-true}
-use Rattle.std.proofs.Common.{Result, Ok, Err, refl, sym, ap, ◌∙◌, arith}
-use Rattle.std.specs.Option.{option_and_then}
-use Rattle.ldscript.specs.statements.declared.section.OutputSection.{OutputSection}
-use Rattle.ldmodel.specs.Chain.{and_then}
-use Rattle.ldmodel.specs.Fault.{Fault}
-use Rattle.ldmodel.specs.Arithmetic.{is_address}
-use Rattle.ldmodel.specs.Fault.{PastAddressSpace}
-use Rattle.ldmodel.specs.Layout.{PlacedOutput, address, region_named}
-use Rattle.ldmodel.specs.Placement.{placed_section, section_end, with_section, with_room, load_region, Head}
-use Rattle.place_terms.specs.Keyed.{KeyedSection, section_of}
-use Rattle.place_terms.specs.Naming.{Naming}
-use Rattle.place_terms.specs.Outputs.{Outputs}
+use Rattle.place_sections.proofs.Common.{Bool, Err, Fault, Head, KeyedSection, LayoutCursor, List, MemoryRegion, Naming}
+use Rattle.place_sections.proofs.Common.{Ok, OutputSection, Outputs, PastAddressSpace, PlacedOutput, PlacedOutputs}
+use Rattle.place_sections.proofs.Common.{Result, [], address, and_then, ap, arith, body_from, cond, false, freed_from}
+use Rattle.place_sections.proofs.Common.{is_address, layout_of, load_region, ltb-true, map-append, max, option_and_then}
+use Rattle.place_sections.proofs.Common.{placed_section, refl, region_named, section_end, section_of, sym, true}
+use Rattle.place_sections.proofs.Common.{with_room, with_section, ℕ, ◌++◌, ◌+◌, ◌-◌, ◌<◌, ◌^◌, ◌∙◌, ◌∷◌, ◌≡◌}
 use Rattle.place_sections.specs.Ends.{body_alone, ended_body, load_end}
-use Rattle.std.proofs.lemmas.List.{map-append}
-use Rattle.ldmodel.specs.Layout.{MemoryRegion}
-use Rattle.ldmodel.specs.Placement.{freed_from}
 use Rattle.ldmodel.specs.declared.rows.Piece as rows
-use Rattle.place_sections.specs.State.{body_from, layout_of}
-use Rattle.place_sections.specs.declared.state.PlacedOutputs.{PlacedOutputs}
-use Rattle.place_sections.specs.declared.state.LayoutCursor.{LayoutCursor}
 
 regrouped : {X Y Z W : Type 0} (a : Result X Fault) (b : Result Y Fault) (c : Result Z Fault) (r : Result W Fault)
     → and_then a (λ _. and_then b (λ _. and_then c (λ _. r)))

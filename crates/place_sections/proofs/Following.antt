@@ -1,26 +1,17 @@
 -- The output section at a place is the next one of the script.
-use Rattle.std.proofs.Common.{◌≡◌, ℕ, suc, List, [], ◌∷◌, ◌++◌, length, take, drop, Ok, Some, refl, sym, ap, ◌∙◌}
-use Rattle.std.proofs.Common.{append_assoc, arith, length-append, map, ◌+◌, ◌≤◌}
-use Rattle.std.specs.Prelude.{slice_get}
-use Rattle.std.proofs.lemmas.List.{length-map, take-append-drop}
-use Rattle.ldscript.specs.statements.Numbering.{OutputSectionAt, items, items_of, output_sections, sections_in}
-use Rattle.ldscript.specs.statements.Numbering.{item_sections}
-use Rattle.ldscript.specs.statements.declared.statement.Command.{Command}
+use Rattle.place_sections.proofs.Common.{Command, Item, ItemCommand, Layout, List, Ok, OutputSectionAt, PlacedOutput}
+use Rattle.place_sections.proofs.Common.{Some, Statement, [], ap, append_assoc, arith, drop, if_sections, item_sections}
+use Rattle.place_sections.proofs.Common.{item_step, items_within, length, length-append, length-map, map, noted}
+use Rattle.place_sections.proofs.Common.{output_sections, refl, run, sections_append, sections_in, slice_get, suc, sym}
+use Rattle.place_sections.proofs.Common.{take, take-append-drop, ℕ, ◌++◌, ◌+◌, ◌∙◌, ◌∷◌, ◌≡◌, ◌≤◌}
+use Rattle.ldscript.specs.statements.Numbering.{items, items_of}
 use Rattle.ldscript.specs.statements.declared.statement.Command.TheVariants as top
-use Rattle.ldscript.specs.statements.declared.statement.Item.{Item}
-use Rattle.ldscript.specs.statements.declared.statement.ItemCommand.{ItemCommand}
 use Rattle.ldscript.specs.statements.declared.statement.ItemCommand.TheVariants as item
-use Rattle.ldscript.specs.statements.declared.statement.Statement.{Statement}
-use Rattle.ldmodel.specs.Chain.{run}
-use Rattle.ldmodel.specs.Layout.{Layout, PlacedOutput, noted}
-use Rattle.ldmodel.specs.Placement.{item_step}
 use Rattle.ldmodel.specs.Rows.{Piece}
 use Rattle.place_sections.proofs.Outputs.{item_names, items_names}
 use Rattle.place_sections.proofs.Runs.{drop_at}
 use Rattle.place_sections.proofs.Taking.{after_first}
 use Rattle.place_sections.specs.Next.{AreFirst, IsNext, IsNextAt}
-use Rattle.place_sections.specs.Parts.{if_sections, items_within}
-use Rattle.ldmodel_laws.proofs.Mentioned.{sections_append}
 
 -- the statements of SECTIONS have the first output sections
 first_of : (c : Command) (ss : List Statement) (within : List Item) → (later : List OutputSectionAt)

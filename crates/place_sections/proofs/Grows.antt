@@ -1,31 +1,20 @@
 -- What a step of a layout leaves as it was, and what it adds to.
-use Rattle.std.proofs.Common.{◌≡◌, ℕ, ◌+◌, ◌≤◌, List, [], ◌∷◌, ◌++◌, map, Bool, true, false, cond, Option}
-use Rattle.std.proofs.Common.{Some, None, arith, refl}
-use Rattle.std.proofs.Common.{Result, Ok, Err, sym, ap, subst, ◌∙◌, nat_lt, append_assoc}
-use Rattle.std.specs.List.{list_any}
-use Rattle.std.specs.Prelude.{bytes_eq, ◌==◌}
-use Rattle.std.proofs.lemmas.List.{map-append}
+use Rattle.place_sections.proofs.Common.{Add, Begins, Body, BodyCommand, BodyStatement, Bool, Directive, Err, Expr}
+use Rattle.place_sections.proofs.Common.{Fault, Layout, List, MovedBack, None, Ok, Option, PlacedPiece, Result, Set}
+use Rattle.place_sections.proofs.Common.{Some, [], address, advanced, and_then, ap, append_assoc, arith, assigned}
+use Rattle.place_sections.proofs.Common.{body_command_step, body_step, byte_count, bytes_eq, cond, directive_step}
+use Rattle.place_sections.proofs.Common.{false, input_step, list_any, map, map-append, moved_on, nat_lt, noted, number}
+use Rattle.place_sections.proofs.Common.{piece_placed, piece_start, pieces_placed, refl, run, set_to, subst, sym, true}
+use Rattle.place_sections.proofs.Common.{with_data, with_dot, with_symbol, ℕ, ◌++◌, ◌+◌, ◌==◌, ◌∙◌, ◌∷◌, ◌≡◌, ◌≤◌}
 use Rattle.byteorder.specs.Endian.{little_bytes}
 use Rattle.ldscript.specs.terms.Expressions as expression
-use Rattle.ldscript.specs.terms.Expressions.{Expr}
 use Rattle.ldscript.specs.terms.DotForms.{DotForm, Advance, Align, Offset, dot_form}
-use Rattle.ldscript.specs.statements.Widths.{byte_count}
 use Rattle.ldscript.specs.statements.declared.directive.Assignment.{Assignment}
-use Rattle.ldscript.specs.statements.declared.directive.Directive.{Directive}
 use Rattle.ldscript.specs.statements.declared.directive.Directive.TheVariants as directive
-use Rattle.ldscript.specs.statements.declared.directive.DotCommand.TheVariants.{Set, Add}
-use Rattle.ldscript.specs.statements.declared.section.BodyCommand.{BodyCommand}
 use Rattle.ldscript.specs.statements.declared.section.BodyCommand.TheVariants as body
-use Rattle.ldscript.specs.statements.declared.section.BodyStatement.{BodyStatement}
-use Rattle.ldmodel.specs.Placement.{assigned, directive_step, Body, advanced, body_command_step, body_step, input_step}
-use Rattle.ldmodel.specs.Placement.{moved_on, piece_placed, piece_start, pieces_placed, set_to, with_data, with_dot}
-use Rattle.ldmodel.specs.Chain.{and_then, run}
-use Rattle.ldmodel.specs.Fault.{Fault, MovedBack}
-use Rattle.ldmodel.specs.Layout.{Layout, address, PlacedPiece, number, noted, with_symbol}
 use Rattle.ldmodel.specs.Rows.{Piece}
 use Rattle.place_sections.proofs.Beginning.{begins_on, begins_one, begins_same}
 use Rattle.place_sections.proofs.Ending.{address_is, chained}
-use Rattle.place_sections.specs.Leads.{Begins}
 
 -- a state that is given is that of the result
 pub given_is : {X : Type 0} (s t : X) → ◌≡◌ {A = Result X Fault} (Ok s) (Ok t) → s ≡ t

@@ -1,17 +1,12 @@
 -- Marks of a tree of ranges.
-use Rattle.std.proofs.Common.{◌≡◌, ◌∙◌, ◌≢◌, sym, refl, ap, subst, ℕ, ◌+◌, ◌*◌, ◌≤◌, ◌<◌, List, length, get_or, set}
-use Rattle.std.proofs.Common.{Option, Some, None}
-use Rattle.std.proofs.Common.{Bool, true, false, not, ◌&&◌, ◌==◌, nat_lt, arith, inl, inr, min, max, get_or-set_other}
-use Rattle.std.proofs.Common.{get_or-set_same}
-use Rattle.std.proofs.lemmas.Bool.{cases_eq, lt-ltb, ltb-true, false_from_ne_true, and_parts}
-use Rattle.std.proofs.lemmas.List.{get_or_default, length-set}
-use Rattle.std.specs.Option.{is_some}
-use Rattle.place_sections.specs.Extents.{meet}
-use Rattle.place_sections.specs.Hulls.{around, Around, Kept, Marked, MarkedAt, Missed, Under, Within, below, found}
-use Rattle.place_sections.specs.Hulls.{here}
-use Rattle.place_sections.specs.Hulls.{may_meet, same}
-use Rattle.place_sections.proofs.Apart.{no_zero}
-use Rattle.place_sections.specs.declared.extent.Extent.{Extent}
+use Rattle.place_sections.proofs.Common.{Around, Bool, Extent, Kept, List, Marked, MarkedAt, Missed, None, Option, Some}
+use Rattle.place_sections.proofs.Common.{Under, and_parts, ap, arith, below, cases_eq, false, false_from_ne_true, found}
+use Rattle.place_sections.proofs.Common.{get_or, get_or-set_other, get_or-set_same, get_or_default, here, inl, inr}
+use Rattle.place_sections.proofs.Common.{is_some, length, length-set, lt-ltb, ltb-true, max, min, nat_lt, not, overlap}
+use Rattle.place_sections.proofs.Common.{refl, same, set, subst, sym, true, ℕ, ◌&&◌, ◌*◌, ◌+◌, ◌<◌, ◌==◌, ◌∙◌, ◌≡◌, ◌≢◌}
+use Rattle.place_sections.proofs.Common.{◌≤◌}
+use Rattle.place_sections.specs.Hulls.{around, Within, may_overlap}
+use Rattle.place_sections.proofs.DisjointRanges.{no_zero}
 use Rattle.place_sections.specs.declared.hull.Hull.{Hull}
 
 -- an option that is not `Some`
@@ -19,13 +14,13 @@ pub none_is : (o : Option ℕ) → is_some o ≡ false → o ≡ None
 none_is None is = refl
 none_is (Some x) is = absurd (cc is)
 
-record Met (a b : Extent) : Type 0 where
+record Overlap (a b : Extent) : Type 0 where
   sized : 0 < a.size
   before : a.start < b.start + b.size
   past : b.start < a.start + a.size
 
-met_is : (a b : Extent) → meet a b ≡ true → Met a b
-met_is a b met =
+overlap_is : (a b : Extent) → overlap a b ≡ true → Overlap a b
+overlap_is a b met =
     let one_end = and_parts (not (a.size == 0) && not (b.size == 0) && nat_lt a.start (b.start + b.size))
     (nat_lt b.start (a.start + a.size)) met in
     let other_end = and_parts (not (a.size == 0) && not (b.size == 0)) (nat_lt a.start (b.start + b.size)) one_end.0 in
@@ -36,7 +31,7 @@ met_is a b met =
       past = ltb-true b.start (a.start + a.size) one_end.1;
     }
 
-may : (h : Hull) (e : Extent) → h.low < e.start + e.size → e.start < h.end → may_meet h e ≡ true
+may : (h : Hull) (e : Extent) → h.low < e.start + e.size → e.start < h.end → may_overlap h e ≡ true
 may h e before past =
     ap (λ b. b && nat_lt e.start h.end) (lt-ltb h.low (e.start + e.size) before) ∙ lt-ltb e.start h.end past
 
@@ -57,14 +52,14 @@ under_within extents nodes firsts top _ d kept positive (below p c u low high) w
     kept.nested p c d (omega (arith, from, positive)) low high within in
     record { low = omega (arith, above.low, next.low); end = omega (arith, above.end, next.end) }
 
--- where the range around them does not meet it, none does
+-- where the range around them does not overlap it, none does
 pub missed_all : (extents : List Extent) (nodes : List Hull) (firsts : List (Option ℕ)) (node : ℕ)
     (d : Hull) (e : Extent)
     → length nodes ≡ 2 * length extents → 0 < node → Kept extents nodes firsts
-    → may_meet (get_or nodes node d) e ≡ false → Missed extents e node firsts
+    → may_overlap (get_or nodes node d) e ≡ false → Missed extents e node firsts
 missed_all extents nodes firsts node d e lengths positive kept apart j x within under none =
-    false_from_ne_true (meet (get_or extents j x) e) (λ is.
-    let met : Met (get_or extents j x) e = met_is (get_or extents j x) e is in
+    false_from_ne_true (overlap (get_or extents j x) e) (λ is.
+    let met : Overlap (get_or extents j x) e = overlap_is (get_or extents j x) e is in
     let leaf : Around (get_or nodes (length extents + j) d) (get_or extents j x) =
     kept.leaves j d x within none met.sized in
     let top : Within (get_or nodes (length extents + j) d) (get_or nodes node d) =
@@ -81,14 +76,14 @@ leaf_alone top _ count (below p c u low high) positive leaf within =
 
 pub missed_leaf : (extents : List Extent) (firsts : List (Option ℕ)) (node leaf : ℕ) (e : Extent)
     → leaf < length extents → node ≡ length extents + leaf
-    → ((d : Extent) → get_or firsts leaf None ≡ None → meet (get_or extents leaf d) e ≡ false)
+    → ((d : Extent) → get_or firsts leaf None ≡ None → overlap (get_or extents leaf d) e ≡ false)
     → Missed extents e node firsts
 missed_leaf extents firsts node leaf e within is here_missed j x below_length under none =
     let alone : length extents + j ≡ node =
     leaf_alone node (length extents + j) (length extents) under (omega (arith, within)) (omega (arith, is))
     (omega (arith, below_length)) in
     let same_leaf : leaf ≡ j = omega (arith, alone, is) in
-    subst (λ k. get_or firsts k None ≡ None → meet (get_or extents k x) e ≡ false) same_leaf (here_missed x) none
+    subst (λ k. get_or firsts k None ≡ None → overlap (get_or extents k x) e ≡ false) same_leaf (here_missed x) none
 
 -- what is below a node is below one of its children
 data Child (top c : ℕ) : Type 0 where
@@ -120,7 +115,7 @@ joined met by _ _ _ (found is) (same _) = found is
 pub marked_join : (extents : List Extent) (e : Extent) (by : ℕ) (a b c : List (Option ℕ))
     → Marked extents e by a b → Marked extents e by b c → Marked extents e by a c
 marked_join extents e by a b c one two j x within =
-    joined (meet (get_or extents j x) e) by (get_or a j None) (get_or b j None) (get_or c j None)
+    joined (overlap (get_or extents j x) e) by (get_or a j None) (get_or b j None) (get_or c j None)
     (one j x within) (two j x within)
 
 pub missed_join : (extents : List Extent) (e : Extent) (by node : ℕ) (b c : List (Option ℕ))
@@ -131,7 +126,7 @@ missed_join extents e by node b c inner one marked two j x within under none =
       | itself is ↦ absurd (omega (arith, inner, is))
       | left v ↦
           one j x within v
-          (unmarked (meet (get_or extents j x) e) by (get_or b j None) (get_or c j None) (marked j x within) none)
+          (unmarked (overlap (get_or extents j x) e) by (get_or b j None) (get_or c j None) (marked j x within) none)
       | right v ↦ two j x within v none
     ]
 
@@ -209,18 +204,18 @@ kept_marked extents nodes firsts leaf by h d lengths marks inside kept is = reco
 
 pub marked_leaf : (extents : List Extent) (firsts : List (Option ℕ)) (leaf by : ℕ) (e x : Extent)
     → length firsts ≡ length extents → leaf < length extents → get_or firsts leaf None ≡ None
-    → meet (get_or extents leaf x) e ≡ true → Marked extents e by firsts (set firsts leaf (Some by))
+    → overlap (get_or extents leaf x) e ≡ true → Marked extents e by firsts (set firsts leaf (Some by))
 marked_leaf extents firsts leaf by e x marks inside none met j d within = elim (cases_eq j leaf) [
   | inl is ↦
-      subst (λ k. MarkedAt (meet (get_or extents k d) e) by (get_or firsts k None)
+      subst (λ k. MarkedAt (overlap (get_or extents k d) e) by (get_or firsts k None)
       (get_or (set firsts leaf (Some by)) k None)) (sym is)
-      (subst (λ o. MarkedAt (meet (get_or extents leaf d) e) by o (get_or (set firsts leaf (Some by)) leaf None))
+      (subst (λ o. MarkedAt (overlap (get_or extents leaf d) e) by o (get_or (set firsts leaf (Some by)) leaf None))
       (sym none)
-      (subst (λ o. MarkedAt (meet (get_or extents leaf d) e) by None o)
+      (subst (λ o. MarkedAt (overlap (get_or extents leaf d) e) by None o)
       (sym (get_or-set_same firsts leaf (Some by) None (omega (arith, marks, inside))))
-      (found (ap (λ q. meet q e) (get_or_default extents leaf d x inside) ∙ met))))
+      (found (ap (λ q. overlap q e) (get_or_default extents leaf d x inside) ∙ met))))
   | inr other ↦
-      subst (λ o. MarkedAt (meet (get_or extents j d) e) by (get_or firsts j None) o)
+      subst (λ o. MarkedAt (overlap (get_or extents j d) e) by (get_or firsts j None) o)
       (sym (get_or-set_other firsts leaf j (Some by) None other)) (same (get_or firsts j None))
 ]
 

@@ -1,15 +1,9 @@
 -- The layout of a script, before its SECTIONS, in it and after it.
-use Rattle.std.proofs.Common.{◌≡◌, ℕ, List, [], ◌∷◌, Result, Ok, Err, refl, ap, ◌∙◌}
-use Rattle.ldscript.specs.statements.declared.statement.Command.{Command}
+use Rattle.place_sections.proofs.Common.{Command, Err, Fault, Item, Layout, List, Ok, Result, Statement, []}
+use Rattle.place_sections.proofs.Common.{after_sections, and_then, ap, before_sections, command_step, if_sections}
+use Rattle.place_sections.proofs.Common.{item_step, items_within, refl, run, statement_step, ℕ, ◌∙◌, ◌∷◌, ◌≡◌}
 use Rattle.ldscript.specs.statements.declared.statement.Command.TheVariants as top
-use Rattle.ldscript.specs.statements.declared.statement.Item.{Item}
-use Rattle.ldscript.specs.statements.declared.statement.Statement.{Statement}
-use Rattle.ldmodel.specs.Chain.{and_then, run}
-use Rattle.ldmodel.specs.Fault.{Fault}
-use Rattle.ldmodel.specs.Layout.{Layout}
-use Rattle.ldmodel.specs.Placement.{command_step, item_step, statement_step}
 use Rattle.ldmodel.specs.Rows.{Piece}
-use Rattle.place_sections.specs.Parts.{after_sections, before_sections, if_sections, items_within}
 
 and_then_on : (r : Result Layout Fault) (f g : Layout → Result Layout Fault) → and_then (and_then r f) g
     ≡ and_then r (λ s. and_then (f s) g)

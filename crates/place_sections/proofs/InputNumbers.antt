@@ -1,40 +1,24 @@
 -- How far the number of the next input statement goes on.
-use Rattle.std.proofs.Common.{◌≡◌, ℕ, ◌+◌, ◌≤◌, List, [], ◌∷◌, ◌++◌, length, Bool, true, false, cond, nat_lt}
-use Rattle.std.proofs.Common.{Option, Some, None, Ok, Err, refl, sym, ap, ◌∙◌, arith}
-use Rattle.std.specs.Prelude.{◌==◌}
+use Rattle.place_sections.proofs.Common.{Add, AreOutside, Body, BodyCommand, BodyStatement, Bool, Command, Directive}
+use Rattle.place_sections.proofs.Common.{DotCommand, Err, Expr, IsOutside, ItemCommand, Layout, List, MovedBack, None}
+use Rattle.place_sections.proofs.Common.{Ok, Option, OutputSection, PlacedPiece, Region, Set, Some, Statement, []}
+use Rattle.place_sections.proofs.Common.{address, advanced, and_then, ap, arith, body_command_step, body_step}
+use Rattle.place_sections.proofs.Common.{byte_count, command_step, cond, directive_step, false, free_dot_step, head_of}
+use Rattle.place_sections.proofs.Common.{inputs_at_most, item_command_step, length, moved_on, nat_lt, next_row, noted}
+use Rattle.place_sections.proofs.Common.{number, opened, piece_placed, piece_start, pieces_placed, plus_modulo, refl}
+use Rattle.place_sections.proofs.Common.{region_step, run, section_end, section_step, set_to, statement_step, sym, true}
+use Rattle.place_sections.proofs.Common.{with_data, with_dot, with_region, ℕ, ◌++◌, ◌+◌, ◌==◌, ◌∙◌, ◌∷◌, ◌≡◌, ◌≤◌}
 use Rattle.byteorder.specs.Endian.{little_bytes}
-use Rattle.ldscript.specs.statements.Widths.{byte_count}
-use Rattle.ldscript.specs.statements.declared.directive.Directive.{Directive}
-use Rattle.ldscript.specs.statements.declared.directive.DotCommand.{DotCommand}
-use Rattle.ldscript.specs.statements.declared.directive.DotCommand.TheVariants.{Set, Add}
-use Rattle.ldscript.specs.statements.declared.section.BodyCommand.{BodyCommand}
 use Rattle.ldscript.specs.statements.declared.section.BodyCommand.TheVariants as body
-use Rattle.ldscript.specs.statements.declared.section.BodyStatement.{BodyStatement}
-use Rattle.ldscript.specs.statements.declared.section.OutputSection.{OutputSection}
-use Rattle.ldscript.specs.statements.declared.statement.Command.{Command}
 use Rattle.ldscript.specs.statements.declared.statement.Command.TheVariants as top
-use Rattle.ldscript.specs.statements.declared.statement.ItemCommand.{ItemCommand}
 use Rattle.ldscript.specs.statements.declared.statement.ItemCommand.TheVariants as item
-use Rattle.ldscript.specs.statements.declared.statement.Region.{Region}
-use Rattle.ldscript.specs.statements.declared.statement.Statement.{Statement}
 use Rattle.ldscript.specs.terms.DotForms.{DotForm, Advance, Align, Offset, dot_form}
 use Rattle.ldscript.specs.terms.Expressions as expression
-use Rattle.ldscript.specs.terms.Expressions.{Expr}
-use Rattle.ldmodel.specs.Arithmetic.{plus_modulo}
-use Rattle.ldmodel.specs.Chain.{and_then, run}
-use Rattle.ldmodel.specs.Fault.{MovedBack}
-use Rattle.ldmodel.specs.Layout.{Layout, PlacedPiece, address, noted, number}
-use Rattle.ldmodel.specs.Placement.{Body, advanced, body_command_step, body_step, command_step, directive_step}
-use Rattle.ldmodel.specs.Placement.{free_dot_step, head_of, item_command_step, moved_on, next_row, opened}
-use Rattle.ldmodel.specs.Placement.{piece_placed, piece_start, pieces_placed, region_step, section_end, section_step}
-use Rattle.ldmodel.specs.Placement.{set_to, statement_step, with_data, with_dot, with_region}
 use Rattle.ldmodel.specs.Rows.{Piece}
 use Rattle.std.proofs.lemmas.List.Elements.{All-head, All-tail}
 use Rattle.place_sections.proofs.Adding.{end_is}
 use Rattle.place_sections.proofs.Ending.{chained}
 use Rattle.place_sections.proofs.Grows.{directive_leaves, given_is}
-use Rattle.place_sections.specs.Inputs.{inputs_at_most}
-use Rattle.place_sections.specs.Parts.{AreOutside, IsOutside}
 
 piece_leaves : (line : ℕ) (b : Body) (p : Piece) (rest : List Piece) (c : Body) → piece_placed line b p rest ≡ Ok c
     → c.layout.inputs ≡ b.layout.inputs

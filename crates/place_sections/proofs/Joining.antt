@@ -1,28 +1,18 @@
 -- The layout of a script from those of its parts, and what a previous layout of the script tells of its SECTIONS.
-use Rattle.std.proofs.Common.{◌≡◌, ℕ, List, length, Result, Ok, Err, ◌⊎◌, inl, inr, refl, sym, ap, subst, ◌∙◌, arith}
-use Rattle.std.proofs.Common.{length-append}
-use Rattle.ldscript.specs.statements.Numbering.{sections_in}
-use Rattle.ldscript.specs.statements.declared.statement.Item.{Item}
-use Rattle.ldscript.specs.statements.declared.statement.Statement.{Statement}
-use Rattle.ldmodel.specs.Chain.{and_then, run}
-use Rattle.ldmodel.specs.Fault.{Fault}
-use Rattle.ldmodel.specs.Layout.{Layout}
-use Rattle.ldmodel.specs.Placement.{item_step, statement_step}
+use Rattle.place_sections.proofs.Common.{AreBoundaries, EarlierScript, Err, Fault, Gives, Input, Item, Layout}
+use Rattle.place_sections.proofs.Common.{LayoutStop, List, Naming, Ok, PreviousPlacement, Result, Statement}
+use Rattle.place_sections.proofs.Common.{after_sections, and_then, ap, arith, before_sections, inl, inr, item_step}
+use Rattle.place_sections.proofs.Common.{items_within, length, length-append, refl, rows_of, run, sections_in}
+use Rattle.place_sections.proofs.Common.{statement_step, subst, sym, ℕ, ◌∙◌, ◌≡◌, ◌⊎◌}
 use Rattle.ldmodel.specs.Rows.{Piece}
-use Rattle.place_terms.specs.Naming.{Naming}
 use Rattle.place_sections.proofs.Ending.{chained}
 use Rattle.place_sections.proofs.Following.{are_first}
 use Rattle.place_sections.proofs.Grows.{given_is}
 use Rattle.place_sections.proofs.InParts.{before_same, in_parts}
 use Rattle.place_sections.proofs.Onward.{leads_before, statements_on}
-use Rattle.place_sections.specs.Boundaries.{AreBoundaries}
-use Rattle.place_sections.specs.PreviousPlacement.{PreviousPlacement, EarlierScript}
-use Rattle.place_sections.specs.Inputs.{rows_of}
-use Rattle.place_sections.specs.Parts.{after_sections, before_sections, items_within}
-use Rattle.place_sections.specs.State.{fault_of, Gives}
-use Rattle.place_sections.specs.declared.script.Input.{Input}
-use Rattle.place_sections.specs.declared.stop.LayoutStop.{LayoutStop}
+use Rattle.place_sections.specs.State.{fault_of}
 use Rattle.place_sections.specs.declared.stop.LayoutStop.TheVariants.{NoMemory}
+use Rattle.growth.specs.Memory.{no_memory}
 
 module _ (rows : List (List Piece)) (provided : List (List ℕ)) (script : List Statement) (s : Layout) where
   -- where the statements before SECTIONS come to
@@ -86,7 +76,8 @@ earlier_items n i script script' s t statements items same_script same_items com
 
 -- where a part stops, or memory runs out, so does the whole
 pub stops_so : {T : Type 0} (wanted whole : Result Layout Fault) (t : Layout) (r : Result T LayoutStop) (f : LayoutStop)
-    → (wanted ≡ Err (fault_of f)) ⊎ (f ≡ NoMemory) → (wanted ≡ Err (fault_of f) → whole ≡ Err (fault_of f)) → r ≡ Err f
+    → (wanted ≡ Err (fault_of f)) ⊎ (f ≡ NoMemory no_memory) → (wanted ≡ Err (fault_of f) → whole ≡ Err (fault_of f))
+    → r ≡ Err f
     → Gives whole t r
 stops_so wanted whole t r f (inl e) so is = subst (Gives whole t) (sym is) (inl (so e))
 stops_so wanted whole t r f (inr m) so is = subst (Gives whole t) (sym is) (inr m)

@@ -1,30 +1,18 @@
 -- What a placement that is kept tells of a layout.
-use Rattle.std.proofs.Common.{◌≡◌, ℕ, ◌<◌, List, length, map, refl, sym, ap, subst, true, arith}
-use Rattle.std.proofs.lemmas.List.{length-map}
-use Rattle.std.proofs.Common.{◌∙◌}
-use Rattle.std.specs.Prelude.{flat_map}
-use Rattle.ldscript.specs.statements.Numbering.{OutputSectionAt, all_directives, output_sections}
-use Rattle.ldscript.specs.statements.declared.statement.Statement.{Statement}
-use Rattle.ldmodel.specs.Chain.{run}
-use Rattle.ldmodel.specs.Layout.{Layout, PlacedOutput, nothing_placed}
-use Rattle.ldmodel.specs.PlacementView.{data_of, placed_of, starts_of, symbol_of}
-use Rattle.ldmodel.specs.Placement.{placement, statement_step}
+use Rattle.place_sections.proofs.Common.{AreBoundariesOf, EarlierScript, Input, Keeps, Layout, Leads, List, Naming}
+use Rattle.place_sections.proofs.Common.{OutputSectionAt, PlacedOutput, Places, Same, ScriptAlongside, Statement, ap}
+use Rattle.place_sections.proofs.Common.{arith, counts_of, data_of, flat_map, length, length-map, map, nothing_placed}
+use Rattle.place_sections.proofs.Common.{output_sections, placed_of, placement, provided_names, refl, rows_of, run}
+use Rattle.place_sections.proofs.Common.{starts_of, statement_step, subst, sym, symbol_of, true, ℕ, ◌<◌, ◌∙◌, ◌≡◌}
+use Rattle.ldscript.specs.statements.Numbering.{all_directives}
 use Rattle.ldmodel.specs.Rows.{Piece}
 use Rattle.ldmodel.specs.declared.script_symbol.DirectiveIndex.{DirectiveIndex}
 use Rattle.ldmodel_laws.specs.Alike.{AreAlike, names_given}
-use Rattle.place_terms.specs.Naming.{Naming}
-use Rattle.place_terms.specs.ProvidedTable.{provided_names}
 use Rattle.place_terms.specs.LayoutSymbols.{AreFound, Rises}
 use Rattle.place_sections.proofs.Beginning.{begins_same}
 use Rattle.place_sections.proofs.Outputs.{outputs_are}
-use Rattle.place_sections.specs.Boundaries.{data_in, AreBoundariesOf}
-use Rattle.place_sections.specs.Alongside.{ScriptAlongside}
-use Rattle.place_sections.specs.PreviousPlacement.{EarlierScript, Same}
-use Rattle.place_sections.specs.Inputs.{rows_of}
+use Rattle.place_sections.specs.Boundaries.{data_in}
 use Rattle.place_sections.specs.Resumable.{IsResumable}
-use Rattle.place_sections.specs.Leads.{Keeps, Leads, counts_of}
-use Rattle.place_sections.specs.Places.{Places}
-use Rattle.place_sections.specs.declared.script.Input.{Input}
 
 whole_run : (rows : List (List Piece)) (provided : List (List ℕ)) (script : List Statement)
     → run (statement_step rows provided) nothing_placed script ≡ placement script rows provided

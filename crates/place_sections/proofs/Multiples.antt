@@ -1,9 +1,8 @@
 -- The next multiple of an alignment, with no division by a power of two.
-use Rattle.std.proofs.Common.{◌≡◌, ◌∙◌, ◌<◌, ◌+◌, ◌-◌, ◌%◌, ◌^◌, ℕ, ap, arith, sym, subst}
+use Rattle.place_sections.proofs.Common.{and_mask, ap, arith, subst, sym, ℕ, ◌%◌, ◌+◌, ◌-◌, ◌<◌, ◌^◌, ◌∙◌, ◌≡◌}
 use Rattle.std.specs.Int.{next_multiple_of}
 use Rattle.std.specs.Int.Bits.{bit_and}
 use Rattle.std.proofs.Math.Nat.{mod-eq_of_lt}
-use Rattle.std.proofs.lemmas.Nat.{and_mask}
 
 -- what lies below a power of two
 pub below_power : (n a k : ℕ) → 2 ^ k ≡ a → bit_and n (a - 1) ≡ n % a

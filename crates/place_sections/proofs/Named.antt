@@ -1,47 +1,36 @@
 -- The faults by numbers are those of the definition by names.
-use Rattle.std.proofs.Common.{◌≡◌, ◌∙◌, sym, refl, ap, subst, ℕ, ◌+◌, List, [], ◌∷◌, ◌++◌, length, map, append_assoc}
-use Rattle.std.proofs.Common.{Bool, Option, Some, None, find, position, slice_get, unwrap_or, suc, zero, cond, nat_lt}
-use Rattle.std.proofs.Common.{get_or, not, inl, inr}
-use Rattle.std.specs.List.{position_or_len}
-use Rattle.std.specs.Option.{option_map, option_map_or}
-use Rattle.std.proofs.lemmas.Bool.{cases_lt, le-ltb, lt-ltb}
-use Rattle.std.proofs.lemmas.List.{length-map, map-append}
+use Rattle.place_sections.proofs.Common.{AreOutputs, AreOverlaps, Bool, Extent, Fault, List, Load, Memory, None, Option}
+use Rattle.place_sections.proofs.Common.{OutputSectionAt, Placed, PlacedOutput, Project, Some, Space, [], ap}
+use Rattle.place_sections.proofs.Common.{append_assoc, cases_lt, cond, extent_in, extents_in, fault_in, fault_with}
+use Rattle.place_sections.proofs.Common.{find, first_overlap, get_or, inl, inr, le-ltb, length, length-map, lt-ltb, map}
+use Rattle.place_sections.proofs.Common.{map-append, nat_lt, not, option_map, option_map_or, output_sections, overlap}
+use Rattle.place_sections.proofs.Common.{overlaps_after, overlaps_before, placed_of, position, position_or_len, refl}
+use Rattle.place_sections.proofs.Common.{slice_get, subst, suc, sym, unwrap_or, zero, ℕ, ◌++◌, ◌+◌, ◌∙◌, ◌∷◌, ◌≡◌}
 use Rattle.std.proofs.lemmas.List.Folds.{find_at}
 use Rattle.std.proofs.lemmas.Simd.{map-map}
 use Rattle.std.proofs.lemmas.Option.{slice_get-get_or, slice_get-map, slice_get_past}
-use Rattle.ldscript.specs.statements.Numbering.{OutputSectionAt, output_sections}
-use Rattle.ldmodel.specs.Fault.{Fault}
 use Rattle.ldmodel.specs.Fault as fault
 use Rattle.ldmodel.specs.FaultCode.{fault_of, name_of_output}
-use Rattle.ldmodel.specs.Layout.{PlacedOutput}
-use Rattle.ldmodel.specs.PlacementView.{placed_of}
-use Rattle.ldmodel.specs.Overlaps.{addresses_meet, load_addresses_meet, meetings, met, overlaps}
-use Rattle.ldmodel.specs.Project.{Project}
+use Rattle.ldmodel.specs.Overlaps.{addresses_overlap, load_addresses_overlap, overlap_faults, overlap_fault, overlaps}
 use Rattle.ldmodel.specs.declared.fault.Fault as code
-use Rattle.ldmodel.specs.declared.placed.Placed.{Placed}
-use Rattle.place_sections.specs.Extents.{meet}
-use Rattle.place_sections.specs.Found.{extent_in, extents_in, fault_in, fault_with, first_met, met_after, met_before}
-use Rattle.place_sections.specs.Meetings.{AreOutputs, AreOverlaps}
-use Rattle.place_sections.specs.declared.extent.Extent.{Extent}
-use Rattle.place_sections.specs.declared.overlaps.Space.{Space}
-use Rattle.place_sections.specs.declared.overlaps.Space.TheVariants.{Memory, Load}
 use Rattle.place_sections.proofs.Taking.{after_first}
 
 abbrev extent_of : Space → PlacedOutput → Extent
 extent_of space q = extent_in space (placed_of q)
 
-abbrev meets_in : Space → PlacedOutput → PlacedOutput → Bool
-meets_in Memory = addresses_meet
-meets_in Load = load_addresses_meet
+abbrev overlaps_in : Space → PlacedOutput → PlacedOutput → Bool
+overlaps_in Memory = addresses_overlap
+overlaps_in Load = load_addresses_overlap
 
 abbrev fault_named : Space → List ℕ → List ℕ → Fault
-fault_named Memory = fault.AddressesMeet
-fault_named Load = fault.LoadAddressesMeet
+fault_named Memory = fault.AddressesOverlap
+fault_named Load = fault.LoadAddressesOverlap
 
 -- the test on ranges is that on sections
-meets_are : (space : Space) (q : PlacedOutput) → (λ x. meet (extent_of space q) (extent_of space x)) ≡ meets_in space q
-meets_are Memory q = refl
-meets_are Load q = refl
+overlaps_are : (space : Space) (q : PlacedOutput) → (λ x. overlap (extent_of space q) (extent_of space x))
+    ≡ overlaps_in space q
+overlaps_are Memory q = refl
+overlaps_are Load q = refl
 
 fault_is : (p : Project) (number : ℕ → ℕ) (space : Space) (k i : ℕ)
     → fault_of p number (fault_in space (record { 0 = k }) (record { 0 = i }))
@@ -85,11 +74,11 @@ get_left (z ∷ zs) ys zero x at = at
 get_left (z ∷ zs) ys (suc i) x at = get_left zs ys i x at
 
 -- the fault of one section
-met_is : (p : Project) (number : ℕ → ℕ) (space : Space) (earlier rest : List PlacedOutput) (q : PlacedOutput)
+overlap_is : (p : Project) (number : ℕ → ℕ) (space : Space) (earlier rest : List PlacedOutput) (q : PlacedOutput)
     → NamesStand p (earlier ++ q ∷ rest)
-    → map (fault_of p number) (fault_with space (length earlier) (position (meets_in space q) earlier))
-    ≡ met (fault_named space) q (find (meets_in space q) earlier)
-met_is p number space earlier rest q names = elim (cases_lt i (length earlier)) [
+    → map (fault_of p number) (fault_with space (length earlier) (position (overlaps_in space q) earlier))
+    ≡ overlap_fault (fault_named space) q (find (overlaps_in space q) earlier)
+overlap_is p number space earlier rest q names = elim (cases_lt i (length earlier)) [
   | inl within ↦
       let x : PlacedOutput = get_or earlier i q in
       let at : slice_get earlier i ≡ Some x = slice_get-get_or earlier i q within in
@@ -98,53 +87,54 @@ met_is p number space earlier rest q names = elim (cases_lt i (length earlier)) 
       ∙ ap (λ f. f ∷ []) (fault_is p number space (length earlier) i)
       ∙ ap (λ n. fault_named space n (name_of_output p i) ∷ []) (names (length earlier) q (after_first earlier q rest))
       ∙ ap (λ n. fault_named space q.name n ∷ []) (names i x (get_left earlier (q ∷ rest) i x at))
-      ∙ ap (met (fault_named space) q) (sym (find_at (meets_in space q) earlier ∙ at))
+      ∙ ap (overlap_fault (fault_named space) q) (sym (find_at (overlaps_in space q) earlier ∙ at))
   | inr past ↦
       ap (λ o. map (fault_of p number) (fault_with space (length earlier) o))
       (ap (λ b. cond b (Some i) None) (le-ltb i (length earlier) past))
-      ∙ ap (met (fault_named space) q) (sym (find_at (meets_in space q) earlier ∙ slice_get_past earlier i past))
+      ∙ ap (overlap_fault (fault_named space) q)
+      (sym (find_at (overlaps_in space q) earlier ∙ slice_get_past earlier i past))
 ] where
   i : ℕ
-  i = position_or_len (meets_in space q) earlier
+  i = position_or_len (overlaps_in space q) earlier
 
-pub all_met : (p : Project) (number : ℕ → ℕ) (space : Space) (earlier rest : List PlacedOutput)
+pub all_overlaps : (p : Project) (number : ℕ → ℕ) (space : Space) (earlier rest : List PlacedOutput)
     → NamesStand p (earlier ++ rest)
-    → map (fault_of p number) (met_after space (map (extent_of space) earlier) (map (extent_of space) rest))
-    ≡ meetings (meets_in space) (fault_named space) earlier rest
-unfolding met_after
-all_met p number space earlier [] names = refl
-all_met p number space earlier (q ∷ qs) names =
+    → map (fault_of p number) (overlaps_after space (map (extent_of space) earlier) (map (extent_of space) rest))
+    ≡ overlap_faults (overlaps_in space) (fault_named space) earlier rest
+unfolding overlaps_after
+all_overlaps p number space earlier [] names = refl
+all_overlaps p number space earlier (q ∷ qs) names =
     let before : List Extent = map (extent_of space) earlier in
-    let later : List code.Fault = met_after space (before ++ extent_of space q ∷ []) (map (extent_of space) qs) in
-    map-append (fault_of p number) (fault_with space (length before) (first_met before (extent_of space q))) later
+    let later : List code.Fault = overlaps_after space (before ++ extent_of space q ∷ []) (map (extent_of space) qs) in
+    map-append (fault_of p number) (fault_with space (length before) (first_overlap before (extent_of space q))) later
     ∙ ap (λ l. l ++ map (fault_of p number) later)
-    (ap (λ n. map (fault_of p number) (fault_with space n (first_met before (extent_of space q))))
+    (ap (λ n. map (fault_of p number) (fault_with space n (first_overlap before (extent_of space q))))
     (length-map earlier (extent_of space))
     ∙ ap (λ o. map (fault_of p number) (fault_with space (length earlier) o))
-    (position_is (extent_of space) (meet (extent_of space q)) earlier
-    ∙ ap (λ t. position t earlier) (meets_are space q))
-    ∙ met_is p number space earlier qs q names)
-    ∙ ap (λ l. met (fault_named space) q (find (meets_in space q) earlier) ++ l)
-    (ap (λ l. map (fault_of p number) (met_after space l (map (extent_of space) qs)))
+    (position_is (extent_of space) (overlap (extent_of space q)) earlier
+    ∙ ap (λ t. position t earlier) (overlaps_are space q))
+    ∙ overlap_is p number space earlier qs q names)
+    ∙ ap (λ l. overlap_fault (fault_named space) q (find (overlaps_in space q) earlier) ++ l)
+    (ap (λ l. map (fault_of p number) (overlaps_after space l (map (extent_of space) qs)))
     (sym (map-append (extent_of space) earlier (q ∷ [])))
-    ∙ all_met p number space (earlier ++ q ∷ []) qs
+    ∙ all_overlaps p number space (earlier ++ q ∷ []) qs
     (subst (NamesStand p) (sym (append_assoc earlier (q ∷ []) qs)) names))
 
 -- what is found in both spaces
-pub both_met : (placed : List Placed) (faults : List code.Fault)
-    → faults ≡ met_before Memory (extents_in Memory placed) ++ met_before Load (extents_in Load placed)
+pub both_overlaps : (placed : List Placed) (faults : List code.Fault)
+    → faults ≡ overlaps_before Memory (extents_in Memory placed) ++ overlaps_before Load (extents_in Load placed)
     → AreOverlaps placed faults
 unfolding overlaps
-both_met placed faults found p number s same outputs =
+both_overlaps placed faults found p number s same outputs =
     let names : NamesStand p s = names_stand p s outputs in
-    let stands : (space : Space) → map (fault_of p number) (met_before space (extents_in space placed))
-    ≡ meetings (meets_in space) (fault_named space) [] s =
+    let stands : (space : Space) → map (fault_of p number) (overlaps_before space (extents_in space placed))
+    ≡ overlap_faults (overlaps_in space) (fault_named space) [] s =
     λ space.
-    ap (λ l. map (fault_of p number) (met_before space l))
+    ap (λ l. map (fault_of p number) (overlaps_before space l))
     (ap (extents_in space) (sym same) ∙ map-map (extent_in space) placed_of s)
-    ∙ all_met p number space [] s names in
+    ∙ all_overlaps p number space [] s names in
     ap (map (fault_of p number)) found
-    ∙ map-append (fault_of p number) (met_before Memory (extents_in Memory placed))
-    (met_before Load (extents_in Load placed))
-    ∙ ap (λ l. l ++ map (fault_of p number) (met_before Load (extents_in Load placed))) (stands Memory)
-    ∙ ap (λ l. meetings addresses_meet fault.AddressesMeet [] s ++ l) (stands Load)
+    ∙ map-append (fault_of p number) (overlaps_before Memory (extents_in Memory placed))
+    (overlaps_before Load (extents_in Load placed))
+    ∙ ap (λ l. l ++ map (fault_of p number) (overlaps_before Load (extents_in Load placed))) (stands Memory)
+    ∙ ap (λ l. overlap_faults addresses_overlap fault.AddressesOverlap [] s ++ l) (stands Load)

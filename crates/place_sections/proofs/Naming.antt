@@ -1,17 +1,10 @@
 -- What expressions may name does not turn on the names of input sections.
-use Rattle.std.proofs.Common.{◌≡◌, ℕ, List, [], ◌∷◌, map, find, Bool, true, false, cond, Option, Some, refl, sym}
-use Rattle.std.proofs.Common.{ap, ◌∙◌}
-use Rattle.std.specs.Prelude.{bytes_eq}
-use Rattle.std.specs.Option.{option_map}
+use Rattle.place_sections.proofs.Common.{Bool, KeyedSection, LayoutCursor, List, Naming, Option, Placed, PlacedOutput}
+use Rattle.place_sections.proofs.Common.{PlacedOutputs, Some, [], ap, bytes_eq, cond, false, find, layout_of, map}
+use Rattle.place_sections.proofs.Common.{option_map, refl, scope_of, section_named, section_of, sym, true, ℕ, ◌∙◌, ◌∷◌}
+use Rattle.place_sections.proofs.Common.{◌≡◌}
 use mathlib.Core.Path.{fun_ext}
-use Rattle.ldmodel.specs.Layout.{PlacedOutput, scope_of, section_named}
 use Rattle.ldmodel.specs.Value.{SectionNumbers}
-use Rattle.ldmodel.specs.declared.placed.Placed.{Placed}
-use Rattle.place_terms.specs.Keyed.{KeyedSection, section_of}
-use Rattle.place_terms.specs.Naming.{Naming}
-use Rattle.place_sections.specs.State.{layout_of}
-use Rattle.place_sections.specs.declared.state.PlacedOutputs.{PlacedOutputs}
-use Rattle.place_sections.specs.declared.state.LayoutCursor.{LayoutCursor}
 
 abbrev pub asked : Placed → SectionNumbers
 asked q = record { start = q.start; load = q.load; size = q.size }

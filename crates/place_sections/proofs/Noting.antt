@@ -1,29 +1,17 @@
 -- Where a layout has come to is noted before each output section.
-use Rattle.std.proofs.Common.{◌≡◌, ℕ, zero, suc, ◌+◌, ◌≤◌, ◌<◌, List, [], ◌∷◌, ◌++◌, length, take, get_or, ◌⊎◌}
-use Rattle.std.proofs.Common.{Result, Ok, Err, Some, inl, inr, refl, sym, ap, subst, ◌∙◌, arith, length-append}
-use Rattle.std.specs.Option.{option_map_or}
-use Rattle.std.specs.Prelude.{slice_get}
-use Rattle.std.proofs.lemmas.List.{length-map, take_all}
-use Rattle.std.proofs.lemmas.Option.{slice_get_read}
-use Rattle.ldscript.specs.statements.Numbering.{item_sections, sections_in}
-use Rattle.ldscript.specs.statements.declared.statement.Item.{Item}
-use Rattle.ldscript.specs.statements.declared.statement.Statement.{Statement}
-use Rattle.ldmodel.specs.Chain.{run}
-use Rattle.ldmodel.specs.Layout.{Layout}
-use Rattle.ldmodel.specs.Placement.{item_step}
+use Rattle.place_sections.proofs.Common.{AreNoted, Boundary, Err, Gives, IsAt, IsBoundary, Item, Layout, LayoutCursor}
+use Rattle.place_sections.proofs.Common.{LayoutStop, List, Naming, Ok, PlacedOutputs, Result, Some, Statement, [], ap}
+use Rattle.place_sections.proofs.Common.{arith, get_or, inl, inr, item_sections, item_step, layout_of, length}
+use Rattle.place_sections.proofs.Common.{length-append, length-map, option_map_or, refl, run, section_of, sections_at}
+use Rattle.place_sections.proofs.Common.{sections_in, slice_get, slice_get_read, subst, suc, sym, take, take_all, zero}
+use Rattle.place_sections.proofs.Common.{ℕ, ◌++◌, ◌+◌, ◌<◌, ◌∙◌, ◌∷◌, ◌≡◌, ◌≤◌, ◌⊎◌}
 use Rattle.ldmodel.specs.Rows.{Piece}
-use Rattle.place_terms.specs.Keyed.{section_of}
-use Rattle.place_terms.specs.Naming.{Naming}
 use Rattle.place_sections.proofs.Following.{grown_by, more_to_come, next_at}
 use Rattle.place_sections.proofs.Runs.{run_more, run_stops}
-use Rattle.place_sections.specs.Boundaries.{AreNoted, IsAt, IsBoundary, sections_at}
 use Rattle.place_sections.specs.Next.{AreFirst, IsNext}
-use Rattle.place_sections.specs.State.{layout_of, fault_of, Gives}
-use Rattle.place_sections.specs.declared.boundary.Boundary.{Boundary}
-use Rattle.place_sections.specs.declared.state.PlacedOutputs.{PlacedOutputs}
-use Rattle.place_sections.specs.declared.state.LayoutCursor.{LayoutCursor}
-use Rattle.place_sections.specs.declared.stop.LayoutStop.{LayoutStop}
+use Rattle.place_sections.specs.State.{fault_of}
 use Rattle.place_sections.specs.declared.stop.LayoutStop.TheVariants as stop
+use Rattle.growth.specs.Memory.{no_memory}
 
 -- an element of a list with one more
 among_more : {X : Type 0} (xs : List X) (x : X) (k : ℕ) (y : X) → slice_get (xs ++ x ∷ []) k ≡ Some y
@@ -45,7 +33,7 @@ module _ (n : Naming) (rows : List (List Piece)) (provided : List (List ℕ)) (s
 
   -- where a statement stops, all do
   pub stops_there : {T : Type 0} (s : Layout) (f : LayoutStop) (r : Result T LayoutStop)
-      → (item_step rows provided (layout_of n h d) x ≡ Err (fault_of f)) ⊎ (f ≡ stop.NoMemory) → r ≡ Err f
+      → (item_step rows provided (layout_of n h d) x ≡ Err (fault_of f)) ⊎ (f ≡ stop.NoMemory no_memory) → r ≡ Err f
       → Gives (run (item_step rows provided) start items) s r
   stops_there s f r (inl e) is =
       subst (Gives (run (item_step rows provided) start items) s) (sym is)

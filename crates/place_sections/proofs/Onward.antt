@@ -1,36 +1,19 @@
 -- A layout goes on: output sections, symbols and values of `.` are added to it.
-use Rattle.std.proofs.Common.{◌≡◌, ℕ, ◌+◌, ◌≤◌, List, [], ◌∷◌, length, map, Result, Ok, refl, sym, ap, ◌∙◌}
-use Rattle.std.proofs.Common.{subst}
-use Rattle.std.specs.List.{enumerate_from}
-use Rattle.std.specs.Prelude.{flat_map}
-use Rattle.std.proofs.lemmas.Grind.{flat_map-append}
-use Rattle.ldscript.specs.statements.declared.directive.Directive.{Directive}
-use Rattle.ldscript.specs.statements.declared.directive.DotCommand.{DotCommand}
-use Rattle.ldscript.specs.statements.declared.directive.DotCommand.TheVariants.{Set, Add}
-use Rattle.ldscript.specs.statements.declared.section.OutputSection.{OutputSection}
-use Rattle.ldscript.specs.statements.declared.statement.Command.{Command}
+use Rattle.place_sections.proofs.Common.{Add, Begins, Command, Directive, DotCommand, Fault, Item, ItemCommand, Layout}
+use Rattle.place_sections.proofs.Common.{Leads, List, Ok, OutputSection, PlacedOutput, Region, Result}
+use Rattle.place_sections.proofs.Common.{ReusablePlacement, Set, Statement, [], ap, command_step, counts_of, data_of}
+use Rattle.place_sections.proofs.Common.{directive_step, enumerate_from, flat_map, flat_map-append, free_dot_step}
+use Rattle.place_sections.proofs.Common.{item_command_step, item_step, length, map, next_row, noted, number, numbered}
+use Rattle.place_sections.proofs.Common.{placed_of, plus_modulo, refl, region_step, run, section_step, starts_of}
+use Rattle.place_sections.proofs.Common.{statement_step, subst, sym, symbol_of, with_region, ℕ, ◌+◌, ◌∙◌, ◌∷◌, ◌≡◌, ◌≤◌}
 use Rattle.ldscript.specs.statements.declared.statement.Command.TheVariants as top
-use Rattle.ldscript.specs.statements.declared.statement.Item.{Item}
-use Rattle.ldscript.specs.statements.declared.statement.ItemCommand.{ItemCommand}
 use Rattle.ldscript.specs.statements.declared.statement.ItemCommand.TheVariants as item
-use Rattle.ldscript.specs.statements.declared.statement.Region.{Region}
-use Rattle.ldscript.specs.statements.declared.statement.Statement.{Statement}
-use Rattle.ldmodel.specs.Arithmetic.{plus_modulo}
-use Rattle.ldmodel.specs.Placement.{directive_step}
-use Rattle.ldmodel.specs.Chain.{run}
-use Rattle.ldmodel.specs.Fault.{Fault}
-use Rattle.ldmodel.specs.Layout.{Layout, PlacedOutput, noted, number}
-use Rattle.ldmodel.specs.PlacementView.{data_of, numbered, placed_of, starts_of, symbol_of}
-use Rattle.ldmodel.specs.Placement.{command_step, free_dot_step, item_command_step, item_step, next_row}
-use Rattle.ldmodel.specs.Placement.{region_step, section_step, statement_step, with_region}
 use Rattle.ldmodel.specs.Rows.{Piece}
 use Rattle.place_sections.proofs.Adding.{enumerate_more, section_grows}
 use Rattle.place_sections.proofs.Beginning.{begins_flat, begins_mapped, begins_on, begins_same, fewer_begin}
 use Rattle.place_sections.proofs.Ending.{chained}
 use Rattle.place_sections.proofs.Grows.{directive_adds, directive_keeps, directive_leaves, given_is}
 use Rattle.place_sections.specs.Boundaries.{data_in}
-use Rattle.place_sections.specs.Leads.{Begins, Leads, counts_of}
-use Rattle.place_sections.specs.declared.reusable_placement.ReusablePlacement.{ReusablePlacement}
 
 -- output sections, symbols and values of `.`, and more of each
 pub record On (s t : Layout) : Type 0 where

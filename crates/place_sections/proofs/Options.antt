@@ -1,5 +1,5 @@
 -- What is known of a value that may be there.
-use Rattle.std.proofs.Common.{Option, Some, None, IfSome, IfNone}
+use Rattle.place_sections.proofs.Common.{IfNone, IfSome, None, Option, Some}
 
 pub by_option : {K : Type 0} (o : Option K) (A B : K → Type 0) (N C : Type 0) → IfSome o A → IfSome o B → IfNone o N
     → ((k : K) → A k → B k → C) → (N → C) → C

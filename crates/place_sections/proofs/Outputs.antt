@@ -1,31 +1,18 @@
 -- The output sections of a whole layout are those of the script, in their order.
-use Rattle.std.proofs.Common.{◌≡◌, ℕ, ◌+◌, List, [], ◌∷◌, ◌++◌, map, Ok, refl, sym, ap, ◌∙◌, append_assoc}
-use Rattle.std.proofs.lemmas.List.{append-nil, map-append}
-use Rattle.ldscript.specs.statements.Numbering.{OutputSectionAt, items, items_of, sections_in, item_sections}
-use Rattle.ldscript.specs.statements.Numbering.{output_sections}
-use Rattle.ldscript.specs.statements.declared.directive.DotCommand.{DotCommand}
-use Rattle.ldscript.specs.statements.declared.directive.DotCommand.TheVariants.{Set, Add}
-use Rattle.ldscript.specs.statements.declared.section.OutputSection.{OutputSection}
-use Rattle.ldscript.specs.statements.declared.statement.Command.{Command}
+use Rattle.place_sections.proofs.Common.{Add, Body, Command, DotCommand, Head, Item, ItemCommand, Layout, List, Ok}
+use Rattle.place_sections.proofs.Common.{OutputSection, OutputSectionAt, PlacedOutput, Region, Set, Statement, []}
+use Rattle.place_sections.proofs.Common.{address, ap, append-nil, append_assoc, body_step, command_step, find_region}
+use Rattle.place_sections.proofs.Common.{free_dot_step, head_of, item_command_step, item_sections, item_step}
+use Rattle.place_sections.proofs.Common.{load_region, map, map-append, next_row, noted, nothing_placed, number, opened}
+use Rattle.place_sections.proofs.Common.{output_sections, placed_section, placement, plus_modulo, refl, region_step}
+use Rattle.place_sections.proofs.Common.{run, section_end, section_step, sections_append, sections_in, statement_step}
+use Rattle.place_sections.proofs.Common.{sym, with_region, with_room, with_section, ℕ, ◌++◌, ◌+◌, ◌∙◌, ◌∷◌, ◌≡◌}
+use Rattle.ldscript.specs.statements.Numbering.{items, items_of}
 use Rattle.ldscript.specs.statements.declared.statement.Command.TheVariants as top
-use Rattle.ldscript.specs.statements.declared.statement.Item.{Item}
-use Rattle.ldscript.specs.statements.declared.statement.ItemCommand.{ItemCommand}
 use Rattle.ldscript.specs.statements.declared.statement.ItemCommand.TheVariants as item
-use Rattle.ldscript.specs.statements.declared.statement.Region.{Region}
-use Rattle.ldscript.specs.statements.declared.statement.Statement.{Statement}
-use Rattle.ldmodel.specs.Arithmetic.{plus_modulo}
-use Rattle.ldmodel.specs.Placement.{Body, body_step}
-use Rattle.ldmodel.specs.Chain.{run}
-use Rattle.ldmodel.specs.Layout.{Layout, PlacedOutput, address, nothing_placed, noted, number}
-use Rattle.ldmodel.specs.Placement.{command_step, free_dot_step, item_command_step, item_step, next_row, opened}
-use Rattle.ldmodel.specs.Placement.{placement, region_step, section_step, statement_step, with_region}
 use Rattle.ldmodel.specs.Rows.{Piece}
-use Rattle.ldmodel.specs.Placement.{find_region, load_region, placed_section, section_end, with_room, with_section}
-use Rattle.ldmodel.specs.Placement.{Head, head_of}
 use Rattle.place_sections.proofs.Ending.{chained}
 use Rattle.place_sections.proofs.Grows.{body_grows, directive_keeps, given_is}
-use Rattle.ldmodel.specs.Placement.{Body}
-use Rattle.ldmodel_laws.proofs.Mentioned.{sections_append}
 
 abbrev names_of : List PlacedOutput → List (List ℕ)
 names_of sections = map (λ (q : PlacedOutput). q.name) sections

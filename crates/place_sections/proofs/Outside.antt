@@ -1,15 +1,10 @@
 -- A script has one SECTIONS.
-use Rattle.std.proofs.Common.{◌≡◌, List, [], ◌∷◌, ◌++◌, refl, sym, ap, subst, arith}
-use Rattle.std.proofs.Common.{append-nil, zero, suc}
-use Rattle.std.specs.List.{Contains}
+use Rattle.place_sections.proofs.Common.{AreOutside, Command, Contains, IsOutside, IsSound, List, NoClash, Statement}
+use Rattle.place_sections.proofs.Common.{[], after_sections, ap, append-nil, arith, before_sections, if_sections}
+use Rattle.place_sections.proofs.Common.{no_clash_in, refl, shift, subst, suc, sym, zero, ◌++◌, ◌∷◌, ◌≡◌}
 use Rattle.std.proofs.lemmas.List.Elements.{All-cons, All-nil, Contains-append_left}
-use Rattle.ldscript.specs.Script.{IsSound}
 use Rattle.ldscript.specs.statements.Mentions.{Mention, SectionsGiven, in_items, in_top_command, mentions}
-use Rattle.ldscript.specs.statements.declared.statement.Command.{Command}
 use Rattle.ldscript.specs.statements.declared.statement.Command.TheVariants as top
-use Rattle.ldscript.specs.statements.declared.statement.Statement.{Statement}
-use Rattle.place_sections.specs.Parts.{AreOutside, IsOutside, after_sections, before_sections, if_sections}
-use Rattle.ldmodel_laws.proofs.Mentioned.{NoClash, shift, no_clash_in}
 
 last_in : (xs ys : List Mention) (x : Mention) → Contains (xs ++ x ∷ ys) x
 last_in [] ys x = (0, omega arith, refl)

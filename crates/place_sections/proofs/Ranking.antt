@@ -1,19 +1,14 @@
--- The first range that each meets, over ranges in some order.
-use Rattle.std.proofs.Common.{◌≡◌, ◌∙◌, sym, ap, subst, ℕ, ◌+◌, ◌≤◌, ◌<◌, List, length, get_or, map, set, take}
-use Rattle.std.proofs.Common.{arith, inl, inr, Option, None, get_or-set_other, get_or-set_same}
+-- The first range that each overlaps, over ranges in some order.
+use Rattle.place_sections.proofs.Common.{Contains, Extent, List, Marked, MarkedAt, Missed, None, Numbered, Option, ap}
+use Rattle.place_sections.proofs.Common.{arith, cases_eq, cases_lt, first_overlap, get_or, get_or-set_other}
+use Rattle.place_sections.proofs.Common.{get_or-set_same, get_or_default, inl, inr, length, length-map, length-take-le}
+use Rattle.place_sections.proofs.Common.{map, overlap, set, subst, sym, take, take_more, ℕ, ◌+◌, ◌<◌, ◌∙◌, ◌≡◌, ◌≤◌}
 use Rattle.std.specs.List.Sorted.{IsPermutation}
-use Rattle.std.specs.List.{Contains}
-use Rattle.std.proofs.lemmas.Bool.{cases_eq, cases_lt}
-use Rattle.std.proofs.lemmas.List.{get_or-map, get_or_default, length-map, length-take-le, take_more}
+use Rattle.std.proofs.lemmas.List.{get_or-map}
 use Rattle.std.proofs.lemmas.List.Elements.{Contains-get_or}
 use Rattle.std.proofs.lemmas.List.Sorted.{Contains-permutation, IsPermutation-sym, length_permutation}
-use Rattle.place_sections.specs.Extents.{meet}
 use Rattle.place_sections.specs.Firsts.{AreFirst, AreNumbered, IsOf, IsRanking, Ranks, extent_of}
-use Rattle.place_sections.specs.Found.{first_met}
-use Rattle.place_sections.specs.Hulls.{Marked, MarkedAt, Missed}
-use Rattle.place_sections.proofs.FirstMet.{position_push, under_first}
-use Rattle.place_sections.specs.declared.extent.Extent.{Extent}
-use Rattle.place_sections.specs.declared.firsts.Numbered.{Numbered}
+use Rattle.place_sections.proofs.FirstPassing.{position_push, under_first}
 
 -- one range more
 pub first_more : (extents in_order : List Extent) (old new : List (Option ℕ)) (k : ℕ) (d : Extent)
@@ -28,16 +23,16 @@ first_more extents in_order old new k d below lengths first marked missed = reco
   e = get_or extents k d
 
   each : (j : ℕ) (x : Extent) → j < length in_order
-      → get_or new j None ≡ first_met (take (k + 1) extents) (get_or in_order j x)
+      → get_or new j None ≡ first_overlap (take (k + 1) extents) (get_or in_order j x)
   each j x within =
       let q : Extent = get_or in_order j x in
       let here : length (take k extents) ≡ k = length-take-le k extents (omega (arith, below)) in
-      position_push (meet q) (take k extents) (get_or extents k d) (get_or old j None) (get_or new j None)
+      position_push (overlap q) (take k extents) (get_or extents k d) (get_or old j None) (get_or new j None)
       (first.each j x within)
-      (subst (λ n. MarkedAt (meet q (get_or extents k d)) n (get_or old j None) (get_or new j None)) (sym here)
+      (subst (λ n. MarkedAt (overlap q (get_or extents k d)) n (get_or old j None) (get_or new j None)) (sym here)
       (marked j x within))
       (missed j x within (under_first (length in_order + j) (omega (arith, within))))
-      ∙ ap (λ l. first_met l q) (sym (take_more extents k d below))
+      ∙ ap (λ l. first_overlap l q) (sym (take_more extents k d below))
 
 nowhere : Numbered
 nowhere = record { extent = record { start = 0; size = 0 }; number = 0 }
@@ -86,10 +81,10 @@ pub each_more : (extents : List Extent) (ranking : List Numbered) (marks firsts 
     → length firsts ≡ length extents → j < length ranking
     → ((i : ℕ) (r : Numbered) (d : Extent) → i < j
     → get_or firsts (get_or ranking i r).number None
-    ≡ first_met extents (get_or extents (get_or ranking i r).number d))
+    ≡ first_overlap extents (get_or extents (get_or ranking i r).number d))
     → (i : ℕ) (r : Numbered) (d : Extent) → i < j + 1
     → get_or (set firsts (get_or ranking j z).number (get_or marks j None)) (get_or ranking i r).number None
-    ≡ first_met extents (get_or extents (get_or ranking i r).number d)
+    ≡ first_overlap extents (get_or extents (get_or ranking i r).number d)
 each_more extents ranking marks firsts j z ranks first count below each i r d so_far =
     let n : ℕ = (get_or ranking j z).number in
     let m : ℕ = (get_or ranking i r).number in
@@ -100,8 +95,8 @@ each_more extents ranking marks firsts j z ranks first count below each i r d so
           ap (λ k. get_or (set firsts n mark) k None) is
           ∙ get_or-set_same firsts n mark None (omega (arith, of.within, count))
           ∙ first.each j d (omega (arith, below, length-map ranking extent_of))
-          ∙ ap (first_met extents) (get_or-map extent_of ranking j z d below ∙ of.extent d)
-          ∙ ap (λ k. first_met extents (get_or extents k d)) (sym is)
+          ∙ ap (first_overlap extents) (get_or-map extent_of ranking j z d below ∙ of.extent d)
+          ∙ ap (λ k. first_overlap extents (get_or extents k d)) (sym is)
       | inr other ↦
           get_or-set_other firsts n m mark None other
           ∙ elim (cases_lt i j) [
@@ -117,12 +112,12 @@ pub each_number : (extents : List Extent) (ranking : List Numbered) (firsts : Li
     → IsRanking extents ranking → length firsts ≡ length extents → length ranking ≤ n
     → ((i : ℕ) (r : Numbered) (d : Extent) → i < n
     → get_or firsts (get_or ranking i r).number None
-    ≡ first_met extents (get_or extents (get_or ranking i r).number d))
+    ≡ first_overlap extents (get_or extents (get_or ranking i r).number d))
     → AreFirst extents extents firsts
 each_number extents ranking firsts n ranks count past each = record {
   count = count;
   each = λ j d within.
       let at : Ranks ranking j = ranks.all j within in
-      subst (λ k. get_or firsts k None ≡ first_met extents (get_or extents k d)) (at.is nowhere)
+      subst (λ k. get_or firsts k None ≡ first_overlap extents (get_or extents k d)) (at.is nowhere)
       (each at.rank nowhere d (omega (arith, at.within, past)));
 }

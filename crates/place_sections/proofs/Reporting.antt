@@ -1,10 +1,7 @@
 -- The faults of the code stand for those of the definition.
-use Rattle.std.proofs.Common.{◌≡◌, ℕ, List, [], Option, Some, refl, ap, ◌∙◌}
-use Rattle.std.specs.Prelude.{slice_get, unwrap_or}
-use Rattle.std.specs.Option.{option_map_or}
-use Rattle.ldscript.specs.statements.Numbering.{OutputSectionAt, output_sections, regions}
-use Rattle.ldscript.specs.statements.declared.statement.Region.{Region}
-use Rattle.ldscript.specs.statements.declared.statement.Statement.{Statement}
+use Rattle.place_sections.proofs.Common.{List, Option, OutputSectionAt, Region, Some, StandsFor, Statement, [], ap}
+use Rattle.place_sections.proofs.Common.{option_map_or, output_sections, refl, slice_get, unwrap_or, ℕ, ◌∙◌, ◌≡◌}
+use Rattle.ldscript.specs.statements.Numbering.{regions}
 use Rattle.ldmodel.specs.Fault as fault
 use Rattle.ldmodel.specs.FaultCode.{fault_of}
 use Rattle.ldmodel.specs.Mentioned.{mentioned_names}
@@ -12,7 +9,6 @@ use Rattle.ldmodel.specs.declared.fault.Fault.TheVariants as variant
 use Rattle.ldmodel.specs.declared.fault.MentionIndex.{MentionIndex}
 use Rattle.ldmodel.specs.declared.placed.OutputIndex.{OutputIndex}
 use Rattle.ldmodel.specs.declared.placed.RegionIndex.{RegionIndex}
-use Rattle.place_sections.specs.Places.{StandsFor}
 
 pub stands_no_value : (script : List Statement) (line : ℕ)
     → StandsFor script (variant.NoValue line) (fault.NoValue line)

@@ -1,30 +1,18 @@
 -- A layout that takes over the first output sections of an earlier one comes to where that one had come to after them.
-use Rattle.std.proofs.Common.{◌≡◌, ℕ, zero, suc, ◌+◌, ◌^◌, ◌≤◌, ◌<◌, List, [], ◌∷◌, ◌++◌, length, map, take, drop}
-use Rattle.std.proofs.Common.{get_or, Option, None, inl, inr}
-use Rattle.std.specs.Option.{option_map_or}
-use Rattle.std.proofs.Common.{Ok, Some, refl, sym, ap, subst, ◌∙◌, arith, length-append}
-use Rattle.std.specs.Prelude.{slice_get}
+use Rattle.place_sections.proofs.Common.{AreNoted, Begins, Boundary, HasSection, Input, IsBoundary, Item, ItemCommand}
+use Rattle.place_sections.proofs.Common.{Layout, LayoutCursor, Leads, List, Naming, None, Ok, Option, OutputSection}
+use Rattle.place_sections.proofs.Common.{Placed, PlacedOutputs, PreviousOutputs, PreviousPlacement, Same, Some}
+use Rattle.place_sections.proofs.Common.{Statement, [], ap, arith, drop, earlier_of, freed_from, get_or, inl, inr}
+use Rattle.place_sections.proofs.Common.{item_command_step, item_sections, item_step, layout_of, length, length-append}
+use Rattle.place_sections.proofs.Common.{length-map, length-take, load_region, map, map-append, next_row, noted}
+use Rattle.place_sections.proofs.Common.{option_map_or, refl, row_named, rows_of, run, section_of, section_step}
+use Rattle.place_sections.proofs.Common.{sections_at, slice_get, slice_get_within, starts_in, subst, suc, sym}
+use Rattle.place_sections.proofs.Common.{symbol_of, take, take-map, take_all, zero, ℕ, ◌++◌, ◌+◌, ◌<◌, ◌^◌, ◌∙◌, ◌∷◌}
+use Rattle.place_sections.proofs.Common.{◌≡◌, ◌≤◌}
 use Rattle.std.proofs.Math.ListN.{get_or-map}
-use Rattle.std.proofs.lemmas.List.{length-map, length-take, map-append, take-map, take_all}
-use Rattle.std.proofs.lemmas.Option.{slice_get_within}
-use Rattle.ldscript.specs.statements.Numbering.{item_sections}
-use Rattle.ldscript.specs.statements.declared.section.OutputSection.{OutputSection}
-use Rattle.ldscript.specs.statements.declared.statement.Item.{Item}
-use Rattle.ldscript.specs.statements.declared.statement.ItemCommand.{ItemCommand}
 use Rattle.ldscript.specs.statements.declared.statement.ItemCommand.TheVariants as item
-use Rattle.ldscript.specs.statements.declared.statement.Statement.{Statement}
-use Rattle.ldmodel.specs.Chain.{run}
-use Rattle.ldmodel.specs.Layout.{Layout, noted}
-use Rattle.ldmodel.specs.PlacementView.{symbol_of}
-use Rattle.ldmodel.specs.Placement.{item_command_step, item_step, next_row, section_step}
 use Rattle.ldmodel.specs.Rows.{Piece}
-use Rattle.ldmodel.specs.Placement.{freed_from, load_region}
-use Rattle.ldmodel.specs.declared.placed.Placed.{Placed}
 use Rattle.ldmodel.specs.declared.rows.Piece as rows
-use Rattle.place_terms.specs.Keyed.{section_of}
-use Rattle.place_terms.specs.Naming.{Naming, row_named}
-use Rattle.place_terms.specs.PreviousLayout.{HasSection, PreviousOutputs, earlier_of}
-use Rattle.place_terms.specs.Wholes.{starts_in}
 use Rattle.place_sections.proofs.Adding.{section_grows}
 use Rattle.place_sections.proofs.Beginning.{first_part}
 use Rattle.place_sections.proofs.Ending.{chained}
@@ -32,19 +20,11 @@ use Rattle.place_sections.proofs.Following.{next_at}
 use Rattle.place_sections.proofs.Grows.{given_is}
 use Rattle.place_sections.proofs.Onward.{fewer, items_on, leads_before}
 use Rattle.place_sections.proofs.Runs.{drop_at, run_first, run_more, run_none, run_rest}
-use Rattle.place_sections.proofs.Still.{still_two}
+use Rattle.place_sections.proofs.NoOutputPlaced.{still_two}
 use Rattle.place_sections.proofs.Taking.{data_begun, data_within, grown, has_section, placed_is, section_taken}
-use Rattle.place_sections.specs.Boundaries.{data_in, sections_at, AreNoted, IsBoundary}
-use Rattle.place_sections.specs.PreviousPlacement.{PreviousPlacement, Same}
-use Rattle.place_sections.specs.Inputs.{rows_of}
-use Rattle.place_sections.specs.Leads.{Begins, Leads}
+use Rattle.place_sections.specs.Boundaries.{data_in}
 use Rattle.place_sections.specs.Next.{AreFirst, IsNextAt}
-use Rattle.place_sections.specs.State.{layout_of}
 use Rattle.place_sections.specs.Taken.{IsSection, MayBeTaken, Takes}
-use Rattle.place_sections.specs.declared.boundary.Boundary.{Boundary}
-use Rattle.place_sections.specs.declared.script.Input.{Input}
-use Rattle.place_sections.specs.declared.state.PlacedOutputs.{PlacedOutputs}
-use Rattle.place_sections.specs.declared.state.LayoutCursor.{LayoutCursor}
 
 -- a step looks at one row at most, that of an output section
 command_same : (provided : List (List ℕ)) (first : ℕ) (earlier rows : List (List Piece)) (line : ℕ) (s : Layout)

@@ -1,11 +1,6 @@
 -- Computations in steps, by their first steps.
-use Rattle.std.proofs.Common.{◌≡◌, ℕ, zero, suc, List, [], ◌∷◌, ◌++◌, take, drop}
-use Rattle.std.proofs.Common.{Result, Ok, Err, Some, refl, sym, ap, ◌∙◌}
-use Rattle.std.specs.Prelude.{slice_get}
-use Rattle.std.proofs.lemmas.List.{take-append-drop}
-use Rattle.ldmodel.specs.Chain.{and_then, run}
-use Rattle.ldmodel.specs.Fault.{Fault}
-use Rattle.ldmodel.specs.Layout.{Layout}
+use Rattle.place_sections.proofs.Common.{Err, Fault, Layout, List, Ok, Result, Some, [], and_then, ap, drop, refl, run}
+use Rattle.place_sections.proofs.Common.{slice_get, suc, sym, take, take-append-drop, zero, ℕ, ◌++◌, ◌∙◌, ◌∷◌, ◌≡◌}
 use Rattle.place_sections.proofs.Ending.{Chained, chained}
 use Rattle.place_terms.proofs.TakenOver.{take_one}
 

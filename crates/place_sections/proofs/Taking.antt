@@ -1,33 +1,22 @@
 -- An output section that is taken over is the one that its statement makes.
-use Rattle.std.proofs.Common.{◌≡◌, ℕ, ◌+◌, ◌^◌, ◌<◌, ◌≤◌, List, [], ◌∷◌, ◌++◌, length, map, take, drop, Some}
-use Rattle.std.proofs.Common.{refl, sym, ap, subst, ◌∙◌, arith, append_assoc, length-append}
-use Rattle.std.specs.List.{enumerate_from}
-use Rattle.std.specs.Prelude.{flat_map, slice_get}
-use Rattle.std.proofs.Math.Seq.{drop-append_seam, take-append_seam}
-use Rattle.std.proofs.lemmas.Grind.{flat_map-append}
-use Rattle.std.proofs.lemmas.List.{append-nil, length-map, map-append}
-use Rattle.std.proofs.lemmas.Option.{get_or_from_slice_get, slice_get_within}
-use Rattle.ldscript.specs.statements.declared.section.OutputSection.{OutputSection}
-use Rattle.ldscript.specs.statements.declared.statement.Statement.{Statement}
-use Rattle.ldmodel.specs.Layout.{Layout, PlacedData, PlacedPiece, PlacedOutput}
-use Rattle.ldmodel.specs.PlacementView.{NumberedData, data_of, numbered, placed_of, starts_of}
-use Rattle.ldmodel.specs.Placement.{section_step}
+use Rattle.place_sections.proofs.Common.{Begins, HasSection, HasStarts, IsTaken, KeyedSection, Layout, Leads, List}
+use Rattle.place_sections.proofs.Common.{Naming, NumberedData, OutputSection, Placed, PlacedData, PlacedOutput}
+use Rattle.place_sections.proofs.Common.{PlacedPiece, ReusablePlacement, Some, Statement, [], all_data_in, ap}
+use Rattle.place_sections.proofs.Common.{append-nil, append_assoc, arith, counts_of, data_at, data_at_of, data_of, drop}
+use Rattle.place_sections.proofs.Common.{drop-append_seam, earlier_of, enumerate_from, flat_map, flat_map-append}
+use Rattle.place_sections.proofs.Common.{length, length-append, length-map, map, map-append, numbered, part_of}
+use Rattle.place_sections.proofs.Common.{piece_at, piece_named, placed_of, refl, row_named, section_of, section_step}
+use Rattle.place_sections.proofs.Common.{slice_get, slice_get_within, starts_in, starts_of, subst, sym, take}
+use Rattle.place_sections.proofs.Common.{take-append_seam, taken_pieces, ℕ, ◌++◌, ◌+◌, ◌<◌, ◌^◌, ◌∙◌, ◌∷◌, ◌≡◌, ◌≤◌}
+use Rattle.std.proofs.lemmas.Option.{get_or_from_slice_get}
 use Rattle.ldmodel.specs.Rows.{Piece}
-use Rattle.ldmodel.specs.declared.placed.Placed.{Placed}
 use Rattle.ldmodel.specs.declared.placed.PlacedData as code_data
 use Rattle.ldmodel.specs.declared.rows.Piece as rows
-use Rattle.place_terms.specs.Keyed.{KeyedSection, data_at, data_at_of, piece_at, section_of}
-use Rattle.place_terms.specs.Naming.{Naming, piece_named, row_named}
-use Rattle.place_terms.specs.SectionTable.{taken_pieces}
-use Rattle.place_terms.specs.Wholes.{all_data_in, starts_in}
 use Rattle.place_sections.proofs.Adding.{SectionGrown, enumerate_more, section_grows}
 use Rattle.place_sections.proofs.Beginning.{fewer_begin, mapped_part}
 use Rattle.place_sections.proofs.Grows.{the_piece}
 use Rattle.place_sections.proofs.Wholes.{data_whole, starts_whole}
 use Rattle.place_sections.specs.Boundaries.{data_in}
-use Rattle.place_sections.specs.Leads.{Begins, Leads, counts_of}
-use Rattle.place_terms.specs.PreviousLayout.{HasSection, HasStarts, IsTaken, earlier_of, part_of}
-use Rattle.place_sections.specs.declared.reusable_placement.ReusablePlacement.{ReusablePlacement}
 
 -- the one after the first ones of a list
 pub after_first : {X : Type 0} (xs : List X) (x : X) (ys : List X) → slice_get (xs ++ x ∷ ys) (length xs) ≡ Some x

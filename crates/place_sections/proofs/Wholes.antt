@@ -1,16 +1,10 @@
 -- The parts of all output sections, by the layout that they stand for.
-use Rattle.std.proofs.Common.{◌≡◌, ℕ, zero, suc, arith, ◌+◌, List, [], ◌∷◌, ◌++◌, map, refl, sym, ap, ◌∙◌, length}
-use Rattle.std.proofs.lemmas.List.{length-map}
-use Rattle.ldmodel.specs.Layout.{PlacedOutput}
-use Rattle.std.specs.Prelude.{flat_map}
-use Rattle.std.specs.List.{enumerate_from}
-use Rattle.ldmodel.specs.Layout.{PlacedPiece}
-use Rattle.ldmodel.specs.PlacementView.{placed_of, starts_of, numbered}
-use Rattle.place_terms.specs.Keyed.{KeyedPiece, KeyedSection, section_of, piece_at}
-use Rattle.place_terms.specs.Naming.{Naming}
+use Rattle.place_sections.proofs.Common.{Ends, KeyedPiece, KeyedSection, List, Naming, PlacedOutput, PlacedPiece, []}
+use Rattle.place_sections.proofs.Common.{all_data_in, ap, arith, counts_in, enumerate_from, flat_map, length}
+use Rattle.place_sections.proofs.Common.{length-map, map, numbered, piece_at, placed_of, refl, section_of, starts_in}
+use Rattle.place_sections.proofs.Common.{starts_of, suc, sym, zero, ℕ, ◌++◌, ◌+◌, ◌∙◌, ◌∷◌, ◌≡◌}
 use Rattle.place_terms.specs.SectionTable.{Ends as KeyedEnds}
-use Rattle.place_terms.specs.Wholes.{counts_in, placed_in, starts_in, data_in, all_data_in}
-use Rattle.place_sections.specs.Places.{Ends}
+use Rattle.place_terms.specs.Wholes.{placed_in, data_in}
 
 pub placed_whole : (n : Naming) (xs : List KeyedSection) → placed_in xs ≡ map placed_of (map (section_of n) xs)
 placed_whole n [] = refl

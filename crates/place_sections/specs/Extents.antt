@@ -1,10 +1,10 @@
 -- Ranges of addresses.
 use Rattle.std.specs.Prelude.{ℕ, ◌+◌, List, sum_by, Bool, ◌&&◌, nat_lt, nat_le, if◌then◌else◌}
-use Rattle.ldmodel.specs.Overlaps.{ranges_meet}
+use Rattle.ldmodel.specs.Overlaps.{ranges_overlap}
 use Rattle.place_sections.specs.declared.extent.Extent.{Extent}
 
-abbrev pub meet : Extent → Extent → Bool
-meet a b = ranges_meet a.start a.size b.start b.size
+abbrev pub overlap : Extent → Extent → Bool
+overlap a b = ranges_overlap a.start a.size b.start b.size
 
 -- 1 where an address is in the range, else 0
 abbrev pub covers : ℕ → Extent → ℕ

@@ -1,6 +1,6 @@
--- The first range that each range meets.
+-- The first range that each range overlaps.
 use Rattle.std.specs.Prelude.{◌≡◌, ℕ, ◌<◌, List, length, get_or, Option, Some, None, cond, nat_lt}
-use Rattle.place_sections.specs.Found.{first_met}
+use Rattle.place_sections.specs.Found.{first_overlap}
 use Rattle.place_sections.specs.declared.extent.Extent.{Extent}
 use Rattle.place_sections.specs.declared.firsts.Numbered.{Numbered}
 
@@ -12,10 +12,10 @@ abbrev pub before : ℕ → Option ℕ → Option ℕ
 before k None = None
 before k (Some i) = cond (nat_lt i k) (Some i) None
 
--- for each that is asked for, the number of the first of all that it meets
+-- for each that is asked for, the number of the first of all that it overlaps
 pub record AreFirst (extents asked : List Extent) (firsts : List (Option ℕ)) : Type 0 where
   pub count : length firsts ≡ length asked
-  pub each : (j : ℕ) (d : Extent) → j < length asked → get_or firsts j None ≡ first_met extents (get_or asked j d)
+  pub each : (j : ℕ) (d : Extent) → j < length asked → get_or firsts j None ≡ first_overlap extents (get_or asked j d)
 
 -- each range has its own number
 pub record AreNumbered (extents : List Extent) (numbered : List Numbered) : Type 0 where

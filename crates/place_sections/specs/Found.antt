@@ -1,10 +1,10 @@
 -- What the code finds, over the numbers of output sections.
 use Rattle.std.specs.Prelude.{ℕ, List, [], ◌∷◌, ◌++◌, length, map, position, Option, Some, None}
 use Rattle.ldmodel.specs.declared.fault.Fault as code
-use Rattle.ldmodel.specs.declared.fault.Fault.TheVariants.{AddressesMeet, LoadAddressesMeet}
+use Rattle.ldmodel.specs.declared.fault.Fault.TheVariants.{AddressesOverlap, LoadAddressesOverlap}
 use Rattle.ldmodel.specs.declared.placed.OutputIndex.{OutputIndex}
 use Rattle.ldmodel.specs.declared.placed.Placed.{Placed}
-use Rattle.place_sections.specs.Extents.{meet}
+use Rattle.place_sections.specs.Extents.{overlap}
 use Rattle.place_sections.specs.declared.extent.Extent.{Extent}
 use Rattle.place_sections.specs.declared.overlaps.Space.{Space}
 use Rattle.place_sections.specs.declared.overlaps.Space.TheVariants.{Memory, Load}
@@ -17,22 +17,22 @@ abbrev pub extents_in : Space → List Placed → List Extent
 extents_in space sections = map (extent_in space) sections
 
 abbrev pub fault_in : Space → OutputIndex → OutputIndex → code.Fault
-fault_in Memory section earlier = AddressesMeet section earlier
-fault_in Load section earlier = LoadAddressesMeet section earlier
+fault_in Memory section earlier = AddressesOverlap section earlier
+fault_in Load section earlier = LoadAddressesOverlap section earlier
 
--- the number of the first that an extent meets
-abbrev pub first_met : List Extent → Extent → Option ℕ
-first_met earlier e = position (meet e) earlier
+-- the number of the first that an extent overlaps
+abbrev pub first_overlap : List Extent → Extent → Option ℕ
+first_overlap earlier e = position (overlap e) earlier
 
 abbrev pub fault_with : Space → ℕ → Option ℕ → List code.Fault
 fault_with space k None = []
 fault_with space k (Some i) = fault_in space (record { 0 = k }) (record { 0 = i }) ∷ []
 
 -- the faults of those past the first ones
-unfoldable pub met_after : Space → List Extent → List Extent → List code.Fault
-met_after space earlier [] = []
-met_after space earlier (e ∷ es) =
-    fault_with space (length earlier) (first_met earlier e) ++ met_after space (earlier ++ e ∷ []) es
+unfoldable pub overlaps_after : Space → List Extent → List Extent → List code.Fault
+overlaps_after space earlier [] = []
+overlaps_after space earlier (e ∷ es) =
+    fault_with space (length earlier) (first_overlap earlier e) ++ overlaps_after space (earlier ++ e ∷ []) es
 
-abbrev pub met_before : Space → List Extent → List code.Fault
-met_before space extents = met_after space [] extents
+abbrev pub overlaps_before : Space → List Extent → List code.Fault
+overlaps_before space extents = overlaps_after space [] extents

@@ -2,16 +2,16 @@
 -- one for each range.
 use Rattle.std.specs.Prelude.{◌≡◌, ℕ, ◌+◌, ◌*◌, ◌≤◌, ◌<◌, List, length, Option, Some, None, Bool, true, false, min, max}
 use Rattle.std.specs.Prelude.{get_or, nat_lt, ◌&&◌}
-use Rattle.place_sections.specs.Extents.{meet}
+use Rattle.place_sections.specs.Extents.{overlap}
 use Rattle.place_sections.specs.declared.extent.Extent.{Extent}
 use Rattle.place_sections.specs.declared.hull.Hull.{Hull}
 
 abbrev pub around : Hull → Hull → Hull
 around a b = record { low = min a.low b.low; end = max a.end b.end }
 
--- whether a range in a hull can meet another
-abbrev pub may_meet : Hull → Extent → Bool
-may_meet h e = nat_lt h.low (e.start + e.size) && nat_lt e.start h.end
+-- whether a range in a hull can overlap another
+abbrev pub may_overlap : Hull → Extent → Bool
+may_overlap h e = nat_lt h.low (e.start + e.size) && nat_lt e.start h.end
 
 pub record Within (inner outer : Hull) : Type 0 where
   pub low : outer.low ≤ inner.low
@@ -33,16 +33,16 @@ pub record Kept (extents : List Extent) (nodes : List Hull) (firsts : List (Opti
   pub leaves : (j : ℕ) (d : Hull) (x : Extent) → j < length extents → get_or firsts j None ≡ None
       → 0 < (get_or extents j x).size → Around (get_or nodes (length extents + j) d) (get_or extents j x)
 
--- a mark stays, and one that is new is the given number, at a range that meets
+-- a mark stays, and one that is new is the given number, at a range that overlaps
 pub data MarkedAt (met : Bool) (by : ℕ) : Option ℕ → Option ℕ → Type 0 where
   same : (o : Option ℕ) → MarkedAt met by o o
   found : met ≡ true → MarkedAt met by None (Some by)
 
 abbrev pub Marked : List Extent → Extent → ℕ → List (Option ℕ) → List (Option ℕ) → Type 0
 Marked extents e by old new = (j : ℕ) (d : Extent) → j < length extents
-    → MarkedAt (meet (get_or extents j d) e) by (get_or old j None) (get_or new j None)
+    → MarkedAt (overlap (get_or extents j d) e) by (get_or old j None) (get_or new j None)
 
--- those below a node that have no mark do not meet the range
+-- those below a node that have no mark do not overlap the range
 abbrev pub Missed : List Extent → Extent → ℕ → List (Option ℕ) → Type 0
 Missed extents e node firsts = (j : ℕ) (d : Extent) → j < length extents → Under node (length extents + j)
-    → get_or firsts j None ≡ None → meet (get_or extents j d) e ≡ false
+    → get_or firsts j None ≡ None → overlap (get_or extents j d) e ≡ false

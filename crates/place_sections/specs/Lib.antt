@@ -2,7 +2,7 @@ pub mod Firsts
 pub mod Hulls
 pub mod Extents
 pub mod Found
-pub mod Meetings
+pub mod OverlapFaults
 -- What the layout of a script is, as the code holds it.
 pub mod State
 pub mod Inputs

@@ -19,15 +19,15 @@ use Rattle.place_sections.specs.declared.fault.PlaceFault.TheVariants.{First, Ov
 abbrev pub Reports : List Statement → Fault → PlaceFault → Type 0
 Reports script fault (First f) = StandsFor script f fault
 Reports script fault (Overlapping fs) = ⊥
-Reports script fault NoMemory = ⊤
+Reports script fault (NoMemory _) = ⊤
 
 -- the placement stops at its first fault, or memory ran out
 abbrev pub Stops : List Statement → List (List Piece) → List (List ℕ) → PlaceFault → Type 0
 Stops script rows provided (First f) = IsFirstFault script rows provided f
 Stops script rows provided (Overlapping fs) = ⊥
-Stops script rows provided NoMemory = ⊤
+Stops script rows provided (NoMemory _) = ⊤
 
--- places of a layout in which no output sections meet
+-- places of a layout in which no output sections overlap
 pub record IsGood (script : List Statement) (rows : List (List Piece)) (provided : List (List ℕ)) (p : Places)
     : Type 0 where
   pub layout : Layout
@@ -38,8 +38,8 @@ pub record IsGood (script : List Statement) (rows : List (List Piece)) (provided
   pub in_force : provided_names script p.provided ≡ provided
   pub apart : overlaps layout.sections ≡ []
 
--- there is a layout, but output sections meet, and these are all the faults of it
-pub record AreMeetings (script : List Statement) (rows : List (List Piece)) (provided : List (List ℕ))
+-- there is a layout, but output sections overlap, and these are all the faults of it
+pub record AreOverlapFaults (script : List Statement) (rows : List (List Piece)) (provided : List (List ℕ))
     (fs : List code_fault.Fault) : Type 0 where
   pub layout : Layout
   pub placed : placement script rows provided ≡ Ok layout
@@ -50,5 +50,5 @@ pub record AreMeetings (script : List Statement) (rows : List (List Piece)) (pro
 -- why there are no such places
 abbrev pub IsWhy : List Statement → List (List Piece) → List (List ℕ) → PlaceFault → Type 0
 IsWhy script rows provided (First f) = IsFirstFault script rows provided f
-IsWhy script rows provided (Overlapping fs) = AreMeetings script rows provided fs.items
-IsWhy script rows provided NoMemory = ⊤
+IsWhy script rows provided (Overlapping fs) = AreOverlapFaults script rows provided fs.items
+IsWhy script rows provided (NoMemory _) = ⊤

@@ -14,6 +14,7 @@ use Rattle.place_sections.specs.declared.state.PlacedOutputs.{PlacedOutputs}
 use Rattle.place_sections.specs.declared.state.CurrentOutput.{CurrentOutput}
 use Rattle.place_sections.specs.declared.stop.LayoutStop.{LayoutStop}
 use Rattle.place_sections.specs.declared.stop.LayoutStop.TheVariants as stop
+use Rattle.growth.specs.Memory.{no_memory}
 
 abbrev pub layout_of : Naming → LayoutCursor → PlacedOutputs → Layout
 layout_of n h d = record {
@@ -45,7 +46,7 @@ fault_of (stop.NoValue line) = fault.NoValue line
 fault_of (stop.MovedBack line) = fault.MovedBack line
 fault_of (stop.RegionFull section region) = fault.RegionFull section.now region.now
 fault_of (stop.PastAddressSpace line) = fault.PastAddressSpace line
-fault_of stop.NoMemory = fault.NoValue 0
+fault_of (stop.NoMemory _) = fault.NoValue 0
 
 -- what the code gives, with the definition's faults
 abbrev pub outcome : {X : Type 0} → Result X LayoutStop → Result X Fault
@@ -55,4 +56,4 @@ outcome (Err f) = Err (fault_of f)
 -- a step is to give this state, or a fault; or else memory ran out
 abbrev pub Gives : {S T : Type 0} → Result S Fault → S → Result T LayoutStop → Type 0
 Gives wanted new (Ok _) = wanted ≡ Ok new
-Gives wanted new (Err f) = (wanted ≡ Err (fault_of f)) ⊎ (f ≡ stop.NoMemory)
+Gives wanted new (Err f) = (wanted ≡ Err (fault_of f)) ⊎ (f ≡ stop.NoMemory no_memory)

@@ -14,6 +14,7 @@ ghost use Rattle.place_sections.specs.State.{body_of, Gives};
 
 use crate::state::{CurrentOutput, LayoutCursor};
 use crate::stop::LayoutStop;
+use growth::vec;
 use ldmodel::rows::Piece;
 use ldmodel_laws::layout::steps_stay_alike;
 use ldscript::tree::{BodyCommand, BodyStatement, DotCommand, DotForm, Expr, Formula, Width};
@@ -75,7 +76,7 @@ impl<'d, 'a> CurrentOutput<'d, 'a> {
         let Some(end) = start.checked_add(piece.size) else {
             return Err(LayoutStop::PastAddressSpace { line });
         };
-        here.pieces.push(PieceAt { start, piece })?;
+        vec::push(&mut here.pieces, PieceAt { start, piece })?;
         here.dot = end;
         Ok(())
     }
@@ -200,11 +201,14 @@ impl<'d, 'a> CurrentOutput<'d, 'a> {
             return Err(LayoutStop::PastAddressSpace { line });
         };
         let start = here.dot;
-        here.data_commands.push(DataAt {
-            start,
-            width,
-            value,
-        })?;
+        vec::push(
+            &mut here.data_commands,
+            DataAt {
+                start,
+                width,
+                value,
+            },
+        )?;
         here.dot = end;
         Ok(())
     }
@@ -318,7 +322,7 @@ impl<'d, 'a> CurrentOutput<'d, 'a> {
             (body_of naming here.new self.now) result }
         ensures counted { Counted here.old here.new self.now }
     {
-        here.dots.push(here.dot)?;
+        vec::push(&mut here.dots, here.dot)?;
         self.place_command(here, statement.line, &statement.command)
     }
 

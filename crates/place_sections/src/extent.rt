@@ -1,7 +1,7 @@
 //! Ranges of addresses, and whether any two of them share one.
 
 ghost use Rattle.std.specs.Prelude.{◌≡◌, ℕ, ◌+◌, ◌≤◌, List, IsTrue};
-ghost use Rattle.place_sections.specs.Extents.{meet, cover};
+ghost use Rattle.place_sections.specs.Extents.{overlap, cover};
 
 /// A range of addresses. Its end may be past the last address.
 #[derive(Clone, Copy, Debug)]
@@ -18,8 +18,8 @@ impl Extent {
     }
 
     /// Whether the two share an address.
-    pub(crate) fn meets(&self, other: &Extent) -> bool
-        ensures { result ≡ meet self.now other.now }
+    pub(crate) fn overlaps(&self, other: &Extent) -> bool
+        ensures { result ≡ overlap self.now other.now }
     {
         self.size != 0
             && other.size != 0

@@ -6,15 +6,16 @@ ghost use Rattle.ldmodel.specs.Mentioned.{mentioned_names};
 ghost use Rattle.place_sections.specs.Outcomes.{Reports};
 ghost use Rattle.place_sections.specs.State.{fault_of};
 ghost use Rattle.place_sections.specs.declared.stop.LayoutStop.TheVariants.{NoMemory as OutOfMemory};
-ghost use Rattle.place_sections.specs.declared.fault.PlaceFault.TheVariants.{NoMemory};
+ghost use Rattle.place_sections.specs.declared.fault.PlaceFault.TheVariants.{NoMemory as MemoryRefused};
+ghost use Rattle.growth.specs.Memory.{no_memory};
 
 use crate::stop::LayoutStop;
+use growth::{NoMemory, impossible};
 use ldmodel::fault::{Fault, MentionIndex};
-use ldmodel::impossible::impossible;
 use ldscript::Script;
 use place_terms::mentioned::{mention_of, mentioned_names};
 use place_terms::named::{output_named, region_named};
-use std::alloc::{AllocError, Global};
+use std::alloc::Global;
 
 /// Why a script has no layout.
 #[derive(Debug, Drop)]
@@ -24,17 +25,17 @@ pub enum PlaceFault {
     /// The layout has no such fault, but output sections share addresses: all `F9`, then all `F10`.
     Overlapping(Vec<Fault>),
     /// Out of memory.
-    NoMemory,
+    NoMemory(NoMemory),
 }
 
-impl From<AllocError> for PlaceFault {
+impl From<NoMemory> for PlaceFault {
     ghost use Rattle.std.specs.Prelude.{◌≡◌};
     ghost use Rattle.place_sections.specs.declared.fault.PlaceFault.TheVariants.{NoMemory};
 
-    ghost from_gives = { λ _ e. e ≡ NoMemory };
+    ghost from_gives = { λ no_memory e. e ≡ NoMemory no_memory };
 
-    fn from(_failed: AllocError) -> PlaceFault {
-        PlaceFault::NoMemory
+    fn from(no_memory: NoMemory) -> PlaceFault {
+        PlaceFault::NoMemory(no_memory)
     }
 }
 
@@ -43,7 +44,7 @@ impl From<AllocError> for PlaceFault {
 /// # Errors
 ///
 /// If memory runs out.
-fn mention(alloc: Global, script: &Script, name: &[u8]) -> Result<MentionIndex, AllocError>
+fn mention(alloc: Global, script: &Script, name: &[u8]) -> Result<MentionIndex, NoMemory>
     ensures { IfOk result (λ m. slice_get (mentioned_names script.now) m.0 ≡ Some name.now) }
 {
     let names = mentioned_names(alloc, script.statements())?;
@@ -60,7 +61,7 @@ fn not_ready(alloc: Global, script: &Script, line: u32, name: &[u8]) -> PlaceFau
 {
     match mention(alloc, script, name) {
         Ok(name) => PlaceFault::First(Fault::NotReady { line, name }),
-        Err(refused) => PlaceFault::from(refused),
+        Err(no_memory) => PlaceFault::from(no_memory),
     }
 }
 
@@ -74,11 +75,11 @@ fn region_full(script: &Script, section: &[u8], name: &[u8]) -> PlaceFault
     ensures { Reports script.now (RegionFull section.now name.now) result }
 {
     let Some(section) = output_named(script, section) else {
-        return PlaceFault::NoMemory;
+        return PlaceFault::NoMemory(impossible());
     };
     match region_named(script, name) {
         Some(region) => PlaceFault::First(Fault::RegionFull { section, region }),
-        None => PlaceFault::NoMemory,
+        None => PlaceFault::NoMemory(impossible()),
     }
 }
 
@@ -86,7 +87,7 @@ fn region_full(script: &Script, section: &[u8], name: &[u8]) -> PlaceFault
 #[tactic(auto, using(crate::proofs::Reporting::stands_no_value, crate::proofs::Reporting::stands_moved_back, crate::proofs::Reporting::stands_past))]
 pub(crate) fn reported(alloc: Global, script: &Script, stop: LayoutStop<'_>) -> PlaceFault
     ensures fault { Reports script.now (fault_of stop.entry) result }
-    ensures memory { stop.entry ≡ OutOfMemory → result ≡ NoMemory }
+    ensures memory { stop.entry ≡ OutOfMemory no_memory → result ≡ MemoryRefused no_memory }
 {
     match stop {
         LayoutStop::NotReady { line, name } => not_ready(alloc, script, line, name),
@@ -96,6 +97,6 @@ pub(crate) fn reported(alloc: Global, script: &Script, stop: LayoutStop<'_>) -> 
         LayoutStop::PastAddressSpace { line } => PlaceFault::First(Fault::PastAddressSpace {
             line,
         }),
-        LayoutStop::NoMemory => PlaceFault::NoMemory,
+        LayoutStop::NoMemory(no_memory) => PlaceFault::NoMemory(no_memory),
     }
 }

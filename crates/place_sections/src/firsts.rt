@@ -7,7 +7,7 @@ ghost use Rattle.place_sections.specs.Hulls.{Around, Kept};
 
 use crate::extent::Extent;
 use crate::hull::{Hull, mark_overlapping};
-use ldmodel::memory::NoMemory;
+use growth::{NoMemory, iterator, vec};
 use std::alloc::Global;
 
 /// A range and its number in the order of the script.
@@ -20,12 +20,15 @@ pub(crate) struct Numbered {
 fn with_numbers(alloc: Global, extents: &[Extent]) -> Result<Vec<Numbered>, NoMemory>
     ensures { IfOk result (λ v. AreNumbered extents.now v.items) }
 {
-    let mut numbered = Vec::with_capacity(alloc, extents.len())?;
+    let mut numbered = vec::with_capacity(alloc, extents.len())?;
     for number in 0..extents.len() {
-        numbered.push(Numbered {
-            extent: extents[number],
-            number,
-        })?;
+        vec::push(
+            &mut numbered,
+            Numbered {
+                extent: extents[number],
+                number,
+            },
+        )?;
     }
     Ok(numbered)
 }
@@ -42,7 +45,7 @@ fn ranking(alloc: Global, extents: &[Extent]) -> Result<Vec<Numbered>, NoMemory>
 fn extents_of(alloc: Global, ranking: &[Numbered]) -> Result<Vec<Extent>, NoMemory>
     ensures { IfOk result (λ v. v.items ≡ map extent_of ranking.now) }
 {
-    ranking.iter().map(|r| r.extent).collect(alloc)
+    iterator::collect(ranking.iter().map(|r| r.extent), alloc)
 }
 
 /// The range around all.
@@ -56,7 +59,7 @@ fn around_all(extents: &[Extent]) -> Hull
     all
 }
 
-/// Marks each of the ranges in order by the first that it meets.
+/// Marks each of the ranges in order by the first that it overlaps.
 fn mark_all(
     extents: &[Extent],
     in_order: &[Extent],
@@ -74,7 +77,7 @@ fn mark_all(
     }
 }
 
-/// For each of the ranges in order the number of the first that it meets.
+/// For each of the ranges in order the number of the first that it overlaps.
 fn marks(
     alloc: Global,
     extents: &[Extent],
@@ -83,8 +86,8 @@ fn marks(
     requires { length in_order.now ≡ length extents.now }
     ensures { IfOk result (λ v. AreFirst extents.now in_order.now v.items) }
 {
-    let mut nodes = vec![in alloc; around_all(in_order); 2 * in_order.len()]?;
-    let mut firsts = vec![in alloc; None; in_order.len()]?;
+    let mut nodes = vec::from_elem(alloc, around_all(in_order), 2 * in_order.len())?;
+    let mut firsts = vec::from_elem(alloc, None, in_order.len())?;
     mark_all(extents, in_order, &mut nodes, &mut firsts);
     Ok(firsts)
 }
@@ -100,14 +103,14 @@ fn by_number(
     requires marks { AreFirst extents.now (map extent_of ranking.now) marks.now }
     ensures { IfOk result (λ v. AreFirst extents.now extents.now v.items) }
 {
-    let mut firsts = vec![in alloc; None; extents.len()]?;
+    let mut firsts = vec::from_elem(alloc, None, extents.len())?;
     for j in 0..ranking.len() {
         firsts[ranking[j].number] = marks[j];
     }
     Ok(firsts)
 }
 
-/// For each range the number of the first that it meets. The time is that of a sort.
+/// For each range the number of the first that it overlaps. The time is that of a sort.
 pub(crate) fn firsts(alloc: Global, extents: &[Extent]) -> Result<Vec<Option<usize>>, NoMemory>
     ensures { IfOk result (λ v. AreFirst extents.now extents.now v.items) }
 {

@@ -1,8 +1,8 @@
-//! A tree of ranges of addresses, each around those below it, to find all ranges that meet a given one.
+//! A tree of ranges of addresses, each around those below it, to find all ranges that overlap a given one.
 
 ghost use Rattle.std.specs.Prelude.{◌≡◌, ℕ, ◌+◌, ◌*◌, ◌≤◌, ◌<◌, List, length, get_or, None, false};
-ghost use Rattle.place_sections.specs.Extents.{meet};
-ghost use Rattle.place_sections.specs.Hulls.{around, may_meet, Kept, Marked, Missed};
+ghost use Rattle.place_sections.specs.Extents.{overlap};
+ghost use Rattle.place_sections.specs.Hulls.{around, may_overlap, Kept, Marked, Missed};
 
 use crate::extent::Extent;
 
@@ -43,15 +43,15 @@ impl Hull {
         }
     }
 
-    /// Whether a range within this one can meet the other.
-    fn may_meet(self, extent: &Extent) -> bool
-        ensures { result ≡ may_meet self extent.now }
+    /// Whether a range within this one can overlap the other.
+    fn may_overlap(self, extent: &Extent) -> bool
+        ensures { result ≡ may_overlap self extent.now }
     {
         u128::from(self.low) < extent.end() && u128::from(extent.start) < self.end
     }
 }
 
-/// Marks a range of a leaf, if it meets the given one and has no mark.
+/// Marks a range of a leaf, if it overlaps the given one and has no mark.
 fn mark_leaf(
     extents: &[Extent],
     nodes: &mut [Hull],
@@ -67,14 +67,14 @@ fn mark_leaf(
     ensures kept { Kept extents.now nodes.new firsts.new }
     ensures marked { Marked extents.now extent.now by firsts.old firsts.new }
     ensures missed { (d : Extent) → get_or firsts.new leaf None ≡ None
-        → meet (get_or extents.now leaf d) extent.now ≡ false }
+        → overlap (get_or extents.now leaf d) extent.now ≡ false }
 {
     let node = extents.len() + leaf;
     if firsts[leaf].is_some() || extents[leaf].size == 0 {
         nodes[node] = nodes[node].emptied();
         return;
     }
-    if extents[leaf].meets(extent) {
+    if extents[leaf].overlaps(extent) {
         firsts[leaf] = Some(by);
         nodes[node] = nodes[node].emptied();
         return;
@@ -82,8 +82,8 @@ fn mark_leaf(
     nodes[node] = Hull::of(&extents[leaf]);
 }
 
-/// Marks all ranges below a node that meet the given one and have no mark. Where the range around them does not meet
-/// it, none of them does.
+/// Marks all ranges below a node that overlap the given one and have no mark. Where the range around them does not
+/// overlap it, none of them does.
 pub(crate) fn mark_overlapping(
     extents: &[Extent],
     nodes: &mut [Hull],
@@ -101,7 +101,7 @@ pub(crate) fn mark_overlapping(
     ensures marked { Marked extents.now extent.now by firsts.old firsts.new }
     ensures missed { Missed extents.now extent.now node firsts.new }
 {
-    if !nodes[node].may_meet(extent) {
+    if !nodes[node].may_overlap(extent) {
         return;
     }
     if node >= extents.len() {

@@ -23,6 +23,7 @@ use crate::boundary::Boundary;
 use crate::script::Input;
 use crate::state::{LayoutCursor, PlacedOutputs};
 use crate::stop::LayoutStop;
+use growth::vec;
 use ldmodel::rows::Piece;
 use ldmodel_laws::layout::steps_stay_alike;
 use ldscript::tree::{DotCommand, Item, ItemCommand};
@@ -183,7 +184,7 @@ impl<'i, 'a> Input<'i, 'a> {
             (item_step (rows_of naming self.now) self.now.provided.now (layout_of naming here.old done.old) item.now)
             (layout_of naming here.new done.new) result }
     {
-        here.dots.push(here.dot)?;
+        vec::push(&mut here.dots, here.dot)?;
         self.place_command(here, done, item.line, &item.command)
     }
 
@@ -226,11 +227,11 @@ impl<'i, 'a> Input<'i, 'a> {
         for number in resumed.passed..items.len() {
             let item = &items[number];
             if is_output(item) {
-                boundaries.push(here.boundary(done, number))?;
+                vec::push(&mut boundaries, here.boundary(done, number))?;
             }
             self.place_item(here, done, item)?;
         }
-        boundaries.push(here.boundary(done, items.len()))?;
+        vec::push(&mut boundaries, here.boundary(done, items.len()))?;
         Ok(boundaries)
     }
 }

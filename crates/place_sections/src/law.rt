@@ -5,7 +5,7 @@ ghost use Rattle.ldmodel.specs.Layout.{Layout};
 ghost use Rattle.ldmodel.specs.Placement.{placement};
 ghost use Rattle.ldmodel.specs.Project.{Project};
 ghost use Rattle.ldmodel.specs.Rows.{Piece};
-ghost use Rattle.place_sections.specs.Meetings.{AreOutputs};
+ghost use Rattle.place_sections.specs.OverlapFaults.{AreOutputs};
 
 use ldmodel_laws::layout::layout_by_effects;
 

@@ -1,15 +1,15 @@
-//! The output sections that meet others.
+//! The output sections that overlap others.
 
 ghost use Rattle.std.specs.Prelude.{◌≡◌, ◌++◌, ◌≤◌, ℕ, IfOk, IsTrue, OnOk, length};
 ghost use Rattle.place_sections.specs.Extents.{cover};
-ghost use Rattle.place_sections.specs.Meetings.{AreOverlaps};
+ghost use Rattle.place_sections.specs.OverlapFaults.{AreOverlaps};
 ghost use Rattle.place_sections.specs.Firsts.{before};
-ghost use Rattle.place_sections.specs.Found.{extent_in, extents_in, fault_in, fault_with, met_before};
+ghost use Rattle.place_sections.specs.Found.{extent_in, extents_in, fault_in, fault_with, overlaps_before};
 
 use crate::extent::{Extent, are_ascending};
 use crate::firsts::firsts;
+use growth::{NoMemory, vec};
 use ldmodel::fault::Fault;
-use ldmodel::memory::NoMemory;
 use ldmodel::placed::{OutputIndex, Placed};
 use place_terms::output_number::output_index;
 use std::alloc::Global;
@@ -43,8 +43,8 @@ impl Space {
         ensures { result ≡ fault_in self section earlier }
     {
         match self {
-            Space::Memory => Fault::AddressesMeet { section, earlier },
-            Space::Load => Fault::LoadAddressesMeet { section, earlier },
+            Space::Memory => Fault::AddressesOverlap { section, earlier },
+            Space::Load => Fault::LoadAddressesOverlap { section, earlier },
         }
     }
 }
@@ -53,9 +53,9 @@ impl Space {
 fn extents(alloc: Global, space: Space, sections: &[Placed]) -> Result<Vec<Extent>, NoMemory>
     ensures { IfOk result (λ v. v.items ≡ extents_in space sections.now) }
 {
-    let mut extents = Vec::with_capacity(alloc, sections.len())?;
+    let mut extents = vec::with_capacity(alloc, sections.len())?;
     for section in sections {
-        extents.push(space.extent(section))?;
+        vec::push(&mut extents, space.extent(section))?;
     }
     Ok(extents)
 }
@@ -79,8 +79,8 @@ fn are_in_order(space: Space, sections: &[Placed]) -> bool
     true
 }
 
-/// The fault of a section, if the first that it meets is an earlier one.
-fn push_meeting(
+/// The fault of a section, if the first that it overlaps is an earlier one.
+fn push_first_overlap(
     faults: &mut Vec<Fault>,
     space: Space,
     section: usize,
@@ -88,54 +88,55 @@ fn push_meeting(
 ) -> Result<(), NoMemory>
     ensures { OnOk result (faults.new.items ≡ faults.old.items ++ fault_with space section (before section first)) }
 {
-    let Some(met) = first else {
+    let Some(other) = first else {
         return Ok(());
     };
-    if met >= section {
+    if other >= section {
         return Ok(());
     }
     let section = output_index(section)?;
-    let met = output_index(met)?;
-    faults.push(space.fault(section, met))?;
+    let other = output_index(other)?;
+    vec::push(faults, space.fault(section, other))?;
     Ok(())
 }
 
-/// The faults of all that meet an earlier one.
-fn push_meetings(
+/// The faults of all that overlap an earlier one.
+fn push_first_overlaps(
     alloc: Global,
     faults: &mut Vec<Fault>,
     space: Space,
     extents: &[Extent],
 ) -> Result<(), NoMemory>
-    ensures { OnOk result (faults.new.items ≡ faults.old.items ++ met_before space extents.now) }
+    ensures { OnOk result (faults.new.items ≡ faults.old.items ++ overlaps_before space extents.now) }
 {
     let firsts = firsts(alloc, extents)?;
     for k in 0..extents.len() {
-        push_meeting(faults, space, k, firsts[k])?;
+        push_first_overlap(faults, space, k, firsts[k])?;
     }
     Ok(())
 }
 
-/// The overlaps in one space. Where no two output sections meet, as their order or a sort shows, there are none; where
-/// some do, the first that each meets is looked for in a tree of ranges. The time is at most that of a sort.
+/// The overlaps in one space. Where no two output sections overlap, as their order or a sort shows, there are none;
+/// where some do, the first that each overlaps is looked for in a tree of ranges. The time is at most that of a sort.
 fn push_overlaps(
     alloc: Global,
     faults: &mut Vec<Fault>,
     space: Space,
     sections: &[Placed],
 ) -> Result<(), NoMemory>
-    ensures { OnOk result (faults.new.items ≡ faults.old.items ++ met_before space (extents_in space sections.now)) }
+    ensures { OnOk result (faults.new.items ≡ faults.old.items
+        ++ overlaps_before space (extents_in space sections.now)) }
 {
     if are_in_order(space, sections) {
         return Ok(());
     }
     let extents = extents(alloc, space, sections)?;
-    let mut ascending = Vec::from_slice(alloc, &extents)?;
+    let mut ascending = vec::from_slice(alloc, &extents)?;
     ascending.sort_unstable_by_key(|e| e.start);
     if are_ascending(&ascending) {
         return Ok(());
     }
-    push_meetings(alloc, faults, space, &extents)
+    push_first_overlaps(alloc, faults, space, &extents)
 }
 
 /// The overlaps of output sections: for each that shares an address with an earlier one a fault with the first such;

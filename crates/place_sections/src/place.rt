@@ -17,6 +17,7 @@ use crate::reusable_placement::ReusablePlacement;
 use crate::script::Input;
 use crate::state::{LayoutCursor, PlacedOutputs};
 use crate::whole::whole;
+use growth::{NoMemory, vec};
 use ldmodel::meter::{Count, Meter};
 use ldmodel::rows::Piece;
 use ldmodel::script_symbol::DirectiveIndex;
@@ -26,7 +27,7 @@ use place_terms::provided::Provided;
 use place_terms::regions::Regions;
 use place_terms::sections::Sections;
 use place_terms::symbols::AssignedSymbols;
-use std::alloc::{AllocError, Global};
+use std::alloc::Global;
 
 /// The symbols of a layout before any has a value. The layout has this many output sections, of which some are taken
 /// over.
@@ -35,7 +36,7 @@ fn no_symbols<'a>(
     script: &'a Script,
     kept: ReusablePlacement<'_>,
     sections: usize,
-) -> Result<AssignedSymbols<'a>, AllocError>
+) -> Result<AssignedSymbols<'a>, NoMemory>
     ensures script { IfOk result (λ s. s.script ≡ script.now) }
     ensures none { IfOk result (λ s. s.list ≡ []) }
 {
@@ -52,7 +53,7 @@ fn nowhere<'a>(
     script: &'a Script,
     kept: ReusablePlacement<'_>,
     sections: usize,
-) -> Result<LayoutCursor<'a>, AllocError>
+) -> Result<LayoutCursor<'a>, NoMemory>
     ensures dot { IfOk result (λ h. h.dot ≡ 0) }
     ensures dots { IfOk result (λ h. h.dots.items ≡ []) }
     ensures inputs { IfOk result (λ h. h.inputs ≡ 0) }
@@ -61,7 +62,7 @@ fn nowhere<'a>(
     ensures symbols { IfOk result (λ h. h.symbols.list ≡ []) }
 {
     let symbols = no_symbols(alloc, script, kept, sections)?;
-    let dots = Vec::with_capacity(alloc, kept.dots.len())?;
+    let dots = vec::with_capacity(alloc, kept.dots.len())?;
     Ok(LayoutCursor {
         dot: 0,
         dots,
@@ -163,10 +164,10 @@ pub fn place(
         IsWhy script.now (rows_named naming (map (λ v. v.items) rows.now)) (provided_names script.now provided.now) f) }
 {
     let placement = lay_out(alloc, script, rows, provided, kept, meter)?;
-    let meeting = overlaps(alloc, placement.sections())?;
-    if meeting.as_slice().is_empty() {
+    let overlapping = overlaps(alloc, placement.sections())?;
+    if overlapping.as_slice().is_empty() {
         Ok(placement)
     } else {
-        Err(PlaceFault::Overlapping(meeting))
+        Err(PlaceFault::Overlapping(overlapping))
     }
 }

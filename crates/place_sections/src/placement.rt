@@ -1,4 +1,4 @@
-//! Placements.
+//! The result of layout, `Placement`, with its invariant and what others may read of it.
 
 ghost use Rattle.std.specs.Prelude.{◌≡◌, List, slice_get};
 ghost use Rattle.ldscript.specs.statements.declared.statement.Statement.{Statement};

@@ -13,7 +13,8 @@ ghost use Rattle.place_sections.specs.Inputs.{rows_of};
 ghost use Rattle.place_sections.specs.State.{layout_of};
 ghost use Rattle.place_sections.specs.Next.{AreFirst, IsNextAt};
 ghost use Rattle.place_sections.specs.Taken.{IsSection, MayBeTaken, Takes};
-ghost use Rattle.place_sections.specs.declared.stop.LayoutStop.TheVariants.{NoMemory};
+ghost use Rattle.place_sections.specs.declared.stop.LayoutStop.TheVariants.{NoMemory as OutOfMemory};
+ghost use Rattle.growth.specs.Memory.{no_memory};
 
 use crate::boundary::Boundary;
 use crate::end::{free, load_region_name};
@@ -23,9 +24,10 @@ use crate::reusable_placement::ReusablePlacement;
 use crate::script::Input;
 use crate::state::{LayoutCursor, PlacedOutputs};
 use crate::stop::LayoutStop;
+use growth::{NoMemory, vec};
 use ldscript::tree::{Item, ItemCommand, OutputSection};
 use place_terms::previous_layout::first;
-use std::alloc::{AllocError, Global};
+use std::alloc::Global;
 
 /// What is taken over of SECTIONS.
 #[derive(Drop)]
@@ -47,10 +49,10 @@ impl<'a> LayoutCursor<'a> {
         ensures symbols { OnOk result (self.new.symbols.list ≡ take to.symbols kept.entry.symbols.now) }
         ensures script { self.new.symbols.script ≡ self.old.symbols.script }
         ensures anew { self.new.anew ≡ self.old.anew }
-        ensures refused { IfErr result (λ f. f ≡ NoMemory) }
+        ensures refused { IfErr result (λ f. f ≡ OutOfMemory no_memory) }
     {
         self.dots.clear();
-        self.dots.extend_from_slice(first(kept.dots, to.dots))?;
+        vec::extend_from_slice(&mut self.dots, first(kept.dots, to.dots))?;
         self.symbols.take_over(kept.symbols, to.symbols)?;
         self.inputs = to.inputs;
         self.dot = to.dot;
@@ -70,15 +72,11 @@ fn output_at(items: &[Item], place: usize) -> &OutputSection
 }
 
 /// The first `count` of these boundaries, in a list with room for all.
-fn copy_of(
-    alloc: Global,
-    boundaries: &[Boundary],
-    count: usize,
-) -> Result<Vec<Boundary>, AllocError>
+fn copy_of(alloc: Global, boundaries: &[Boundary], count: usize) -> Result<Vec<Boundary>, NoMemory>
     ensures { IfOk result (λ v. v.items ≡ take count boundaries.now) }
 {
-    let mut list = Vec::with_capacity(alloc, boundaries.len())?;
-    list.extend_from_slice(first(boundaries, count))?;
+    let mut list = vec::with_capacity(alloc, boundaries.len())?;
+    vec::extend_from_slice(&mut list, first(boundaries, count))?;
     Ok(list)
 }
 
@@ -99,7 +97,7 @@ impl<'i, 'a> Input<'i, 'a> {
         ensures outputs { done.new.sections.script ≡ done.old.sections.script }
         ensures kept { done.new.sections.earlier ≡ done.old.sections.earlier }
         ensures placed { done.new.sections.placed ≡ done.old.sections.placed }
-        ensures refused { IfErr result (λ f. f ≡ NoMemory) }
+        ensures refused { IfErr result (λ f. f ≡ OutOfMemory no_memory) }
     {
         let output = output_at(items, at.items);
         let number = done.sections.len();
@@ -149,7 +147,7 @@ impl<'i, 'a> Input<'i, 'a> {
         ensures noted { IfOk result (λ r.
             AreNoted (rows_of naming self.now) self.now.provided.now (layout_of naming here.old done.old) items.now
             r.boundaries.items (length done.new.sections.list)) }
-        ensures refused { IfErr result (λ f. f ≡ NoMemory) }
+        ensures refused { IfErr result (λ f. f ≡ OutOfMemory no_memory) }
     {
         let Some(count) = self.kept.count() else {
             return Ok(Resumed {

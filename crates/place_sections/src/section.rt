@@ -1,4 +1,4 @@
-//! An output section.
+//! Placing one output section: its head, its body, and its end.
 
 ghost use Rattle.std.specs.Prelude.{◌≡◌, ◌≤◌, ◌<◌, ◌+◌, ◌^◌, [], length, OnOk, IfErr, IfNone, IfSome};
 ghost use Rattle.ldmodel.specs.Placement.{body_step};
@@ -11,10 +11,12 @@ ghost use Rattle.place_sections.specs.Counted.{CountsAlong, PlacesAnew};
 ghost use Rattle.place_sections.specs.Heads.{head_from};
 ghost use Rattle.place_sections.specs.State.{body_from, layout_of, Gives};
 ghost use Rattle.place_sections.specs.declared.stop.LayoutStop.TheVariants.{NoMemory};
+ghost use Rattle.growth.specs.Memory.{no_memory};
 
 use crate::head::Head;
 use crate::state::{CurrentOutput, LayoutCursor, PlacedOutputs};
 use crate::stop::LayoutStop;
+use growth::vec;
 use ldmodel::rows::Piece;
 use ldmodel_laws::layout::steps_stay_alike;
 use ldscript::tree::OutputSection;
@@ -31,9 +33,9 @@ impl<'a> LayoutCursor<'a> {
         ensures pieces { OnOk result (self.new.pieces.items ≡ []) }
         ensures anew { self.new.anew ≡ self.old.anew }
         ensures data_commands { OnOk result (self.new.data_commands.items ≡ []) }
-        ensures refused { IfErr result (λ f. f ≡ NoMemory) }
+        ensures refused { IfErr result (λ f. f ≡ NoMemory no_memory) }
     {
-        self.pieces = Vec::with_capacity(alloc, count)?;
+        self.pieces = vec::with_capacity(alloc, count)?;
         self.dot = start;
         self.data_commands.clear();
         Ok(())

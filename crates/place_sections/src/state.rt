@@ -1,4 +1,4 @@
-//! The state of a layout.
+//! What is known while a layout is made: the cursor, which each statement moves, and the output sections so far.
 
 use ldmodel::rows::Piece;
 use place_terms::provided::Provided;

@@ -1,6 +1,6 @@
 //! Why a layout stops.
 
-use std::alloc::{AllocError, AllocFailed};
+use growth::NoMemory;
 
 /// Why a layout stops, with names in place of their numbers.
 #[derive(Clone, Copy)]
@@ -35,27 +35,16 @@ pub(crate) enum LayoutStop<'a> {
         line: u32,
     },
     /// Out of memory.
-    NoMemory,
+    NoMemory(NoMemory),
 }
 
-impl<'a, T: Drop> From<AllocFailed<T>> for LayoutStop<'a> {
+impl<'a> From<NoMemory> for LayoutStop<'a> {
     ghost use Rattle.std.specs.Prelude.{◌≡◌};
     ghost use Rattle.place_sections.specs.declared.stop.LayoutStop.TheVariants.{NoMemory};
 
-    ghost from_gives = { λ _ e. e ≡ NoMemory };
+    ghost from_gives = { λ no_memory e. e ≡ NoMemory no_memory };
 
-    fn from(_failed: AllocFailed<T>) -> LayoutStop<'a> {
-        LayoutStop::NoMemory
-    }
-}
-
-impl<'a> From<AllocError> for LayoutStop<'a> {
-    ghost use Rattle.std.specs.Prelude.{◌≡◌};
-    ghost use Rattle.place_sections.specs.declared.stop.LayoutStop.TheVariants.{NoMemory};
-
-    ghost from_gives = { λ _ e. e ≡ NoMemory };
-
-    fn from(_failed: AllocError) -> LayoutStop<'a> {
-        LayoutStop::NoMemory
+    fn from(no_memory: NoMemory) -> LayoutStop<'a> {
+        LayoutStop::NoMemory(no_memory)
     }
 }

@@ -1,9 +1,7 @@
 -- How many input sections and data commands output sections have.
-use Rattle.std.proofs.Common.{◌≡◌, ℕ, suc, ◌+◌, List, [], ◌∷◌, ◌++◌, length, map, refl, sym, ap, ◌∙◌, arith}
-use Rattle.std.proofs.Common.{append_assoc, length-append}
-use Rattle.std.proofs.lemmas.List.{append-nil, length-map}
-use Rattle.place_terms.specs.Keyed.{KeyedPiece, KeyedSection}
-use Rattle.place_terms.specs.Wholes.{all_data_in, data_in, starts_in}
+use Rattle.place_terms.proofs.Common.{KeyedPiece, KeyedSection, List, [], all_data_in, ap, append-nil, append_assoc}
+use Rattle.place_terms.proofs.Common.{arith, data_in, length, length-append, length-map, map, refl, starts_in, suc, sym}
+use Rattle.place_terms.proofs.Common.{ℕ, ◌++◌, ◌+◌, ◌∙◌, ◌∷◌, ◌≡◌}
 use Rattle.place_terms.specs.declared.sections.DataAt.{DataAt}
 
 -- the starts of one more output section

@@ -1,18 +1,11 @@
 -- What the code's tables of regions and output sections find.
-use Rattle.std.proofs.Common.{◌≡◌, ℕ, zero, suc, ◌+◌, ◌<◌, ◌≤◌, List, [], ◌∷◌, length, get_or, set, map}
-use Rattle.std.proofs.Common.{Some, None, refl, sym, ap, ◌∙◌, arith, subst}
-use Rattle.std.specs.Prelude.{slice_get}
-use Rattle.std.specs.Option.{option_map, option_and_then}
-use Rattle.std.proofs.lemmas.List.{map-set, get_or-map, length-map}
-use Rattle.std.proofs.lemmas.Option.{slice_get-map, slice_get_past}
-use Rattle.ldscript.specs.statements.Given.{region_number}
-use Rattle.ldscript.specs.statements.declared.statement.Statement.{Statement}
-use Rattle.ldmodel.specs.Layout.{MemoryRegion, region_named}
-use Rattle.ldmodel.specs.Placement.{freed_from}
+use Rattle.place_terms.proofs.Common.{AreInOrder, List, MemoryRegion, None, Some, Statement, [], ap, arith, freed_from}
+use Rattle.place_terms.proofs.Common.{get_or, get_or-map, length, length-map, map, map-set, option_and_then, option_map}
+use Rattle.place_terms.proofs.Common.{refl, region_named, region_names, region_number, region_of, set, slice_get}
+use Rattle.place_terms.proofs.Common.{slice_get-map, subst, suc, sym, zero, ℕ, ◌+◌, ◌<◌, ◌∙◌, ◌∷◌, ◌≡◌, ◌≤◌}
+use Rattle.std.proofs.lemmas.Option.{slice_get_past}
 use Rattle.place_terms.proofs.Numbers.{regions_told}
-use Rattle.place_terms.proofs.Tabled.{found_under, freed_at, unfreed}
-use Rattle.place_terms.specs.RegionTable.{region_of, region_names}
-use Rattle.place_terms.specs.Tables.{AreInOrder}
+use Rattle.place_terms.proofs.TablesByNumber.{found_under, freed_at, unfreed}
 use Rattle.place_terms.specs.declared.regions.RegionState.{RegionState}
 
 module _ (script : List Statement) (xs : List RegionState) (name : List ℕ)

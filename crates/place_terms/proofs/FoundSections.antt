@@ -1,42 +1,26 @@
 -- What the code's table of output sections finds.
-use Rattle.std.proofs.Common.{◌≡◌, ◌≢◌, ℕ, zero, suc, ◌+◌, ◌<◌, ◌≤◌, List, [], ◌∷◌, ◌++◌, length, get_or, set, map}
-use Rattle.std.proofs.Common.{find, Bool, true, false, Option, Some, None, refl, sym, ap, subst, ◌∙◌, arith}
-use Rattle.std.proofs.Common.{if◌then◌else◌, take}
-use Rattle.ldmodel.specs.Arithmetic.{minus_modulo}
-use Rattle.std.specs.Prelude.{slice_get, bytes_eq}
-use Rattle.std.specs.List.{last_or}
-use Rattle.std.specs.Option.{option_map, option_and_then}
-use Rattle.std.proofs.Common.{append_assoc, replicate, length-append, ◌==◌}
-use Rattle.std.proofs.lemmas.List.{length-map, append-nil, get_or-set_other, map-append, get_or-replicate}
-use Rattle.std.proofs.lemmas.List.{length-replicate, length-set, get_or_at, take_more}
+use Rattle.place_terms.proofs.Common.{All-push, AreInOrder, Bool, Closed, IsOutput, IsSound, KeyedSection, List, None}
+use Rattle.place_terms.proofs.Common.{Option, OutputSection, Outputs, PlacedOutput, PreviousOutputs, ReusedOutput, Some}
+use Rattle.place_terms.proofs.Common.{Statement, [], all_data_in, ap, append-nil, append_assoc, arith, both, bytes_eq}
+use Rattle.place_terms.proofs.Common.{difference_in, difference_of, eqb-false, eqb-true, false, filter-append, find}
+use Rattle.place_terms.proofs.Common.{get_or, get_or-replicate, get_or-set_at, get_or-set_other, get_or_at}
+use Rattle.place_terms.proofs.Common.{if◌then◌else◌, keyed, keyed_taken, last_or, length, length-append, length-map}
+use Rattle.place_terms.proofs.Common.{length-replicate, length-set, map, map-append, minus_modulo, option_and_then}
+use Rattle.place_terms.proofs.Common.{option_map, refl, region_number, replicate, same_region, section_number}
+use Rattle.place_terms.proofs.Common.{section_of, set, slice_get, slice_get-map, starts_in, subst, suc, sym, take}
+use Rattle.place_terms.proofs.Common.{take_more, true, zero, ℕ, ◌++◌, ◌+◌, ◌<◌, ◌==◌, ◌∙◌, ◌∷◌, ◌≡◌, ◌≢◌, ◌≤◌}
 use Rattle.std.proofs.Math.ListN.{get_or-append}
-use Rattle.std.proofs.lemmas.Bool.{eqb-true, eqb-false}
-use Rattle.std.proofs.lemmas.List.Elements.{filter-append, All-push}
-use Rattle.std.proofs.lemmas.Option.{get_or_from_slice_get, slice_get-map, slice_get_within}
-use Rattle.std.proofs.lemmas.Grind.{get_or-set_at}
-use Rattle.ldscript.specs.Script.{IsSound}
-use Rattle.ldscript.specs.statements.Given.{section_number, region_number}
-use Rattle.ldscript.specs.statements.declared.section.OutputSection.{OutputSection}
-use Rattle.ldscript.specs.statements.declared.statement.Statement.{Statement}
-use Rattle.ldmodel.specs.Layout.{PlacedOutput}
-use Rattle.ldmodel.specs.Placement.{difference_in, difference_of, same_region}
+use Rattle.std.proofs.lemmas.Option.{get_or_from_slice_get, slice_get_within}
 use Rattle.ldmodel.specs.declared.placed.Placed.{Placed}
 use Rattle.place_terms.proofs.Lists.{same_name, is_same_name}
 use Rattle.place_terms.proofs.Numbers.{sections_told, regions_told}
 use Rattle.place_terms.proofs.Ordered.{output_number}
-use Rattle.place_terms.specs.PreviousLayout.{PreviousOutputs}
-use Rattle.place_terms.specs.Outputs.{IsOutput, Outputs}
-use Rattle.place_terms.proofs.Tabled.{found_under}
+use Rattle.place_terms.proofs.TablesByNumber.{found_under}
 use Rattle.place_terms.proofs.Counting.{data_grow, starts_grow}
-use Rattle.place_terms.specs.Wholes.{all_data_in, starts_in}
-use Rattle.place_terms.specs.Keyed.{KeyedSection, section_of}
-use Rattle.place_terms.specs.SectionTable.{both, keyed, keyed_taken, section_names, nameless, difference_by}
-use Rattle.place_terms.specs.SectionTable.{AreSectionsOf, Fits, IsDifferenceSlot}
-use Rattle.place_terms.specs.Tables.{AreInOrder}
-use Rattle.place_terms.specs.declared.sections.Closed.{Closed}
+use Rattle.place_terms.specs.SectionTable.{section_names, nameless, difference_by, AreSectionsOf, Fits}
+use Rattle.place_terms.specs.SectionTable.{IsDifferenceSlot}
 use Rattle.place_terms.specs.declared.sections.DifferenceSlot.{DifferenceSlot}
 use Rattle.place_terms.specs.declared.sections.DifferenceSlot.TheVariants.{Elsewhere, At, Nowhere}
-use Rattle.place_terms.specs.declared.previous_layout.ReusedOutput.{ReusedOutput}
 
 abbrev placed_under : List KeyedSection → List ℕ → Option Placed
 placed_under xs name =

@@ -1,26 +1,19 @@
 -- Symbols whose commands come in turn are found by the numbers of these.
-use Rattle.std.proofs.Common.{◌≡◌, ◌≢◌, ℕ, zero, suc, ◌+◌, ◌-◌, ◌<◌, ◌≤◌, List, [], ◌∷◌, ◌++◌, length, get_or, map}
-use Rattle.std.proofs.Common.{find}
-use Rattle.std.proofs.Common.{Bool, true, false, cond, Option, Some, None, Ok, Err, refl, sym, ap, ◌∙◌, arith, ◌==◌}
-use Rattle.std.proofs.Common.{inl, inr, drop, subst, take}
-use Rattle.std.specs.Prelude.{bytes_eq, nat_lt, slice_get}
-use Rattle.std.specs.List.{All}
+use Rattle.place_terms.proofs.Common.{All, All-append, All-cons, All-nil, AreFound, AreInTurn, Bool, Err, IsFound, List}
+use Rattle.place_terms.proofs.Common.{None, Numbered, Ok, Option, Rises, Some, Statement, [], ap, arith, bytes_eq}
+use Rattle.place_terms.proofs.Common.{cases_lt, cond, drop, eq-eqb, eqb-true, false, find, get_or, get_or_default, inl}
+use Rattle.place_terms.proofs.Common.{inr, le-ltb, length, ltb-false, map, name_given_by, nat_lt, option_and_then}
+use Rattle.place_terms.proofs.Common.{option_map, refl, risen, slice_get, subst, suc, sym, symbol_number, symbol_of}
+use Rattle.place_terms.proofs.Common.{take, take-append-drop, true, value_of, value_under, zero, ℕ, ◌++◌, ◌+◌, ◌-◌, ◌<◌}
+use Rattle.place_terms.proofs.Common.{◌==◌, ◌∙◌, ◌∷◌, ◌≡◌, ◌≢◌, ◌≤◌}
 use Rattle.std.specs.List.Sorted.{IsBinarySearchResult, IsNonDecreasingBy}
-use Rattle.std.specs.Option.{option_map, option_and_then}
 use Rattle.std.specs.Ordering.{nat_cmp, ordering_index}
-use Rattle.std.proofs.lemmas.Bool.{cases_lt, eq-eqb, eqb-true, le-ltb, ltb-false}
 use Rattle.std.proofs.lemmas.Bool.Decides.{nat_tests}
 use Rattle.std.proofs.lemmas.Cmp.{ranked}
-use Rattle.std.proofs.lemmas.List.{get_or_default, take-append-drop}
-use Rattle.std.proofs.lemmas.List.Elements.{All-append, All-cons, All-nil}
-use Rattle.ldscript.specs.statements.declared.statement.Statement.{Statement}
 use Rattle.ldmodel.specs.Layout.{ScriptSymbol}
-use Rattle.ldmodel.specs.PlacementView.{name_given_by, symbol_of}
 use Rattle.ldmodel.specs.declared.script_symbol.ScriptSymbol as code
 use Rattle.place_terms.proofs.Lists.{same_name, is_same_name}
 use Rattle.place_terms.proofs.Numbers.{symbols_told}
-use Rattle.place_terms.specs.LayoutSymbols.{risen, value_of, value_under, AreFound, AreInTurn, IsFound, Numbered, Rises}
-use Rattle.place_terms.specs.Tables.{symbol_number}
 
 -- one list after another
 pub risen_append : (n : ℕ) (xs ys : List code.ScriptSymbol) → risen n (xs ++ ys)

@@ -1,9 +1,10 @@
-pub mod Shown
-pub mod Once
+pub mod Common
+pub mod NamesInList
+pub mod GivenOnce
 pub mod Lists
 pub mod Ordered
 pub mod Numbers
-pub mod Tabled
+pub mod TablesByNumber
 pub mod InTurn
 pub mod Counting
 pub mod Found

@@ -1,8 +1,6 @@
 -- Searches in lists.
-use Rattle.std.proofs.Common.{◌≡◌, ℕ, List, [], ◌∷◌, ◌++◌}
-use Rattle.std.proofs.Common.{find, Bool, true, false, cond, Option, Some, None, refl}
-use Rattle.std.specs.Prelude.{bytes_eq}
-use Rattle.std.proofs.lemmas.Slice.Eq.{bytes_eq-Decides}
+use Rattle.place_terms.proofs.Common.{Bool, List, None, Option, Some, [], bytes_eq, bytes_eq-Decides, cond, false, find}
+use Rattle.place_terms.proofs.Common.{refl, true, ℕ, ◌++◌, ◌∷◌, ◌≡◌}
 
 -- a search that goes on where there was nothing
 abbrev pub or_else : {X : Type 0} → Option X → Option X → Option X

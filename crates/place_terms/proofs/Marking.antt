@@ -1,16 +1,9 @@
 -- The table of the PROVIDEs that are in force.
-use Rattle.std.proofs.Common.{◌≡◌, ◌≢◌, ℕ, ◌<◌, ◌≤◌, List, [], ◌∷◌, ◌++◌, length, get_or, set, Bool, true, false}
-use Rattle.std.proofs.Common.{◌||◌, Some, None, refl, sym, ap, ◌∙◌, arith}
-use Rattle.std.specs.Prelude.{bytes_eq}
-use Rattle.std.specs.List.{list_any}
-use Rattle.std.proofs.lemmas.Grind.{get_or-set_at}
-use Rattle.std.proofs.lemmas.List.{get_or-set_other, length-set}
-use Rattle.ldscript.specs.statements.declared.statement.Statement.{Statement}
+use Rattle.place_terms.proofs.Common.{Bool, List, Marks, None, Some, Statement, [], ap, arith, bytes_eq, false, get_or}
+use Rattle.place_terms.proofs.Common.{get_or-set_at, get_or-set_other, length, length-set, list_any, other_name, refl}
+use Rattle.place_terms.proofs.Common.{set, sym, symbol_number, true, ℕ, ◌++◌, ◌<◌, ◌||◌, ◌∙◌, ◌∷◌, ◌≡◌, ◌≢◌, ◌≤◌}
 use Rattle.place_terms.proofs.Lists.{is_same_name, same_name}
 use Rattle.place_terms.proofs.Numbers.{symbols_told}
-use Rattle.place_terms.specs.ProvidedTable.{Marks}
-use Rattle.place_terms.specs.Tables.{symbol_number}
-use Rattle.ldmodel_laws.proofs.Mentioned.{other_name}
 
 any_more : (name m : List ℕ) (names : List (List ℕ)) → list_any (bytes_eq name) (names ++ m ∷ [])
     ≡ (list_any (bytes_eq name) names || bytes_eq name m)

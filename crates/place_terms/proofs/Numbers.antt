@@ -1,22 +1,15 @@
 -- The numbers of names tell the names apart.
-use Rattle.std.proofs.Common.{◌≡◌, ℕ, suc, ◌+◌, ◌<◌, List, [], ◌∷◌, ◌++◌, length, map, Bool, true, false, cond}
-use Rattle.std.proofs.Common.{Option, Some}
-use Rattle.std.proofs.Common.{Result, Ok, Err, OnOk, None, refl, sym, ap, ◌∙◌, arith}
-use Rattle.std.specs.Prelude.{slice_get, bytes_eq}
-use Rattle.std.proofs.lemmas.List.{map-append}
-use Rattle.std.specs.Option.{option_map, option_map_or}
-use Rattle.ldscript.specs.statements.Given.{assigned_from, provided_from, assigned_here, provided_here, given_as}
-use Rattle.ldscript.specs.statements.Given.{section_from, section_number, region_from, region_number}
+use Rattle.place_terms.proofs.Common.{Bool, Directive, Err, IsFound, List, None, Numbered, Ok, OnOk, Option, Result}
+use Rattle.place_terms.proofs.Common.{Some, Statement, [], ap, arith, assigned_from, assigned_here, bytes_eq, cond}
+use Rattle.place_terms.proofs.Common.{false, given_as, given_name, length, map, map-append, name_given_by, named}
+use Rattle.place_terms.proofs.Common.{number_of, option_map, option_map_or, provided_from, provided_here, refl}
+use Rattle.place_terms.proofs.Common.{region_from, region_number, section_from, section_number, slice_get, suc, sym}
+use Rattle.place_terms.proofs.Common.{symbol_number, symbol_of, true, ℕ, ◌++◌, ◌+◌, ◌<◌, ◌∙◌, ◌∷◌, ◌≡◌}
 use Rattle.ldscript.specs.statements.Numbering.{DirectiveAt, OutputSectionAt, all_directives, output_sections, regions}
-use Rattle.ldscript.specs.statements.declared.directive.Directive.{Directive}
 use Rattle.ldscript.specs.statements.declared.directive.Directive.TheVariants as directive
 use Rattle.ldscript.specs.statements.declared.statement.Region.{Region}
-use Rattle.ldscript.specs.statements.declared.statement.Statement.{Statement}
-use Rattle.ldmodel.specs.PlacementView.{given_name, name_given_by, symbol_of}
 use Rattle.ldmodel.specs.declared.script_symbol.ScriptSymbol as code
 use Rattle.place_terms.proofs.Lists.{same_name}
-use Rattle.place_terms.specs.LayoutSymbols.{named, IsFound, Numbered}
-use Rattle.place_terms.specs.Tables.{number_of, symbol_number}
 
 -- what a number that was found says, counted from where the search began
 pub record FoundAt {X : Type 0} (name_of : X → List ℕ) (from : ℕ) (xs : List X) (name : List ℕ) (k : ℕ) : Type 0 where

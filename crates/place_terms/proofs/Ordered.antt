@@ -1,17 +1,10 @@
 -- The output sections of a script in which nothing is named twice stand under their numbers.
-use Rattle.std.proofs.Common.{◌≡◌, ◌≢◌, ◌∙◌, sym, ap, ℕ, zero, suc, ◌+◌, List, [], ◌∷◌, false, bytes_eq, arith}
-use Rattle.std.proofs.Common.{Some}
-use Rattle.std.specs.Prelude.{⊤, slice_get}
-use Rattle.ldscript.specs.Script.{IsSound}
-use Rattle.ldscript.specs.statements.Given.{section_from, section_number}
+use Rattle.place_terms.proofs.Common.{Each, EachLater, IsOutput, IsSound, List, OutputSection, Some, Statement, [], ap}
+use Rattle.place_terms.proofs.Common.{arith, bytes_eq, false, other_name, section_from, section_number, sections_differ}
+use Rattle.place_terms.proofs.Common.{slice_get, suc, sym, zero, ℕ, ⊤, ◌+◌, ◌∙◌, ◌∷◌, ◌≡◌, ◌≢◌}
 use Rattle.ldscript.specs.statements.Numbering.{OutputSectionAt, output_sections}
-use Rattle.ldscript.specs.statements.declared.section.OutputSection.{OutputSection}
-use Rattle.ldscript.specs.statements.declared.statement.Statement.{Statement}
-use Rattle.ldmodel.specs.Each.{Each}
-use Rattle.ldmodel_laws.specs.Spread.{EachLater}
-use Rattle.ldmodel_laws.proofs.Mentioned.{other_name, section_names, sections_differ}
+use Rattle.ldmodel_laws.proofs.Mentioned.{section_names}
 use Rattle.place_terms.proofs.Lists.{is_same_name}
-use Rattle.place_terms.specs.Outputs.{IsOutput}
 
 -- none of these has the name
 abbrev Unnamed : List ℕ → List OutputSectionAt → Type 0

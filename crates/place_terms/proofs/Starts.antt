@@ -1,8 +1,6 @@
 -- Where the input sections of a list of output sections start.
-use Rattle.std.proofs.Common.{◌≡◌, ℕ, ◌+◌, ◌<◌, List, ◌∷◌, ◌++◌, map, sym, ap, ◌∙◌, length, get_or, drop, append_assoc}
-use Rattle.std.proofs.lemmas.List.{drop_more}
-use Rattle.place_terms.specs.Keyed.{KeyedPiece, KeyedSection}
-use Rattle.place_terms.specs.Wholes.{starts_in}
+use Rattle.place_terms.proofs.Common.{KeyedPiece, KeyedSection, List, ap, append_assoc, drop, drop_more, get_or, length}
+use Rattle.place_terms.proofs.Common.{map, starts_in, sym, ℕ, ◌++◌, ◌+◌, ◌<◌, ◌∙◌, ◌∷◌, ◌≡◌}
 
 -- the starts of one more output section of a list
 pub starts_more : {X : Type 0} (key : X → KeyedSection) (from : List X → List KeyedSection)

@@ -1,23 +1,17 @@
 -- Output sections that are taken over are the first ones of the previous layout.
-use Rattle.std.proofs.Common.{◌≡◌, ℕ, zero, suc, ◌+◌, ◌≤◌, List, [], ◌∷◌, ◌++◌, length, map, take, Some}
-use Rattle.std.proofs.Common.{◌-◌, refl, sym, ap, subst, ◌∙◌, arith, append_assoc, append-nil, length-append}
-use Rattle.std.specs.Prelude.{slice_get}
+use Rattle.place_terms.proofs.Common.{Closed, KeyedPiece, KeyedSection, List, OutputSection, Outputs, PreviousOutputs}
+use Rattle.place_terms.proofs.Common.{ReusedOutput, Some, Statement, [], ap, append-nil, append_assoc, arith, both}
+use Rattle.place_terms.proofs.Common.{counts_in, data_at_of, earlier_of, keyed, keyed_taken, length, length-append}
+use Rattle.place_terms.proofs.Common.{length-map, map, map-append, placed_in, refl, slice_get, starts_in, subst, suc}
+use Rattle.place_terms.proofs.Common.{sym, take, zero, ℕ, ◌++◌, ◌+◌, ◌-◌, ◌∙◌, ◌∷◌, ◌≡◌, ◌≤◌}
 use Rattle.std.proofs.Math.Seq.{take-add}
-use Rattle.std.proofs.lemmas.List.{length-map, map-append}
-use Rattle.ldscript.specs.statements.declared.section.OutputSection.{OutputSection}
-use Rattle.ldscript.specs.statements.declared.statement.Statement.{Statement}
 use Rattle.ldmodel.specs.declared.placed.PlacedData.{PlacedData}
 use Rattle.ldmodel.specs.declared.rows.Piece.{Piece}
 use Rattle.place_terms.proofs.Counting.{starts_push}
 use Rattle.place_terms.proofs.FoundSections.{both_taken}
-use Rattle.place_terms.specs.PreviousLayout.{AreTaken, PreviousOutputs, IsSectionOf, IsWithTaken, earlier_of, part_of}
-use Rattle.place_terms.specs.Keyed.{KeyedPiece, KeyedSection, data_at_of}
-use Rattle.place_terms.specs.Outputs.{Outputs}
-use Rattle.place_terms.specs.SectionTable.{both, keyed, keyed_taken, taken_pieces, AreSectionsOf}
-use Rattle.place_terms.specs.Wholes.{counts_in, placed_in, starts_in}
+use Rattle.place_terms.specs.PreviousLayout.{AreTaken, IsSectionOf, IsWithTaken, part_of}
+use Rattle.place_terms.specs.SectionTable.{taken_pieces, AreSectionsOf}
 use Rattle.place_terms.specs.declared.previous_layout.PreviousLayout.{PreviousLayout}
-use Rattle.place_terms.specs.declared.previous_layout.ReusedOutput.{ReusedOutput}
-use Rattle.place_terms.specs.declared.sections.Closed.{Closed}
 
 pub take_one : {X : Type 0} (xs : List X) (k : ℕ) (x : X) → slice_get xs k ≡ Some x → take (suc k) xs
     ≡ take k xs ++ x ∷ []

@@ -5,9 +5,10 @@ ghost use Rattle.ldscript.specs.statements.Numbered.{shown_directives};
 ghost use Rattle.place_terms.specs.Numbers.{gives_at, symbol_number};
 
 use crate::guesses::Guesses;
+use growth::NoMemory;
 use ldscript::Script;
 use ldscript::tree::{Directive, DirectiveAt, Given};
-use std::alloc::{AllocError, Global};
+use std::alloc::Global;
 use std::marker::Model;
 
 /// The directives of a script, found by the names of the symbols that they give values. A look-up compares the
@@ -70,7 +71,7 @@ fn symbol_of(command: &Directive) -> Option<&[u8]> {
 }
 
 /// Guesses at the numbers of the names that these commands give values.
-fn guesses_of(alloc: Global, commands: &[DirectiveAt<'_>]) -> Result<Guesses, AllocError> {
+fn guesses_of(alloc: Global, commands: &[DirectiveAt<'_>]) -> Result<Guesses, NoMemory> {
     let mut guesses = Guesses::new(alloc, commands.len())?;
     for number in 0..commands.len() {
         if let Some(name) = symbol_of(commands[number].command) {
@@ -82,8 +83,8 @@ fn guesses_of(alloc: Global, commands: &[DirectiveAt<'_>]) -> Result<Guesses, Al
 
 impl<'a> DirectivesByName<'a> {
     /// The commands of a script, with a list of them and a guess at each name: for callers that ask often.
-    #[tactic(auto, using(crate::proofs::Once::all_numbered))]
-    pub fn new(alloc: Global, script: &'a Script) -> Result<DirectivesByName<'a>, AllocError>
+    #[tactic(auto, using(crate::proofs::GivenOnce::all_numbered))]
+    pub fn new(alloc: Global, script: &'a Script) -> Result<DirectivesByName<'a>, NoMemory>
         ensures { IfOk result (λ c. c ≡ script.now) }
     {
         // for the prover: brings in the invariant of `script`
@@ -99,7 +100,7 @@ impl<'a> DirectivesByName<'a> {
 
     /// The commands of a script, without a list or guesses, so that each look-up is one in the script's table: for
     /// callers that ask seldom.
-    pub fn unlisted(alloc: Global, script: &'a Script) -> Result<DirectivesByName<'a>, AllocError>
+    pub fn unlisted(alloc: Global, script: &'a Script) -> Result<DirectivesByName<'a>, NoMemory>
         ensures { IfOk result (λ c. c ≡ script.now) }
     {
         let guesses = Guesses::new(alloc, 0)?;

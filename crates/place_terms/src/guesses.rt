@@ -1,6 +1,7 @@
 //! Guesses at the numbers of names.
 
-use std::alloc::{AllocError, Global};
+use growth::{NoMemory, vec};
+use std::alloc::Global;
 
 /// How many slots may have the guess at a name, from one that its hash gives on.
 const TRIES: u64 = 4;
@@ -58,13 +59,13 @@ fn hash_of(name: &[u8]) -> u64 {
 
 impl Guesses {
     /// No guess yet, and slots for this many names.
-    pub fn new(alloc: Global, count: usize) -> Result<Guesses, AllocError> {
+    pub fn new(alloc: Global, count: usize) -> Result<Guesses, NoMemory> {
         // with one slot for more names than there are powers of two, which no script has, guesses are missing
         let wanted = count
             .saturating_mul(2)
             .checked_next_power_of_two()
             .unwrap_or(1);
-        let slots = vec![in alloc; Slot::FREE; wanted]?;
+        let slots = vec::from_elem(alloc, Slot::FREE, wanted)?;
         Ok(Guesses { slots })
     }
 

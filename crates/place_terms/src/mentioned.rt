@@ -6,8 +6,8 @@ ghost use Rattle.ldmodel.specs.Mentioned.{in_expression, in_optional, in_directi
 ghost use Rattle.ldmodel.specs.Mentioned.{in_section, in_item, in_command, mentioned_names};
 ghost use Rattle.place_terms.specs.Mentions.{Adds, in_load, in_body, in_items, in_regions, shown_names};
 
+use growth::{NoMemory, vec};
 use ldmodel::fault::MentionIndex;
-use ldmodel::memory::NoMemory;
 use ldscript::tree::{
     BodyCommand, BodyStatement, Command, Directive, DotCommand, Expr, Formula, Item, ItemCommand,
     Load, OutputSection, Region, Statement,
@@ -20,7 +20,7 @@ fn note_expression<'a>(names: &mut Vec<&'a [u8]>, e: &'a Expr) -> Result<(), NoM
     match e {
         Expr::Number(_) | Expr::Dot => Ok(()),
         Expr::Name(name) | Expr::OfRegion(_, name) | Expr::OfSection(_, name) => {
-            names.push(name.as_bytes())?;
+            vec::push(names, name.as_bytes())?;
             Ok(())
         }
         Expr::Unary(_, a) | Expr::AlignDot(a) => note_expression(names, a),

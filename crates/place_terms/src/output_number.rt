@@ -2,9 +2,8 @@
 
 ghost use Rattle.std.specs.Prelude.{◌≡◌, ◌≤◌, ◌^◌, IfErr, IfOk};
 
-use ldmodel::impossible::impossible;
+use growth::{NoMemory, impossible};
 use ldmodel::placed::OutputIndex;
-use std::alloc::AllocError;
 
 /// The number of an output section.
 ///
@@ -12,7 +11,7 @@ use std::alloc::AllocError;
 ///
 /// Past 2^32, where no number is left: the one place where a layout fails for that. No script that fits into memory has
 /// as many output sections, which no contract of scripts says.
-pub fn output_index(number: usize) -> Result<OutputIndex, AllocError>
+pub fn output_index(number: usize) -> Result<OutputIndex, NoMemory>
     ensures is { IfOk result (λ k. k.0 ≡ number) }
     ensures past { IfErr result (λ _. 2 ^ 32 ≤ number) }
 {

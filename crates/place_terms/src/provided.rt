@@ -8,10 +8,11 @@ ghost use Rattle.place_terms.specs.Mentions.{shown_names};
 ghost use Rattle.place_terms.specs.ProvidedTable.{name_in, provided_names, Marks};
 
 use crate::directives_by_name::number_in;
+use growth::{NoMemory, vec};
 use ldmodel::script_symbol::DirectiveIndex;
 use ldscript::Script;
 use ldscript::tree::{Directive, DirectiveAt};
-use std::alloc::{AllocError, Global};
+use std::alloc::Global;
 use std::marker::Model;
 
 /// The PROVIDEs of a script that are in force. A look-up takes the time of one in the script's table of names; one of a
@@ -85,7 +86,7 @@ impl<'a> Provided<'a> {
         alloc: Global,
         script: &'a Script,
         numbers: &'a [DirectiveIndex],
-    ) -> Result<Provided<'a>, AllocError>
+    ) -> Result<Provided<'a>, NoMemory>
         ensures { IfOk result (λ p. p ≡ provided_names script.now numbers.now) }
     {
         if numbers.is_empty() {
@@ -97,12 +98,12 @@ impl<'a> Provided<'a> {
             });
         }
         let list = script.all_directives(alloc)?;
-        let mut in_force = vec![in alloc; false; list.len()]?;
-        let mut names = Vec::with_capacity(alloc, numbers.len())?;
+        let mut in_force = vec::from_elem(alloc, false, list.len())?;
+        let mut names = vec::with_capacity(alloc, numbers.len())?;
         for number in numbers {
             let name = name_of(&list, *number);
             mark(script, &mut in_force, name);
-            names.push(name)?;
+            vec::push(&mut names, name)?;
         }
         Ok(Provided {
             script,

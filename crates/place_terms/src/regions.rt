@@ -7,8 +7,9 @@ ghost use Rattle.ldscript.specs.statements.Given.{region_number};
 ghost use Rattle.place_terms.specs.RegionTable.{region_of, region_names};
 ghost use Rattle.place_terms.specs.Tables.{AreInOrder};
 
+use growth::{NoMemory, vec};
 use ldscript::Script;
-use std::alloc::{AllocError, Global};
+use std::alloc::Global;
 use std::marker::Model;
 
 /// A memory region.
@@ -116,17 +117,20 @@ impl<'a> Regions<'a> {
     /// # Errors
     ///
     /// If memory runs out.
-    pub fn push(&mut self, name: &'a [u8], origin: u64, extent: u64) -> Result<(), AllocError>
+    pub fn push(&mut self, name: &'a [u8], origin: u64, extent: u64) -> Result<(), NoMemory>
         ensures pushed { OnOk result (self.new ≡ self.old
             ++ record { name = name.now; origin = origin; extent = extent; next = origin } ∷ []) }
     {
         let is_next = self.script.region_number(name) == Some(self.list.len());
-        self.list.push(RegionState {
-            name,
-            origin,
-            extent,
-            next: origin,
-        })?;
+        vec::push(
+            &mut self.list,
+            RegionState {
+                name,
+                origin,
+                extent,
+                next: origin,
+            },
+        )?;
         if !is_next {
             self.in_order = false;
         }

@@ -16,12 +16,12 @@ ghost use Rattle.place_terms.specs.Wholes.{all_data_in, counts_in, placed_in, st
 
 use crate::guesses::Guesses;
 use crate::previous_layout::{PreviousLayout, ReusedOutput, first};
-use ldmodel::impossible::impossible;
+use growth::{NoMemory, impossible, vec};
 use ldmodel::placed::Placed;
 use ldmodel::rows::Piece;
 use ldscript::Script;
 use ldscript::tree::{OutputSection, Width};
-use std::alloc::{AllocError, Global};
+use std::alloc::Global;
 use std::marker::Model;
 
 /// An input section in its place.
@@ -212,7 +212,7 @@ fn last_difference(taken: &[ReusedOutput<'_>], list: &[Closed<'_>], region: &[u8
 }
 
 /// The sum of two counts of what is in memory, for which there is room in a count.
-fn sum(count: usize, more: usize) -> Result<usize, AllocError>
+fn sum(count: usize, more: usize) -> Result<usize, NoMemory>
     ensures { IfOk result (λ n. n ≡ count + more) }
 {
     match count.checked_add(more) {
@@ -231,18 +231,18 @@ impl<'a> Sections<'a> {
         count: usize,
         earlier: PreviousLayout<'a>,
         taken: usize,
-    ) -> Result<Sections<'a>, AllocError>
+    ) -> Result<Sections<'a>, NoMemory>
         ensures script { IfOk result (λ s. s.script ≡ script.now) }
         ensures earlier { IfOk result (λ s. s.earlier ≡ earlier_of earlier.entry) }
         ensures none { IfOk result (λ s. s.list ≡ []) }
         ensures placed { IfOk result (λ s. s.placed ≡ 0) }
     {
         let regions = script.regions(alloc)?;
-        let differences = vec![in alloc; 0; regions.len()]?;
+        let differences = vec::from_elem(alloc, 0, regions.len())?;
         let placed = count.saturating_sub(taken);
         let guesses = Guesses::new(alloc, placed)?;
-        let list = Vec::with_capacity(alloc, placed)?;
-        let taken = Vec::with_capacity(alloc, taken.min(count))?;
+        let list = vec::with_capacity(alloc, placed)?;
+        let taken = vec::with_capacity(alloc, taken.min(count))?;
         Ok(Sections {
             script,
             earlier,
@@ -333,7 +333,7 @@ impl<'a> Sections<'a> {
     /// # Errors
     ///
     /// If memory runs out.
-    pub fn push(&mut self, section: Closed<'a>) -> Result<(), AllocError>
+    pub fn push(&mut self, section: Closed<'a>) -> Result<(), NoMemory>
         requires fits { Fits (keyed section) }
         requires next { IsOutput self.now.script (length self.now.list) section.output.now }
         ensures script { self.new.script ≡ self.old.script }
@@ -348,7 +348,7 @@ impl<'a> Sections<'a> {
         let data_count = sum(self.data_count, section.data_commands.len())?;
         self.guesses
             .put(section.output.name.as_bytes(), self.list.len());
-        self.list.push(section)?;
+        vec::push(&mut self.list, section)?;
         self.count = count;
         self.data_count = data_count;
         match difference_slot {
@@ -371,7 +371,7 @@ impl<'a> Sections<'a> {
         output: &'a OutputSection,
         row: &'a [Piece],
         data_end: usize,
-    ) -> Result<bool, AllocError>
+    ) -> Result<bool, NoMemory>
         requires next { IsOutput self.now.script (length self.now.list) output.now }
         ensures script { self.new.script ≡ self.old.script }
         ensures earlier { self.new.earlier ≡ self.old.earlier }
@@ -393,7 +393,7 @@ impl<'a> Sections<'a> {
         let difference_slot = difference_slot(self.script, self.differences.len(), output);
         let difference = section.placed.start.wrapping_sub(section.placed.load);
         let count = self.count + section.starts.len();
-        self.taken.push(section)?;
+        vec::push(&mut self.taken, section)?;
         self.taken_count = count;
         self.count = count;
         self.data_count = data_end;

@@ -6,10 +6,10 @@ ghost use Rattle.place_terms.specs.Tables.{symbol_number};
 
 use crate::directives_by_name::DirectivesByName;
 use crate::previous_layout::first;
-use ldmodel::impossible::impossible;
+use growth::{NoMemory, impossible, vec};
 use ldmodel::script_symbol::{DirectiveIndex, ScriptSymbol};
 use ldscript::Script;
-use std::alloc::{AllocError, Global};
+use std::alloc::Global;
 use std::marker::Model;
 
 /// The symbols that a script has given values so far, in the order of the text, under the numbers of the commands that
@@ -68,12 +68,12 @@ fn after_last(symbols: &[ScriptSymbol]) -> usize
 
 impl<'a> AssignedSymbols<'a> {
     /// No symbol of this script, and room in the list for all.
-    pub fn new(alloc: Global, script: &'a Script) -> Result<AssignedSymbols<'a>, AllocError>
+    pub fn new(alloc: Global, script: &'a Script) -> Result<AssignedSymbols<'a>, NoMemory>
         ensures script { IfOk result (λ s. s.script ≡ script.now) }
         ensures none { IfOk result (λ s. s.list ≡ []) }
     {
         let commands = DirectivesByName::new(alloc, script)?;
-        let list = Vec::with_capacity(alloc, commands.listed())?;
+        let list = vec::with_capacity(alloc, commands.listed())?;
         Ok(AssignedSymbols {
             commands,
             list,
@@ -86,12 +86,12 @@ impl<'a> AssignedSymbols<'a> {
         alloc: Global,
         script: &'a Script,
         count: usize,
-    ) -> Result<AssignedSymbols<'a>, AllocError>
+    ) -> Result<AssignedSymbols<'a>, NoMemory>
         ensures script { IfOk result (λ s. s.script ≡ script.now) }
         ensures none { IfOk result (λ s. s.list ≡ []) }
     {
         let commands = DirectivesByName::unlisted(alloc, script)?;
-        let list = Vec::with_capacity(alloc, count)?;
+        let list = vec::with_capacity(alloc, count)?;
         Ok(AssignedSymbols {
             commands,
             list,
@@ -139,13 +139,13 @@ impl<'a> AssignedSymbols<'a> {
     }
 
     /// Adds a symbol. Fails if memory runs out.
-    fn push(&mut self, symbol: ScriptSymbol) -> Result<(), AllocError>
+    fn push(&mut self, symbol: ScriptSymbol) -> Result<(), NoMemory>
         requires found { IsFound self.now.script symbol }
         requires after { ComesAfter self.now.list symbol.command.0 }
         ensures script { self.new.script ≡ self.old.script }
         ensures pushed { OnOk result (self.new.list ≡ self.old.list ++ symbol ∷ []) }
     {
-        self.list.push(symbol)?;
+        vec::push(&mut self.list, symbol)?;
         self.next = symbol.command.0 as usize + 1;
         Ok(())
     }
@@ -155,7 +155,7 @@ impl<'a> AssignedSymbols<'a> {
     /// # Errors
     ///
     /// If memory runs out.
-    pub fn take_over(&mut self, symbols: &[ScriptSymbol], count: usize) -> Result<(), AllocError>
+    pub fn take_over(&mut self, symbols: &[ScriptSymbol], count: usize) -> Result<(), NoMemory>
         requires found { AreFound self.now.script symbols.now }
         requires rises { Rises symbols.now }
         ensures script { self.new.script ≡ self.old.script }
@@ -164,7 +164,7 @@ impl<'a> AssignedSymbols<'a> {
         let taken = first(symbols, count);
         self.list.clear();
         self.next = 0;
-        self.list.extend_from_slice(taken)?;
+        vec::extend_from_slice(&mut self.list, taken)?;
         self.next = after_last(taken);
         Ok(())
     }
@@ -174,7 +174,7 @@ impl<'a> AssignedSymbols<'a> {
     /// # Errors
     ///
     /// If memory runs out.
-    pub fn assign(&mut self, name: &[u8], value: u64) -> Result<(), AllocError>
+    pub fn assign(&mut self, name: &[u8], value: u64) -> Result<(), NoMemory>
         ensures script { self.new.script ≡ self.old.script }
         ensures given { OnOk result (named self.new ≡ named self.old
             ++ record { name = name.now; value = value } ∷ []) }

@@ -10,35 +10,36 @@ ghost use Rattle.place_terms.specs.Wholes.{all_data_in, counts_in, data_in, plac
 use crate::output_number::output_index;
 use crate::regions::RegionState;
 use crate::sections::{DataAt, PieceAt, SectionParts};
+use growth::{NoMemory, vec};
 use ldmodel::placed::{OutputIndex, Placed, PlacedData, PlacedRegion};
-use std::alloc::{AllocError, Global};
+use std::alloc::Global;
 
 /// The numbers of the output sections.
-pub fn numbers_of(alloc: Global, parts: SectionParts<'_, '_>) -> Result<Vec<Placed>, AllocError>
+pub fn numbers_of(alloc: Global, parts: SectionParts<'_, '_>) -> Result<Vec<Placed>, NoMemory>
     ensures { IfOk result (λ v. v.items ≡ parts.entry.sections.now ++ placed_in (map keyed parts.entry.placed.now)) }
 {
-    let mut list = Vec::with_capacity(alloc, parts.sections.len() + parts.placed.len())?;
-    list.extend_from_slice(parts.sections)?;
+    let mut list = vec::with_capacity(alloc, parts.sections.len() + parts.placed.len())?;
+    vec::extend_from_slice(&mut list, parts.sections)?;
     for section in parts.placed {
-        list.push(section.placed)?;
+        vec::push(&mut list, section.placed)?;
     }
     Ok(list)
 }
 
 /// Adds an address to the end of a list. Room was made for it, so the code that grows a list stays out of the loop.
 #[inline(always)]
-fn push_start(list: &mut Vec<u64>, start: u64) -> Result<(), AllocError>
+fn push_start(list: &mut Vec<u64>, start: u64) -> Result<(), NoMemory>
     ensures { OnOk result (list.new.items ≡ list.old.items ++ start ∷ []) }
 {
     if list.len() < list.capacity() {
         list.push_reserved(start);
         return Ok(());
     }
-    list.push(start)?;
+    vec::push(list, start)?;
     Ok(())
 }
 
-fn add_starts(list: &mut Vec<u64>, pieces: &[PieceAt<'_>]) -> Result<(), AllocError>
+fn add_starts(list: &mut Vec<u64>, pieces: &[PieceAt<'_>]) -> Result<(), NoMemory>
     ensures { OnOk result (list.new.items ≡ list.old.items
         ++ map (λ (x : KeyedPiece). x.start) (map keyed_piece pieces.now)) }
 {
@@ -53,11 +54,11 @@ pub fn starts_of(
     alloc: Global,
     count: usize,
     parts: SectionParts<'_, '_>,
-) -> Result<Vec<u64>, AllocError>
+) -> Result<Vec<u64>, NoMemory>
     ensures { IfOk result (λ v. v.items ≡ parts.entry.starts.now ++ starts_in (map keyed parts.entry.placed.now)) }
 {
-    let mut list = Vec::with_capacity(alloc, count)?;
-    list.extend_from_slice(parts.starts)?;
+    let mut list = vec::with_capacity(alloc, count)?;
+    vec::extend_from_slice(&mut list, parts.starts)?;
     for section in parts.placed {
         add_starts(&mut list, &section.pieces)?;
     }
@@ -65,13 +66,13 @@ pub fn starts_of(
 }
 
 /// How many input sections each output section has.
-pub fn counts_of(alloc: Global, parts: SectionParts<'_, '_>) -> Result<Vec<usize>, AllocError>
+pub fn counts_of(alloc: Global, parts: SectionParts<'_, '_>) -> Result<Vec<usize>, NoMemory>
     ensures { IfOk result (λ v. v.items ≡ parts.entry.counts.now ++ counts_in (map keyed parts.entry.placed.now)) }
 {
-    let mut list = Vec::with_capacity(alloc, parts.counts.len() + parts.placed.len())?;
-    list.extend_from_slice(parts.counts)?;
+    let mut list = vec::with_capacity(alloc, parts.counts.len() + parts.placed.len())?;
+    vec::extend_from_slice(&mut list, parts.counts)?;
     for section in parts.placed {
-        list.push(section.pieces.len())?;
+        vec::push(&mut list, section.pieces.len())?;
     }
     Ok(list)
 }
@@ -81,16 +82,19 @@ fn add_data(
     list: &mut Vec<PlacedData>,
     section: OutputIndex,
     commands: &[DataAt],
-) -> Result<(), AllocError>
+) -> Result<(), NoMemory>
     ensures { OnOk result (map data_of list.new.items ≡ map data_of list.old.items ++ data_in section.0 commands.now) }
 {
     for at in commands {
-        list.push(PlacedData {
-            section,
-            start: at.start,
-            width: at.width,
-            value: at.value,
-        })?;
+        vec::push(
+            list,
+            PlacedData {
+                section,
+                start: at.start,
+                width: at.width,
+                value: at.value,
+            },
+        )?;
     }
     Ok(())
 }
@@ -100,17 +104,20 @@ fn add_taken_data(
     list: &mut Vec<PlacedData>,
     section: OutputIndex,
     commands: &[PlacedData],
-) -> Result<(), AllocError>
+) -> Result<(), NoMemory>
     ensures { OnOk result (map data_of list.new.items ≡ map data_of list.old.items
         ++ data_in section.0 (map data_at_of commands.now)) }
 {
     for at in commands {
-        list.push(PlacedData {
-            section,
-            start: at.start,
-            width: at.width,
-            value: at.value,
-        })?;
+        vec::push(
+            list,
+            PlacedData {
+                section,
+                start: at.start,
+                width: at.width,
+                value: at.value,
+            },
+        )?;
     }
     Ok(())
 }
@@ -119,7 +126,7 @@ fn add_taken_data(
 pub fn data_commands_of(
     alloc: Global,
     parts: SectionParts<'_, '_>,
-) -> Result<Vec<PlacedData>, AllocError>
+) -> Result<Vec<PlacedData>, NoMemory>
     ensures { IfOk result (λ v.
         map data_of v.items ≡ all_data_in 0 (both parts.entry.taken.now parts.entry.placed.now)) }
 {
@@ -137,18 +144,18 @@ pub fn data_commands_of(
 }
 
 /// The numbers of the regions.
-pub fn regions_of(
-    alloc: Global,
-    regions: &[RegionState<'_>],
-) -> Result<Vec<PlacedRegion>, AllocError>
+pub fn regions_of(alloc: Global, regions: &[RegionState<'_>]) -> Result<Vec<PlacedRegion>, NoMemory>
     ensures { IfOk result (λ v. v.items ≡ map region_numbers (map region_of regions.now)) }
 {
-    let mut list = Vec::with_capacity(alloc, regions.len())?;
+    let mut list = vec::with_capacity(alloc, regions.len())?;
     for region in regions {
-        list.push(PlacedRegion {
-            origin: region.origin,
-            extent: region.extent,
-        })?;
+        vec::push(
+            &mut list,
+            PlacedRegion {
+                origin: region.origin,
+                extent: region.extent,
+            },
+        )?;
     }
     Ok(list)
 }

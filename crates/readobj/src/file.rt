@@ -67,7 +67,7 @@ pub fn show_file<W: Write>(alloc: Global, out: &mut W, file: NamedFile) -> io::R
             print_read(out, name.as_str(), &object)?;
             Ok(READ)
         }
-        Err((_, ObjectRefusal::NoMemory)) => Err(ErrorKind::OutOfMemory.into()),
+        Err((_, ObjectRefusal::NoMemory(_))) => Err(ErrorKind::OutOfMemory.into()),
         Err((bytes, refusal)) => {
             print_refused(alloc, out, name.as_str(), &bytes, refusal)?;
             Ok(REFUSED)

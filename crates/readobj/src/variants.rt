@@ -25,7 +25,7 @@ fn answer_to(alloc: Global, bytes: &[u8]) -> Result<Answer, AllocError> {
     let mut meter = Meter::new();
     match Object::read(alloc, given, &mut meter) {
         Ok(_) => Ok(Answer::Object),
-        Err((_, ObjectRefusal::NoMemory)) => Err(AllocError),
+        Err((_, ObjectRefusal::NoMemory(_))) => Err(AllocError),
         Err((back, refusal)) => Ok(if back.as_slice() == bytes {
             Answer::Refused(refusal)
         } else {

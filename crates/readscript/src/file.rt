@@ -20,7 +20,7 @@ fn sentence(refusal: ScriptRefusal) -> &'static str {
             "something is given twice, or a region is named before it is declared",
         ScriptRefusal::MisplacedDot => "`.' is used where it may not be",
         ScriptRefusal::Limit => "a limit of scripts is passed",
-        ScriptRefusal::NoMemory => "out of memory",
+        ScriptRefusal::NoMemory(_) => "out of memory",
     }
 }
 
@@ -65,7 +65,7 @@ pub fn show_file<W: Write>(alloc: Global, out: &mut W, file: &NamedFile) -> io::
             print_read(out, file, &script)?;
             Ok(READ)
         }
-        Err(ScriptRefusal::NoMemory) => Err(ErrorKind::OutOfMemory.into()),
+        Err(ScriptRefusal::NoMemory(_)) => Err(ErrorKind::OutOfMemory.into()),
         Err(refusal) => {
             print_refused(out, file, refusal)?;
             Ok(REFUSED)

@@ -86,7 +86,7 @@ fn print_call(rt: &HostRuntime, call: &Call) -> io::Result<()> {
 fn print_fault(rt: &HostRuntime, fault: &WordsFault) -> io::Result<()> {
     let status = fault.report(rt);
     match fault {
-        WordsFault::Memory => println!(rt; "out of memory, status {status}"),
+        WordsFault::Memory(_) => println!(rt; "out of memory, status {status}"),
         WordsFault::Refused(error) => println!(rt; "{:?}, status {status}", error.kind()),
     }
 }

@@ -1,41 +1,24 @@
 -- How much an edit between two links without faults counts.
-use Rattle.std.proofs.Common.{◌≡◌, ◌∙◌, ◌<◌, ◌≤◌, ◌^◌, ℕ, Bool, true, false, List, [], ◌∷◌, Option, Some}
-use Rattle.std.proofs.Common.{None}
-use Rattle.std.proofs.Common.{ap, arith, inl, inr, length, refl, subst, sym}
-use Rattle.std.specs.Prelude.{◌&&◌, Err, IfSome, Ok, if◌then◌else◌, is_some, nat_lt, take}
-use Rattle.elfobj.specs.Counts.{Counts, capped}
+use Rattle.relink.proofs.Common.{Bool, Change, Counts, CountsNames, EditEffect, EditsOne, Err, Faulty, Good, GoodLink}
+use Rattle.relink.proofs.Common.{HasUpdateOutcome, IfSome, IsAnswered, IsEffect, IsPreviousLink, IsPreviousOf, Link}
+use Rattle.relink.proofs.Common.{LinkOutcome, List, Listing, None, Ok, Option, PreviousLink, PreviousState, Project}
+use Rattle.relink.proofs.Common.{ProjectState, RewrittenInPlace, Rises, Some, Staged, StandsAsNamed, Statement}
+use Rattle.relink.proofs.Common.{UpdateOutcome, [], ap, arith, capped, distinct, edited_key, false, held, if◌then◌else◌}
+use Rattle.relink.proofs.Common.{inl, inr, is_good, is_some, layout, length, lent, link, listing_of, max_image_length}
+use Rattle.relink.proofs.Common.{nat_lt, next_listing, next_view, objects_read, of_length, origin_of, project_of, refl}
+use Rattle.relink.proofs.Common.{shown, subst, sym, take, true, ℕ, ◌&&◌, ◌<◌, ◌^◌, ◌∙◌, ◌∷◌, ◌≡◌, ◌≤◌}
 use Rattle.relink_driver.specs.Resume.{AreSameBefore, IsFirstChanged, IsNext}
-use Rattle.relink_driver.specs.StayedSections.{IsPreviousOf, PreviousState}
-use Rattle.ldmodel.specs.Edits.{Add, Change, Move, Remove, Replace, SetScript}
+use Rattle.ldmodel.specs.Edits.{Add, Move, Remove, Replace, SetScript}
 use Rattle.ldmodel.specs.Fault.{Fault, ImageTooLong}
 use Rattle.ldmodel.specs.Layout.{Layout}
-use Rattle.ldmodel.specs.Names.{distinct}
-use Rattle.ldmodel.specs.Link.{Link, layout, link, max_image_length, of_length}
-use Rattle.ldmodel.specs.Project.{Project}
 use Rattle.ldmodel.specs.Rows.{rows}
 use Rattle.ldmodel.specs.SectionHeaders.{image_length}
-use Rattle.ldmodel.specs.SessionWork.{Rises, bytes_to_write, entries_from, entries_to_place, first_changed}
-use Rattle.ldmodel.specs.SessionWork.{objects_read, sites_to_evaluate}
-use Rattle.ldmodel.specs.Stayed.{GoodLink}
-use Rattle.symres.specs.decisions.Counted.{CountsNames}
-use Rattle.ldmodel_project.specs.ProjectState.{ProjectState, Listing, StandsAsNamed, EditsOne, held}
-use Rattle.ldmodel_project.specs.ProjectState.{listing_of, next_listing, project_of}
-use Rattle.ldmodel_project.specs.Next.{edited_key}
-use Rattle.ldmodel_project.specs.declared.staged.Staged.{Staged}
-use Rattle.ldscript.specs.statements.declared.statement.Statement.{Statement}
+use Rattle.ldmodel.specs.SessionWork.{bytes_to_write, entries_from, entries_to_place, first_changed, sites_to_evaluate}
 use Rattle.relink_driver.specs.Counted.{IsImageCount}
 use Rattle.relink_driver.specs.Worked.{IsLinkWork, IsWorkBeside}
-use Rattle.relink.specs.Outcome.{is_good, shown}
-use Rattle.relink.specs.PreviousLink.{HasUpdateOutcome, IsAnswered, IsEffect, IsPreviousLink, lent, next_view}
-use Rattle.relink.specs.PreviousLink.{origin_of}
 use Rattle.relink.specs.Work.{AreSmall, HasPlacedWork, HasWorked, IsPlacedWork, IsReadingWork, IsWholeWork}
 use Rattle.relink.specs.Work.{LinksNothing, decided_by}
-use Rattle.relink.specs.declared.outcome.LinkOutcome.{LinkOutcome}
 use Rattle.relink.specs.declared.outcome.LinkOutcome.TheVariants as outcome
-use Rattle.relink.specs.declared.previous.EditEffect.{EditEffect}
-use Rattle.relink.specs.declared.previous.UpdateOutcome.{UpdateOutcome}
-use Rattle.relink.specs.declared.previous.UpdateOutcome.TheVariants.{Faulty, Good, RewrittenInPlace}
-use Rattle.relink.specs.declared.previous.PreviousLink.{PreviousLink}
 use Rattle.relink.proofs.Lending.{IsFollowing, from_edit, is_last_of, none_of_last}
 use Rattle.relink.proofs.Succession.{is_next}
 use Rattle.relink.proofs.FirstChanged.{fewer, same_before}
@@ -204,13 +187,13 @@ both_are false b h k = absurd (cc)
 pub linked_work : (h : ProjectState) (s : Staged) (same : Bool) (bytes new : List ℕ) (a : LinkOutcome) (e : EditEffect)
     (previous : Option PreviousLink) (f : UpdateOutcome) (change : Change) (m1 m2 : Counts)
     → IsFollowing h s same bytes a previous e → shown bytes a ≡ link (held h)
-    → HasUpdateOutcome (next_listing h s) (lent previous e.puts_none e h s) bytes new f
-    → HasWorked (project_of (next_listing h s)) (lent previous e.puts_none e h s) m1 m2 f
+    → HasUpdateOutcome (next_listing h s) (lent previous e.keeps_previous e h s) bytes new f
+    → HasWorked (project_of (next_listing h s)) (lent previous e.keeps_previous e h s) m1 m2 f
     → m1.pieces < 2 ^ 64 → m1.fields < 2 ^ 64 → m1.bytes < 2 ^ 64 → LeavesScript change s
     → HasPlacedWork (held h) change (project_of (next_listing h s)) m1 m2
 linked_work h s same bytes new a e previous f change m1 m2 given answers updated worked few_pieces few_fields few_bytes
     leaves =
-    between a previous f e.puts_none refl given.effect given.kept answers updated worked
+    between a previous f e.keeps_previous refl given.effect given.kept answers updated worked
   where
     p : Project
     p = held h
@@ -228,11 +211,11 @@ linked_work h s same bytes new a e previous f change m1 m2 given answers updated
         refl given.edit.found given.edit.keys given.edit.placed given.edit.arranged.place_after given.edit.named
         given.edit.puts c.kept.since
         (both_are x.same_script e.same_script c.script (effect.stays stays))
-        (from_edit h s same x e effect.lost) refl
+        (from_edit h s same x e effect.stale_key) refl
 
     -- over the previous link, whatever is kept of this one
     over_last : (m : _) (x : PreviousLink) (kept : IsAnswered (listing_of h) bytes x)
-        → e.puts_none ≡ true → IsEffect h s same (outcome.Good m) (Some x) e
+        → e.keeps_previous ≡ true → IsEffect h s same (outcome.Good m) (Some x) e
         → IsWorkBeside q (Some (next_view x e h s)) m1 m2 → (t u : Layout)
         → layout p ≡ Ok t → layout q ≡ Ok u
         → IsPlacedWork (record { project = p; layout = t }) change (record { project = q; layout = u }) m1 m2
@@ -243,7 +226,7 @@ linked_work h s same bytes new a e previous f change m1 m2 given answers updated
         let of_last : IsPreviousOf kept.kept.old q state =
         is_last_of h s same bytes x e kept.kept given.edit
         (none_of_last h s same bytes (outcome.Good m) x e kept given.edit effect are) effect.changed
-        effect.lost in
+        effect.stale_key in
         let work : IsLinkWork kept.kept.old now state m1 m2 = worked kept.kept.old state u refl of_last laid_too in
         let is : kept.kept.old ≡ old = current_is (listing_of h) bytes x p t kept refl laid in
         let image : IsImageCount old now m1 m2 =
@@ -261,7 +244,7 @@ linked_work h s same bytes new a e previous f change m1 m2 given answers updated
         }
 
     between : (b : LinkOutcome) (previous : Option PreviousLink) (f : UpdateOutcome) (known : Bool)
-        → e.puts_none ≡ known → IsEffect h s same b previous e
+        → e.keeps_previous ≡ known → IsEffect h s same b previous e
         → IsPreviousLink (listing_of h) bytes b previous
         → shown bytes b ≡ link p
         → HasUpdateOutcome (next_listing h s) (lent previous known e h s) bytes new f
@@ -325,8 +308,8 @@ whole_from p change q m0 m1 m2 none placed objects names reading = (
 pub whole_work : (h : ProjectState) (s : Staged) (same : Bool) (bytes new : List ℕ) (a : LinkOutcome) (e : EditEffect)
     (previous : Option PreviousLink) (f : UpdateOutcome) (change : Change)
     (m0 m1 m2 : Counts) → IsFollowing h s same bytes a previous e → shown bytes a ≡ link (held h)
-    → HasUpdateOutcome (next_listing h s) (lent previous e.puts_none e h s) bytes new f
-    → HasWorked (project_of (next_listing h s)) (lent previous e.puts_none e h s) m1 m2 f
+    → HasUpdateOutcome (next_listing h s) (lent previous e.keeps_previous e h s) bytes new f
+    → HasWorked (project_of (next_listing h s)) (lent previous e.keeps_previous e h s) m1 m2 f
     → AreSmall m0 → ReadsObjects (objects_read change) m0 m1 → m2.objects ≡ m1.objects
     → m2.names ≡ capped m0.names (length (distinct (decided_by (held h) change (project_of (next_listing h s)))))
     → LeavesScript change s → IsReadingWork (held h) change (project_of (next_listing h s)) m0 m2

@@ -1,27 +1,15 @@
 -- What goes and what comes under the key of the object that an edit touches.
-use Rattle.std.proofs.Common.{◌≡◌, ◌∙◌, ℕ, Bool, true, false, List, [], Option, Some, None, length}
-use Rattle.std.proofs.Common.{get_or, not, eqb, ap, refl, sym, subst, arith}
-use Rattle.std.specs.List.{insert, remove}
-use Rattle.std.specs.Option.{option_map}
-use Rattle.std.specs.Prelude.{is_some, nat_eq, position, unwrap_or}
-use Rattle.std.proofs.lemmas.List.Edits.{get_or-insert_at, length-insert}
+use Rattle.relink.proofs.Common.{Bool, CanGo, ChangesOneObject, IsChange, List, Listed, NamedObject, NamedSymbol, None}
+use Rattle.relink.proofs.Common.{ObjectAt, ObjectChange, Option, Some, StagedObjects, Table, [], ap, arith, beside}
+use Rattle.relink.proofs.Common.{changed_tables, declared_by, declared_in, edited_key, eqb, false, found_under, get_or}
+use Rattle.relink.proofs.Common.{get_or-insert_at, insert, is_some, keys_of, length, length-insert, names_at, nat_eq}
+use Rattle.relink.proofs.Common.{next_entries, not, option_map, place_at, place_in, position, refl, remove, reversed}
+use Rattle.relink.proofs.Common.{shown_at, subst, sym, tables_under, true, unnamed, unwrap_or, ℕ, ◌∙◌, ◌≡◌}
 use Rattle.std.proofs.lemmas.List.Elements.{filter_passes}
 use Rattle.elfobj.specs.Object.{ObjectData}
-use Rattle.elfobj.specs.Symbols.{NamedSymbol}
-use Rattle.ldmodel.specs.Edits.{unnamed}
-use Rattle.ldmodel.specs.Project.{NamedObject}
-use Rattle.symres.specs.decisions.Change.{CanCome, CanGo, Fits, Table, changed_tables, declared_by, put_in, reversed}
-use Rattle.symres.specs.decisions.Change.{taken_out}
-use Rattle.symres.specs.decisions.Counted.{declared_in}
-use Rattle.symres.specs.decisions.declared.change.ObjectAt.{ObjectAt}
-use Rattle.symres.specs.decisions.declared.change.ObjectChange.{ObjectChange}
-use Rattle.ldmodel_project.specs.Listing.{Listed, found_under, keys_of}
-use Rattle.ldmodel_project.specs.Next.{next_entries, edited_key}
-use Rattle.ldmodel_project.specs.Tables.{HasTableAt, symbols_under, tables_under, without_table}
-use Rattle.ldmodel_project.specs.Edited.{ChangesOneObject, place_in}
-use Rattle.ldmodel_project.specs.declared.staged.StagedObjects.{StagedObjects}
+use Rattle.symres.specs.decisions.Change.{CanCome, Fits, put_in, taken_out}
+use Rattle.ldmodel_project.specs.Tables.{HasTableAt, symbols_under, without_table}
 use Rattle.symres.specs.table.State.{IsFresh}
-use Rattle.relink.specs.Change.{IsChange, beside, names_at, place_at, shown_at}
 use Rattle.relink.proofs.Lists.{remove_insert}
 
 abbrev pair : ℕ → ObjectData → ℕ × ObjectData

@@ -1,25 +1,13 @@
 -- How much an edit of a deferred session counts, and then the link of it.
-use Rattle.std.proofs.Common.{◌≡◌, ◌∙◌, ℕ, Bool, true, false, List, Option, Some, None, ap, arith, inl, inr, length}
-use Rattle.std.proofs.Common.{refl, subst, sym}
-use Rattle.std.specs.Prelude.{is_none, is_some}
-use Rattle.elfobj.specs.Counts.{Counts}
-use Rattle.ldmodel.specs.Edits.{Add, Change, Move, Remove, Replace, SetScript}
-use Rattle.ldmodel.specs.Link.{Link, link}
-use Rattle.ldmodel.specs.Project.{Project}
-use Rattle.ldmodel.specs.SessionWork.{Rises, objects_read, touched_names}
-use Rattle.ldmodel_project.specs.ProjectState.{ProjectState, held, next_listing, project_of}
-use Rattle.ldmodel_project.specs.declared.staged.Staged.{Staged}
-use Rattle.ldscript.specs.statements.declared.statement.Statement.{Statement}
-use Rattle.relink_driver.specs.Reads.{ReadsNothing}
-use Rattle.symres.specs.decisions.Counted.{CountsNames}
-use Rattle.relink.specs.Change.{names_of_edit}
-use Rattle.relink.specs.Deferred.{Deferred, IsOnlyEdit, IsSeenAs, edit_since, is_linked_since, keeps_script}
-use Rattle.relink.specs.Deferred.{staged_listing}
+use Rattle.relink.proofs.Common.{Bool, Change, Counts, CountsNames, Deferred, Link, LinkOutcome, LinkTables, List, None}
+use Rattle.relink.proofs.Common.{Option, Project, ProjectState, ReadsNothing, Rises, Some, Staged, Statement, ap, arith}
+use Rattle.relink.proofs.Common.{false, held, inl, inr, is_none, is_some, length, link, names_of_edit, next_listing}
+use Rattle.relink.proofs.Common.{objects_read, project_of, refl, shown, subst, sym, true, ℕ, ◌∙◌, ◌≡◌}
+use Rattle.ldmodel.specs.Edits.{Add, Move, Remove, Replace, SetScript}
+use Rattle.ldmodel.specs.SessionWork.{touched_names}
+use Rattle.relink.specs.Deferred.{IsOnlyEdit, IsSeenAs, edit_since, is_linked_since, keeps_script, staged_listing}
 use Rattle.relink.specs.DeferredWork.{IsLinkingWork, IsStagingWork}
-use Rattle.relink.specs.Outcome.{shown}
 use Rattle.relink.specs.Work.{AreSmall, Decides, HasPlacedWork, IsReadingWork, IsWholeWork, LinksNothing, decided_by}
-use Rattle.relink.specs.declared.link_tables.LinkTables.{LinkTables}
-use Rattle.relink.specs.declared.outcome.LinkOutcome.{LinkOutcome}
 use Rattle.relink.proofs.Bounding.{LeavesScript, names_link_nothing, objects_link_nothing, stays_put, whole_from}
 use Rattle.relink.proofs.Working.{Few, ReadsObjects, decided_from, decides, is_work, read_alone}
 

@@ -1,22 +1,12 @@
 -- What several edits of a deferred session count, and one link after them.
-use Rattle.std.proofs.Common.{◌≡◌, ◌∙◌, ◌<◌, ◌≤◌, ◌+◌, ◌^◌, ℕ, Bool, true, false, List, [], ◌∷◌, Option}
-use Rattle.std.proofs.Common.{ap, arith, inl, inr, length, refl, subst, sym}
-use Rattle.std.specs.Prelude.{is_some}
-use Rattle.elfobj.specs.Counts.{Counts, capped}
-use Rattle.ldmodel.specs.Edits.{Change}
-use Rattle.ldmodel.specs.Names.{distinct}
-use Rattle.ldmodel.specs.Project.{Project}
-use Rattle.ldmodel.specs.SessionWork.{objects_read}
-use Rattle.ldmodel_project.specs.ProjectState.{ProjectState, held, next_listing, project_of}
-use Rattle.ldmodel_project.specs.declared.staged.Staged.{Staged}
-use Rattle.symres.specs.decisions.Counted.{CountsNames}
-use Rattle.relink.specs.Change.{names_of_edit}
-use Rattle.relink.specs.Deferred.{Deferred}
+use Rattle.relink.proofs.Common.{Bool, Change, Counts, CountsNames, Deferred, LinkTables, List, Option, Project}
+use Rattle.relink.proofs.Common.{ProjectState, Staged, [], ap, arith, capped, distinct, false, held, inl, inr, is_some}
+use Rattle.relink.proofs.Common.{length, names_of_edit, next_listing, objects_read, project_of, refl, subst, sym, true}
+use Rattle.relink.proofs.Common.{ℕ, ◌+◌, ◌<◌, ◌^◌, ◌∙◌, ◌∷◌, ◌≡◌, ◌≤◌}
 use Rattle.relink.specs.DeferredWork.{AreEdits, EditStep, IsEditWork, IsLinkingWork, IsWorkOfEdits}
 use Rattle.relink.specs.DeferredWork.{IsWorkOfEditsAndLink, IsWorkOfOpening, ReadsAndDecides, names_brought}
 use Rattle.relink.specs.DeferredWork.{objects_brought}
 use Rattle.relink.specs.Work.{AreSmall, Decides, decided_by}
-use Rattle.relink.specs.declared.link_tables.LinkTables.{LinkTables}
 use Rattle.relink.proofs.Bounding.{names_link_nothing, objects_link_nothing}
 use Rattle.relink.proofs.DeferredCounts.{nothing_counted, then_none}
 use Rattle.relink.proofs.Working.{ReadsObjects, decided_from, decides}

@@ -1,37 +1,16 @@
 -- An edit that is staged, and linked later or not at all.
-use Rattle.std.proofs.Common.{◌≡◌, ◌∙◌, ℕ, Bool, true, false, List, Option, Some, None, Vec, Global, ap, arith, length}
-use Rattle.std.proofs.Common.{map, refl, subst, sym}
-use Rattle.std.specs.List.{position}
-use Rattle.std.specs.Prelude.{◌&&◌, IfSome, is_some, nat_eq}
-use Rattle.std.proofs.lemmas.List.{length-map}
-use Rattle.std.proofs.lemmas.Option.{same_Some}
-use Rattle.relink_driver.specs.LinkSnapshot.{IsLinkSnapshot}
-use Rattle.relink_driver.specs.StayedSections.{PreviousState}
-use Rattle.relink_driver.specs.Origins.{AreOrigins}
-use Rattle.relink_driver.specs.RelinkOutcome.{HasPreviousImage}
-use Rattle.ldmodel.specs.Link.{link}
-use Rattle.ldmodel.specs.Project.{NamedObject}
-use Rattle.ldmodel_project.specs.ProjectState.{ProjectState, Listing, SameHolding, held, listing_of, next_listing}
-use Rattle.ldmodel_project.specs.ProjectState.{project_of}
-use Rattle.ldmodel_project.specs.Listing.{AreKeysDistinct, Listed, found_under, keys_of, objects_of}
-use Rattle.ldmodel_project.specs.Next.{next_found}
-use Rattle.ldmodel_project.specs.declared.staged.Staged.{Staged}
-use Rattle.relink.specs.Deferred.{Deferred, HasStaged, HasTables, IsLastGood, IsSeenAs, IsStaged}
-use Rattle.relink.specs.Deferred.{IsUpdatedOver}
-use Rattle.relink.specs.Deferred.{staged_listing}
-use Rattle.relink.specs.NameList.{Names}
-use Rattle.relink.specs.Outcome.{is_good, shown}
-use Rattle.relink.specs.PreviousLink.{AreOriginsRefreshed, HasUpdateOutcome, IsAfterFault, IsEffect, IsOfGoodLink}
-use Rattle.relink.specs.PreviousLink.{IsRecorded}
-use Rattle.relink.specs.PreviousLink.{IsPreviousLink, IsRewrittenBy, PutsByName, PutsNoneOf, PutsSame, lent, lent_later}
-use Rattle.relink.specs.PreviousLink.{nothing_edited, origin_of}
-use Rattle.relink.specs.declared.link_tables.LinkTables.{LinkTables}
-use Rattle.relink.specs.declared.outcome.LinkOutcome.{LinkOutcome}
+use Rattle.relink.proofs.Common.{AreKeysDistinct, AreOrigins, AreOriginsRefreshed, Bool, Deferred, EditEffect, Global}
+use Rattle.relink.proofs.Common.{HasPreviousImage, HasTables, HasUpdateOutcome, IfSome, IsAfterFault, IsEffect}
+use Rattle.relink.proofs.Common.{IsLinkSnapshot, IsOfGoodLink, IsPreviousLink, IsRecorded, IsRewrittenBy, LinkOutcome}
+use Rattle.relink.proofs.Common.{LinkTables, List, Listed, Listing, NamedObject, Names, None, Option, PreviousLink}
+use Rattle.relink.proofs.Common.{PreviousState, ProjectState, PutsByName, PutsNoneOf, PutsSame, SameHolding, Some}
+use Rattle.relink.proofs.Common.{Staged, UpdateOutcome, Vec, ap, arith, false, found_under, held, is_good, is_some}
+use Rattle.relink.proofs.Common.{keys_of, length, length-map, lent, lent_later, link, listing_of, map, nat_eq}
+use Rattle.relink.proofs.Common.{next_found, next_listing, nothing_edited, objects_of, origin_of, position, project_of}
+use Rattle.relink.proofs.Common.{refl, same_Some, shown, subst, sym, true, ℕ, ◌&&◌, ◌∙◌, ◌≡◌}
+use Rattle.relink.specs.Deferred.{HasStaged, IsLastGood, IsSeenAs, IsStaged, IsUpdatedOver, staged_listing}
 use Rattle.relink.specs.declared.outcome.LinkOutcome.TheVariants as outcome
-use Rattle.relink.specs.declared.previous.EditEffect.{EditEffect}
-use Rattle.relink.specs.declared.previous.PreviousLink.{PreviousLink}
-use Rattle.relink.specs.declared.previous.UpdateOutcome.{UpdateOutcome}
-use Rattle.relink.proofs.Since.{origins_by_place}
+use Rattle.relink.proofs.OriginsFollow.{origins_by_place}
 use Rattle.relink.proofs.Lending.{IsFollowing, ended, following, kept_after_fault, renewed_last, same_listing}
 
 pub same_holding : (h : ProjectState) → SameHolding h h
@@ -76,24 +55,25 @@ module _ (h : ProjectState) (s : Staged) (same : Bool) (bytes new : List ℕ) (s
     (previous : Option PreviousLink) (e : EditEffect) (x : IsFollowing h s same bytes seen previous e) where
   renewed : (is_linked : Bool) (before : LinkOutcome) (later : Option PreviousLink) (v : Vec (Option ℕ) Global)
       → IsSeenAs is_linked before seen → (is_linked ≡ true → shown bytes before ≡ link (held h))
-      → IsRewrittenBy (next_listing h s) (lent previous e.puts_none e h s) new v.items
+      → IsRewrittenBy (next_listing h s) (lent previous e.keeps_previous e h s) new v.items
       → AreOriginsRefreshed v previous later
       → (shown new before ≡ link (project_of (next_listing h s))) × IsPreviousLink (next_listing h s) new before later
   renewed true before later v like answers by again =
       subst (λ (a : LinkOutcome).
       (shown new a ≡ link (project_of (next_listing h s))) × IsPreviousLink (next_listing h s) new a later) like
-      (renewed_last h s same bytes new seen e previous later e.puts_none v x.edit refl x.kept x.effect
+      (renewed_last h s same bytes new seen e previous later e.keeps_previous v x.edit refl x.kept x.effect
       (ap (shown bytes) like ∙ answers refl) by again)
   renewed false before later v like answers by again =
-      absurd (never_rewritten h s seen previous e.puts_none e new v like x.effect.answered by)
+      absurd (never_rewritten h s seen previous e.keeps_previous e new v like x.effect.answered by)
 
   -- what a link over the previous one leads to
   pub updated_over : (f : UpdateOutcome)
-      → HasUpdateOutcome (next_listing h s) (lent previous e.puts_none e h s) bytes new f
+      → HasUpdateOutcome (next_listing h s) (lent previous e.keeps_previous e h s) bytes new f
       → IsUpdatedOver h s bytes seen previous new f e
   updated_over f updated = λ is_linked before after later like answers end.
-      ended (next_listing h s) (lent previous e.puts_none e h s) bytes new f e previous later before after updated end
-      (λ kept. kept_after_fault h s same bytes seen e x.edit previous kept e.puts_none refl x.kept x.effect)
+      ended (next_listing h s) (lent previous e.keeps_previous e h s) bytes new f e previous later before after updated
+      end
+      (λ kept. kept_after_fault h s same bytes seen e x.edit previous kept e.keeps_previous refl x.kept x.effect)
       (λ v by again. renewed is_linked before later v like answers by again)
 
 -- what is known of a staged edit beside the previous link
@@ -107,18 +87,19 @@ pub staged_following : (h : ProjectState) (s : Staged) (same : Bool) (bytes : Li
     → (same ≡ false → PutsNoneOf (objects_of h.contents.entries) s.objects.step)
     → PutsByName h.contents.entries s.objects.step → IsEffect h s same seen previous e
     → IsPreviousLink (listing_of h) bytes seen previous → IsFollowing h s same bytes seen previous e
-staged_following h s same bytes seen previous e l keys staged is found are distinct placed puts other named effect kept =
+staged_following h s same bytes seen previous e l keys staged is found are distinct placed puts other named effect
+    kept =
     following h h s same bytes seen previous e l keys (same_holding h) kept staged.fits staged.arranged is found are
     distinct placed puts other named effect
 
 -- without a link the previous one stays, but for the object that the edit changes
 pub linked_last : (h later : ProjectState) (s : Staged) (same : Bool) (bytes : List ℕ) (seen : LinkOutcome)
     (previous after : Option PreviousLink) (e : EditEffect) → IsFollowing h s same bytes seen previous e
-    → IsAfterFault e.puts_none e.lost e.same_script previous after → listing_of later ≡ next_listing h s
+    → IsAfterFault e.keeps_previous e.stale_key e.same_script previous after → listing_of later ≡ next_listing h s
     → IsLastGood false (listing_of later) bytes seen after
 linked_last h later s same bytes seen previous after e x fault is =
     subst (λ (l : Listing). IsLastGood false l bytes seen after) (sym is)
-    (kept_after_fault h s same bytes seen e x.edit previous after e.puts_none refl x.kept x.effect fault)
+    (kept_after_fault h s same bytes seen e x.edit previous after e.keeps_previous refl x.kept x.effect fault)
 
 -- ---- what is kept while an edit is staged
 

@@ -1,18 +1,8 @@
 -- The matches of all objects, while one object changes.
-use Rattle.std.proofs.Common.{◌≡◌, ◌∙◌, ◌<◌, ◌≤◌, ℕ, true, List, Option, Some, None, length}
-use Rattle.std.proofs.Common.{ap, arith, refl, subst, sym}
-use Rattle.std.specs.List.{AllZip, insert, remove}
-use Rattle.std.specs.Prelude.{IfSome, is_some, slice_get, unwrap_or}
-use Rattle.std.proofs.lemmas.List.{length-map}
-use Rattle.std.proofs.lemmas.List.Edits.{length-insert, length-remove}
-use Rattle.gather.specs.ProjectMatches.{IsMatched}
-use Rattle.gather.specs.declared.matches.Matches.{Matches}
-use Rattle.ldmodel.specs.Edits.{unnamed}
-use Rattle.ldmodel.specs.Project.{NamedObject}
-use Rattle.ldmodel_project.specs.Listing.{Listed, found_under, objects_of}
-use Rattle.ldmodel_project.specs.Next.{named_under}
-use Rattle.ldmodel_project.specs.Edited.{IsAmong, unedited}
-use Rattle.ldscript.specs.statements.declared.statement.Statement.{Statement}
+use Rattle.relink.proofs.Common.{AllZip, IfSome, IsAmong, IsMatched, List, Listed, Matches, NamedObject, None, Option}
+use Rattle.relink.proofs.Common.{Some, Statement, ap, arith, found_under, insert, is_some, length, length-insert}
+use Rattle.relink.proofs.Common.{length-map, length-remove, named_under, objects_of, refl, remove, slice_get, subst}
+use Rattle.relink.proofs.Common.{sym, true, unedited, unnamed, unwrap_or, ℕ, ◌<◌, ◌∙◌, ◌≡◌, ◌≤◌}
 use Rattle.relink.specs.Matches.{IsMatchedOr, exchanged, gone_at, put_at, taken_at}
 use Rattle.relink.proofs.Lists.{get_some, insert_get, map_insert, remove_insert, zip_insert, zip_remove}
 

@@ -1,13 +1,8 @@
 -- The object of a name among those of a project.
-use Rattle.std.proofs.Common.{◌≡◌, ◌∙◌, ◌≤◌, ◌+◌, ℕ, zero, suc, Bool, true, false, List, [], ◌∷◌}
-use Rattle.std.proofs.Common.{Some, None}
-use Rattle.std.proofs.Common.{cond, ltb, length, get_or, refl, ap, sym, arith}
-use Rattle.std.specs.List.{count_by, find, insert, list_any, position, position_or_len}
-use Rattle.std.specs.Prelude.{slice_get, ◌||◌}
-use Rattle.std.proofs.lemmas.Bool.{ltb-false}
-use Rattle.std.proofs.lemmas.List.Edits.{get_or-insert_at}
+use Rattle.relink.proofs.Common.{Bool, List, None, Some, [], ap, arith, cond, count_by, false, find, get_or}
+use Rattle.relink.proofs.Common.{get_or-insert_at, insert, length, list_any, ltb, ltb-false, position, position_or_len}
+use Rattle.relink.proofs.Common.{refl, slice_get, suc, sum_by-cons, sym, true, zero, ℕ, ◌+◌, ◌||◌, ◌∙◌, ◌∷◌, ◌≡◌, ◌≤◌}
 use Rattle.std.proofs.lemmas.List.Folds.{find_at}
-use Rattle.std.proofs.lemmas.List.Sums.{sum_by-cons}
 
 get_past : {X : Type 0} (xs : List X) (i : ℕ) → length xs ≤ i → slice_get xs i ≡ None
 get_past [] i l = refl

@@ -1,10 +1,6 @@
 -- The first row that differs: up to it the rows are the same.
-use Rattle.std.proofs.Common.{◌≡◌, ◌∙◌, ◌≤◌, ℕ, zero, suc, Bool, true, false, cond, List, [], ◌∷◌, take}
-use Rattle.std.proofs.Common.{◌==◌, ap, arith, bytes_eq, refl, sym}
-use Rattle.std.specs.Prelude.{◌&&◌, flat_map}
-use Rattle.std.proofs.lemmas.Bool.{eqb-true}
-use Rattle.std.proofs.lemmas.List.{length-append}
-use Rattle.std.proofs.lemmas.Slice.Eq.{bytes_eq-Decides}
+use Rattle.relink.proofs.Common.{Bool, List, [], ap, arith, bytes_eq, bytes_eq-Decides, cond, eqb-true, false, flat_map}
+use Rattle.relink.proofs.Common.{length-append, refl, suc, sym, take, true, zero, ℕ, ◌&&◌, ◌==◌, ◌∙◌, ◌∷◌, ◌≡◌, ◌≤◌}
 use Rattle.elfobj.specs.declared.section.SectionKind.{SectionKind}
 use Rattle.elfobj.specs.declared.section.SectionKind.TheVariants.{Progbits, Nobits, Note, InitArray, FiniArray}
 use Rattle.elfobj.specs.declared.section.SectionKind.TheVariants.{PreinitArray, Unwind}

@@ -1,25 +1,11 @@
 -- An edit has been followed: its link, what is kept, and the counts.
-use Rattle.std.proofs.Common.{◌≡◌, ◌∙◌, ◌++◌, ℕ, List, Option, Some, None, ap, subst, sym}
-use Rattle.std.specs.Prelude.{IfSome}
-use Rattle.std.proofs.lemmas.Option.{same_Some}
-use Rattle.elfobj.specs.Counts.{Counts}
-use Rattle.relink_driver.specs.Reads.{ReadsNothing}
-use Rattle.relink_driver.specs.StayedSections.{PreviousState}
-use Rattle.symres.specs.decisions.Change.{declared_by}
-use Rattle.symres.specs.decisions.Counted.{CountsNames}
-use Rattle.symres.specs.decisions.declared.change.ObjectChange.{ObjectChange}
-use Rattle.ldmodel_project.specs.ProjectState.{ProjectState, Listing, next_listing, project_of}
-use Rattle.ldmodel_project.specs.Listing.{Listed}
-use Rattle.ldmodel_project.specs.Next.{edited_key}
-use Rattle.ldmodel_project.specs.declared.staged.Staged.{Staged}
-use Rattle.ldmodel_project.specs.declared.staged.StagedObjects.{StagedObjects}
-use Rattle.relink.specs.Change.{IsChange, names_at, names_of_edit, names_of_step}
+use Rattle.relink.proofs.Common.{AreTablesOf, Counts, CountsNames, HasUpdateOutcome, IfSome, IsChange, LinkTables, List}
+use Rattle.relink.proofs.Common.{Listed, Listing, None, ObjectChange, Option, PreviousState, ProjectState, ReadsNothing}
+use Rattle.relink.proofs.Common.{Some, Staged, StagedObjects, UpdateOutcome, ap, declared_by, edited_key, names_at}
+use Rattle.relink.proofs.Common.{names_of_edit, names_of_step, next_listing, project_of, same_Some, subst, sym, ℕ, ◌++◌}
+use Rattle.relink.proofs.Common.{◌∙◌, ◌≡◌}
 use Rattle.relink.specs.Update.{IsUpdated}
-use Rattle.relink.specs.KeptTables.{AreTablesOf}
-use Rattle.relink.specs.PreviousLink.{HasUpdateOutcome}
 use Rattle.relink.specs.Work.{Decides, HasWorked}
-use Rattle.relink.specs.declared.link_tables.LinkTables.{LinkTables}
-use Rattle.relink.specs.declared.previous.UpdateOutcome.{UpdateOutcome}
 use Rattle.relink.proofs.Bounding.{names_link_nothing, worked_from}
 use Rattle.relink.proofs.Working.{decides}
 

@@ -1,33 +1,12 @@
 -- What is kept follows an edit, and goes back.
-use Rattle.std.proofs.Common.{◌≡◌, ◌∙◌, ◌≤◌, ℕ, List, [], ◌∷◌}
-use Rattle.std.proofs.Common.{Option, Some, None, length, map, suc}
-use Rattle.std.proofs.Common.{refl, ap, sym, subst, arith}
-use Rattle.std.specs.List.{AllZip}
-use Rattle.std.specs.Option.{option_map_or}
-use Rattle.std.specs.Prelude.{IfSome, Vec, is_some, unwrap_or}
-use Rattle.std.specs.Global.{Global}
-use Rattle.std.proofs.lemmas.List.{length-map}
-use Rattle.elfobj.specs.Symbols.{NamedSymbol}
-use Rattle.gather.specs.ProjectMatches.{IsMatched}
-use Rattle.gather.specs.declared.matches.Matches.{Matches}
-use Rattle.ldmodel.specs.Names.{symbol_tables}
-use Rattle.ldmodel.specs.Project.{NamedObject, Project}
-use Rattle.symres.specs.decisions.Change.{CanGo, Table, changed_tables, reversed}
-use Rattle.symres.specs.decisions.Decisions.{AreDecisionsOf}
-use Rattle.symres.specs.decisions.declared.change.ObjectAt.{ObjectAt}
-use Rattle.symres.specs.decisions.declared.change.ObjectChange.{ObjectChange}
-use Rattle.symres.specs.SymbolTable.{SymbolTableState}
-use Rattle.ldmodel_project.specs.ProjectState.{ProjectState, Listing, SameHolding, EditsOne, held, listing_of}
-use Rattle.ldmodel_project.specs.ProjectState.{next_listing}
-use Rattle.ldmodel_project.specs.Listing.{Contents, Listed, found_under, keys_of, objects_of}
-use Rattle.ldmodel_project.specs.Next.{next_entries, edited_key}
-use Rattle.ldmodel_project.specs.Tables.{tables_under}
-use Rattle.ldmodel_project.specs.Edited.{IsAmong, ChangesOneObject, unedited}
-use Rattle.ldmodel_project.specs.declared.staged.Staged.{Staged}
-use Rattle.ldmodel_project.specs.declared.staged.StagedObjects.{StagedObjects}
-use Rattle.ldscript.specs.statements.declared.statement.Statement.{Statement}
-use Rattle.relink.specs.Change.{IsChange, place_at}
-use Rattle.relink.specs.KeptTables.{AreTablesOf}
+use Rattle.relink.proofs.Common.{AllZip, AreDecisionsOf, AreTablesOf, CanGo, ChangesOneObject, Contents, EditsOne}
+use Rattle.relink.proofs.Common.{Global, IfSome, IsAmong, IsChange, IsMatched, List, Listed, Listing, Matches}
+use Rattle.relink.proofs.Common.{NamedObject, NamedSymbol, None, ObjectAt, ObjectChange, Option, Project, ProjectState}
+use Rattle.relink.proofs.Common.{SameHolding, Some, Staged, StagedObjects, Statement, SymbolTableState, Table, Vec, []}
+use Rattle.relink.proofs.Common.{ap, arith, changed_tables, edited_key, found_under, held, is_some, keys_of, length}
+use Rattle.relink.proofs.Common.{length-map, listing_of, map, next_entries, next_listing, objects_of, option_map_or}
+use Rattle.relink.proofs.Common.{place_at, refl, reversed, subst, suc, sym, symbol_tables, tables_under, unedited}
+use Rattle.relink.proofs.Common.{unwrap_or, ℕ, ◌∙◌, ◌∷◌, ◌≡◌, ◌≤◌}
 use Rattle.relink.specs.Matches.{IsMatchedOr, Renews, exchanged, gone_at, taken_at}
 use Rattle.relink.proofs.Exchanged.{MayStand, Stands, comes_some, exchanged_back, zip_put, zip_taken}
 use Rattle.relink.proofs.Lists.{zip_length}

@@ -1,23 +1,9 @@
 -- Tables that are made when they are first needed.
-use Rattle.std.proofs.Common.{◌≡◌, ◌∙◌, ℕ, suc, ◌+◌, ◌<◌, List, [], ◌∷◌, length, Option, None, Some, ap, arith}
-use Rattle.std.proofs.Common.{refl, subst, sym}
-use Rattle.std.specs.List.{enumerate_from}
-use Rattle.std.specs.Prelude.{slice_index_or}
-use Rattle.elfobj.specs.Symbols.{NamedSymbol}
-use Rattle.gather.specs.ProjectMatches.{AreMatched}
-use Rattle.gather.specs.declared.matches.Matches.{Matches}
-use Rattle.ldmodel.specs.Names.{symbol_tables}
-use Rattle.ldmodel.specs.Project.{Project}
-use Rattle.ldscript.specs.statements.declared.statement.Statement.{Statement}
-use Rattle.symres.specs.SymbolTable.{SymbolTableState}
-use Rattle.symres.specs.decisions.Decisions.{AreDecisionsOf}
-use Rattle.ldmodel_project.specs.ProjectState.{Listing}
-use Rattle.ldmodel_project.specs.ProjectState.{project_of}
-use Rattle.ldmodel_project.specs.Listing.{Listed, keys_of, objects_of}
-use Rattle.ldmodel_project.specs.Tables.{tables_under}
-use Rattle.relink.specs.Deferred.{AreKeysFrom, HasTables}
-use Rattle.relink.specs.KeptTables.{AreTablesOf}
-use Rattle.relink.specs.declared.link_tables.LinkTables.{LinkTables}
+use Rattle.relink.proofs.Common.{AreDecisionsOf, AreMatched, AreTablesOf, HasTables, LinkTables, List, Listed, Listing}
+use Rattle.relink.proofs.Common.{Matches, NamedSymbol, None, Option, Project, Some, Statement, SymbolTableState, [], ap}
+use Rattle.relink.proofs.Common.{arith, enumerate_from, keys_of, length, objects_of, project_of, refl, slice_index_or}
+use Rattle.relink.proofs.Common.{subst, suc, sym, symbol_tables, tables_under, ℕ, ◌+◌, ◌<◌, ◌∙◌, ◌∷◌, ◌≡◌}
+use Rattle.relink.specs.Deferred.{AreKeysFrom}
 
 pub from_places : (n : ℕ) (ks : List ℕ) → ((k : ℕ) → k < length ks → slice_index_or ks k 0 ≡ n + k)
     → AreKeysFrom n ks

@@ -1,50 +1,23 @@
 -- The previous link without faults beside a next project, and after an edit.
-use Rattle.std.proofs.Common.{◌≡◌, ℕ, Bool, true, false, List, Option, Some, None, Vec, Global, ap, map, refl, sym}
-use Rattle.std.proofs.Common.{◌∙◌, [], arith, length, subst}
-use Rattle.std.specs.List.{position}
-use Rattle.std.specs.Option.{option_map}
-use Rattle.std.specs.Prelude.{◌&&◌, IfSome, is_some, nat_eq, unwrap_or}
-use Rattle.std.proofs.lemmas.List.{length-map}
-use Rattle.std.proofs.lemmas.Option.{same_Some}
-use Rattle.relink_driver.specs.StayedSections.{IsPreviousOf, IsReplaced, PreviousState}
-use Rattle.relink_driver.specs.LinkSnapshot.{IsLinkSnapshot}
-use Rattle.relink_driver.specs.Origins.{AreOrigins}
-use Rattle.ldmodel.specs.Edits.{unnamed}
+use Rattle.relink.proofs.Common.{AreKeysDistinct, AreOrigins, AreOriginsRefreshed, AreTablesOf, Bool, ChangesOneObject}
+use Rattle.relink.proofs.Common.{Contents, EditEffect, Faulty, Global, Good, GoodLink, HasPlaces, HasPreviousImage}
+use Rattle.relink.proofs.Common.{HasUpdateOutcome, IfSome, IsAfterFault, IsAnswered, IsEffect, IsGoodOutcome}
+use Rattle.relink.proofs.Common.{IsInPlaceOutcome, IsLinkSnapshot, IsOfGoodLink, IsPreviousLink, IsPreviousOf}
+use Rattle.relink.proofs.Common.{IsRecorded, IsReplaced, IsRewrittenBy, IsSince, Link, LinkOutcome, List, Listed}
+use Rattle.relink.proofs.Common.{Listing, Matches, NamedObject, Names, None, Option, PreviousLink, PreviousState}
+use Rattle.relink.proofs.Common.{Project, ProjectState, PutsByName, PutsNoneOf, PutsSame, RewrittenInPlace, SameHolding}
+use Rattle.relink.proofs.Common.{Some, Staged, Statement, Step, SymbolTableState, UpdateOutcome, Vec, [], ap, arith}
+use Rattle.relink.proofs.Common.{edited_key, false, found_under, held, is_some, keys_of, length, length-map, lent, link}
+use Rattle.relink.proofs.Common.{listing_of, map, nat_eq, next_found, next_listing, next_view, objects_of, option_map}
+use Rattle.relink.proofs.Common.{origin_of, place_in, position, project_of, refl, replaced_by, replaced_in, same_Some}
+use Rattle.relink.proofs.Common.{shown, stale_key_of, subst, sym, true, unnamed, unwrap_or, without, ℕ, ◌&&◌, ◌∙◌, ◌≡◌}
 use Rattle.ldmodel.specs.Image.{image}
-use Rattle.ldmodel.specs.Link.{Link, link}
 use Rattle.ldmodel.specs.MapText.{map_text}
-use Rattle.ldmodel.specs.Project.{NamedObject, Project}
-use Rattle.ldmodel.specs.Stayed.{GoodLink}
-use Rattle.gather.specs.declared.matches.Matches.{Matches}
-use Rattle.symres.specs.SymbolTable.{SymbolTableState}
-use Rattle.ldmodel_project.specs.ProjectState.{ProjectState, Listing, SameHolding, held, listing_of, next_listing}
-use Rattle.ldmodel_project.specs.ProjectState.{project_of}
-use Rattle.ldmodel_project.specs.Listing.{AreKeysDistinct, Contents, Listed, found_under, keys_of, objects_of}
-use Rattle.ldmodel_project.specs.Next.{CanStep, Fits, next_found, edited_key}
-use Rattle.ldmodel_project.specs.Order.{HasPlaces}
-use Rattle.ldmodel_project.specs.Edited.{ChangesOneObject, place_in}
-use Rattle.ldmodel_project.specs.declared.staged.Staged.{Staged}
-use Rattle.ldmodel_project.specs.declared.staged.Step.{Step}
+use Rattle.ldmodel_project.specs.Next.{CanStep, Fits}
 use Rattle.ldmodel_project.specs.declared.staged.Step.TheVariants.{Put, Remove, Move, Stay}
-use Rattle.ldscript.specs.statements.declared.statement.Statement.{Statement}
-use Rattle.relink_driver.specs.RelinkOutcome.{HasPreviousImage, IsGoodOutcome}
-use Rattle.relink.specs.NameList.{Names}
-use Rattle.relink_driver.specs.InPlace.{IsInPlaceOutcome}
-use Rattle.relink.specs.Outcome.{shown}
-use Rattle.relink.specs.KeptTables.{AreTablesOf}
-use Rattle.relink.specs.PreviousLink.{HasUpdateOutcome, IsOfGoodLink, IsAfterFault, IsAnswered, IsEffect, IsRecorded}
-use Rattle.relink.specs.PreviousLink.{IsPreviousLink}
-use Rattle.relink.specs.PreviousLink.{AreOriginsRefreshed, IsRewrittenBy, IsSince}
-use Rattle.relink.specs.PreviousLink.{PutsByName, PutsNoneOf, PutsSame, lent, lost_key, next_view}
-use Rattle.relink.specs.PreviousLink.{origin_of, replaced_by, replaced_in, without}
-use Rattle.relink.specs.declared.outcome.LinkOutcome.{LinkOutcome}
 use Rattle.relink.specs.declared.outcome.LinkOutcome.TheVariants as outcome
-use Rattle.relink.specs.declared.previous.EditEffect.{EditEffect}
-use Rattle.relink.specs.declared.previous.UpdateOutcome.{UpdateOutcome}
-use Rattle.relink.specs.declared.previous.UpdateOutcome.TheVariants.{Faulty, Good, RewrittenInPlace}
-use Rattle.relink.specs.declared.previous.PreviousLink.{PreviousLink}
 use Rattle.relink.proofs.Putting.{found_counted}
-use Rattle.relink.proofs.Since.{next_put, origins_by_place, since_next, since_places, stands_there, under_key}
+use Rattle.relink.proofs.OriginsFollow.{next_put, origins_by_place, since_next, since_places, stands_there, under_key}
 
 pub same_listing : (old new : ProjectState) → SameHolding old new → listing_of old ≡ listing_of new
 same_listing old new same =
@@ -113,12 +86,12 @@ kept_of l bytes (outcome.Faulty t) x is = is
 pub none_of_last : (h : ProjectState) (s : Staged) (same : Bool) (bytes : List ℕ) (a : LinkOutcome) (x : PreviousLink)
     (e : EditEffect)
     (is : IsPreviousLink (listing_of h) bytes a (Some x)) → IsKnownEdit h s same → IsEffect h s same a (Some x) e
-    → e.puts_none ≡ true → same ≡ false
+    → e.keeps_previous ≡ true → same ≡ false
     → PutsNoneOf (kept_of (listing_of h) bytes a x is).old.project.objects s.objects.step
 none_of_last h s same bytes (outcome.Good m) x e is edit effect known other =
     subst (λ (p : Project). PutsNoneOf p.objects s.objects.step) (sym is.project) (edit.other other)
 none_of_last h s same bytes (outcome.Faulty t) x e is edit effect known other =
-    effect.knows refl known is.old.project.objects is.names is.since
+    effect.lacks_put_object refl known is.old.project.objects is.names is.since
 
 both_true : (a b : Bool) → (a && b) ≡ true → (a ≡ true) × (b ≡ true)
 both_true true b h = (refl, h)
@@ -165,23 +138,24 @@ replaced_right old h s same origin edit since =
 
 -- the origins of what is lent, by the edit
 pub from_edit : (h : ProjectState) (s : Staged) (same : Bool) (x : PreviousLink) (e : EditEffect)
-    → e.lost ≡ lost_key same s.objects.step
-    → (next_view x e h s).from ≡ map (without (origin_of x.origins.items) (lost_key same s.objects.step))
+    → e.stale_key ≡ stale_key_of same s.objects.step
+    → (next_view x e h s).origins ≡ map (without (origin_of x.origins.items) (stale_key_of same s.objects.step))
     (keys_of (next_listing h s).entries)
 from_edit h s same x e gone =
-    ap (λ (lost : Option ℕ). map (without (origin_of x.origins.items) lost) (keys_of (next_listing h s).entries)) gone
+    ap (λ (stale_key : Option ℕ). map (without (origin_of x.origins.items) stale_key)
+    (keys_of (next_listing h s).entries)) gone
 
 -- what is lent is the previous link, for the next project
 pub is_last_of : (h : ProjectState) (s : Staged) (same : Bool) (bytes : List ℕ) (x : PreviousLink)
     (e : EditEffect) (kept : IsOfGoodLink (listing_of h) bytes x) → IsKnownEdit h s same
     → (same ≡ false → PutsNoneOf kept.old.project.objects s.objects.step) → (e.same_script ≡ true → s.script ≡ None)
-    → e.lost ≡ lost_key same s.objects.step
+    → e.stale_key ≡ stale_key_of same s.objects.step
     → IsPreviousOf kept.old (project_of (next_listing h s)) (next_view x e h s)
 is_last_of h s same bytes x e kept edit none script gone =
     let p = project_of (next_listing h s) in
     let es = (next_listing h s).entries in
     let origin : ℕ → Option ℕ = origin_of x.origins.items in
-    let after : ℕ → Option ℕ = without origin (lost_key same s.objects.step) in
+    let after : ℕ → Option ℕ = without origin (stale_key_of same s.objects.step) in
     let since : IsSince kept.old.project.objects after es =
     since_next kept.old.project.objects h.contents.entries es s.objects.step same origin after edit.found kept.since
     edit.puts none (λ key. refl) in
@@ -204,7 +178,7 @@ is_last_of h s same bytes x e kept edit none script gone =
 module _ (h : ProjectState) (s : Staged) (same : Bool) (bytes : List ℕ) (a : LinkOutcome) (e : EditEffect)
     (edit : IsKnownEdit h s same) where
   -- the previous link, where it is lent, is one whose image this is
-  pub last_lent : (previous : Option PreviousLink) (known : Bool) → e.puts_none ≡ known
+  pub last_lent : (previous : Option PreviousLink) (known : Bool) → e.keeps_previous ≡ known
       → IsPreviousLink (listing_of h) bytes a previous → IsEffect h s same a previous e
       → IfSome (lent previous known e h s) (HasPreviousImage (project_of (next_listing h s)) bytes)
   last_lent None known are is effect = tt
@@ -214,14 +188,15 @@ module _ (h : ProjectState) (s : Staged) (same : Bool) (bytes : List ℕ) (a : L
       record {
         old = kept.old;
         is = is_last_of h s same bytes x e kept edit
-            (none_of_last h s same bytes a x e is edit effect are) effect.changed effect.lost;
+            (none_of_last h s same bytes a x e is edit effect are) effect.changed effect.stale_key;
         image = kept.image;
       }
 
   -- it stays the previous link after an edit to a link with faults
-  pub kept_after_fault : (previous after : Option PreviousLink) (known : Bool) → e.puts_none ≡ known
+  pub kept_after_fault : (previous after : Option PreviousLink) (known : Bool) → e.keeps_previous ≡ known
       → IsPreviousLink (listing_of h) bytes a previous → IsEffect h s same a previous e
-      → IsAfterFault known e.lost e.same_script previous after → IfSome after (IsOfGoodLink (next_listing h s) bytes)
+      → IsAfterFault known e.stale_key e.same_script previous after
+      → IfSome after (IsOfGoodLink (next_listing h s) bytes)
   kept_after_fault previous None known are is effect fault = tt
   kept_after_fault previous (Some y) false are is effect fault = absurd (fault)
   kept_after_fault None (Some y) true are is effect fault = absurd (fault)
@@ -234,7 +209,8 @@ module _ (h : ProjectState) (s : Staged) (same : Bool) (bytes : List ℕ) (a : L
         since = since_next kept.old.project.objects h.contents.entries (next_listing h s).entries s.objects.step same
             (origin_of x.origins.items) (origin_of y.origins.items) edit.found kept.since edit.puts
             (none_of_last h s same bytes a x e is edit effect are)
-            (λ key. fault.3 key ∙ ap (λ (lost : Option ℕ). without (origin_of x.origins.items) lost key) effect.lost);
+            (λ key. fault.3 key ∙ ap (λ (stale_key : Option ℕ). without (origin_of x.origins.items) stale_key key)
+            effect.stale_key);
         options = kept.options;
         script = λ stays.
             let both = both_true x.same_script e.same_script (sym fault.2 ∙ stays) in
@@ -287,7 +263,7 @@ followed_again l p keys state bytes origins is keys_are distinct end places foun
 pub ended : (l : Listing) (state : Option PreviousState) (old new : List ℕ) (f : UpdateOutcome) (e : EditEffect)
     (previous after : Option PreviousLink) (b a : LinkOutcome) → HasUpdateOutcome l state old new f
     → IsRecorded f e previous after b a
-    → ((later : Option PreviousLink) → IsAfterFault e.puts_none e.lost e.same_script previous later
+    → ((later : Option PreviousLink) → IsAfterFault e.keeps_previous e.stale_key e.same_script previous later
     → IfSome later (IsOfGoodLink l old))
     → ((v : Vec (Option ℕ) Global) → IsRewrittenBy l state new v.items → AreOriginsRefreshed v previous after
     → (shown new b ≡ link (project_of l)) × IsPreviousLink l new b after)
@@ -310,7 +286,7 @@ ended l state old new (RewrittenInPlace v) e previous after b a updated end kept
 
 -- the previous link with another image is that of the next project
 renewed_with : (h : ProjectState) (s : Staged) (same : Bool) (bytes new : List ℕ) (a : LinkOutcome) (e : EditEffect)
-    (x y : PreviousLink) (v : Vec (Option ℕ) Global) → IsKnownEdit h s same → e.puts_none ≡ true
+    (x y : PreviousLink) (v : Vec (Option ℕ) Global) → IsKnownEdit h s same → e.keeps_previous ≡ true
     → IsPreviousLink (listing_of h) bytes a (Some x) → IsEffect h s same a (Some x) e
     → shown bytes a ≡ link (held h)
     → IsRewrittenBy (next_listing h s) (Some (next_view x e h s)) new v.items
@@ -326,7 +302,7 @@ renewed_with h s same bytes new (outcome.Good m) e x y v edit are is effect answ
     let lent_as : PreviousState = next_view x e h s in
     let of_lent : IsPreviousOf old q lent_as =
     is_last_of h s same bytes x e is.kept edit
-    (none_of_last h s same bytes (outcome.Good m) x e is edit effect are) effect.changed effect.lost in
+    (none_of_last h s same bytes (outcome.Good m) x e is edit effect are) effect.changed effect.stale_key in
     let lent_is : lent_as ≡ by.end.before = same_Some _ _ by.end.was in
     let of_last : IsPreviousOf old q by.end.before = subst (IsPreviousOf old q) lent_is of_lent in
     let map_is : m.items ≡ map_text q by.end.layout =
@@ -354,7 +330,7 @@ renewed_with h s same bytes new (outcome.Good m) e x y v edit are is effect answ
 
 pub renewed_last : (h : ProjectState) (s : Staged) (same : Bool) (bytes new : List ℕ) (a : LinkOutcome) (e : EditEffect)
     (previous after : Option PreviousLink) (known : Bool) (v : Vec (Option ℕ) Global)
-    → IsKnownEdit h s same → e.puts_none ≡ known → IsPreviousLink (listing_of h) bytes a previous
+    → IsKnownEdit h s same → e.keeps_previous ≡ known → IsPreviousLink (listing_of h) bytes a previous
     → IsEffect h s same a previous e → shown bytes a ≡ link (held h)
     → IsRewrittenBy (next_listing h s) (lent previous known e h s) new v.items
     → AreOriginsRefreshed v previous after
@@ -374,15 +350,16 @@ pub ended_after : (h : ProjectState) (s : Staged) (same : Bool) (bytes new : Lis
     (previous after : Option PreviousLink) (f : UpdateOutcome) (later : ProjectState)
     (symbol_table : SymbolTableState) (ms : List Matches) → IsFollowing h s same bytes a previous e
     → shown bytes a ≡ link (held h)
-    → HasUpdateOutcome (next_listing h s) (lent previous e.puts_none e h s) bytes new f
+    → HasUpdateOutcome (next_listing h s) (lent previous e.keeps_previous e h s) bytes new f
     → IsRecorded f e previous after a b → AreTablesOf (next_listing h s) symbol_table ms → listing_of later
     ≡ next_listing h s
     → (shown new b ≡ link (held later)) × AreTablesOf (listing_of later) symbol_table ms
     × IsPreviousLink (listing_of later) new b after
 ended_after h s same bytes new a b e previous after f later symbol_table ms x answers updated end kept is =
-    let both = ended (next_listing h s) (lent previous e.puts_none e h s) bytes new f e previous after a b
-    updated end (λ later. kept_after_fault h s same bytes a e x.edit previous later e.puts_none refl x.kept x.effect)
-    (λ v by renewed. renewed_last h s same bytes new a e previous after e.puts_none v x.edit refl x.kept x.effect
+    let both = ended (next_listing h s) (lent previous e.keeps_previous e h s) bytes new f e previous after a b
+    updated end (λ later. kept_after_fault h s same bytes a e x.edit previous later e.keeps_previous refl x.kept
+    x.effect)
+    (λ v by renewed. renewed_last h s same bytes new a e previous after e.keeps_previous v x.edit refl x.kept x.effect
     answers by renewed) in (
       subst (λ (l : Listing). shown new b ≡ link (project_of l)) (sym is) both.0,
       subst (λ (l : Listing). AreTablesOf l symbol_table ms) (sym is) kept,
@@ -390,7 +367,7 @@ ended_after h s same bytes new a b e previous after f later symbol_table ms x an
     )
 
 -- where there was no previous link, none is kept
-pub none_kept : (l : Listing) (bytes : List ℕ) (lost : Option ℕ) (same_script : Bool) (later : Option PreviousLink)
-    → IsAfterFault true lost same_script None later → IfSome later (IsOfGoodLink l bytes)
-none_kept l bytes lost same_script None is = tt
-none_kept l bytes lost same_script (Some y) is = absurd (is)
+pub none_kept : (l : Listing) (bytes : List ℕ) (stale_key : Option ℕ) (same_script : Bool) (later : Option PreviousLink)
+    → IsAfterFault true stale_key same_script None later → IfSome later (IsOfGoodLink l bytes)
+none_kept l bytes stale_key same_script None is = tt
+none_kept l bytes stale_key same_script (Some y) is = absurd (is)

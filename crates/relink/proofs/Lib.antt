@@ -1,9 +1,10 @@
+pub mod Common
 mod Lists
 mod Exchanged
 mod Changing
 mod Following
 mod Finding
-mod Since
+mod OriginsFollow
 mod Listed
 mod Putting
 mod Succession

@@ -1,11 +1,7 @@
 -- Names that stand in one text.
-use Rattle.std.proofs.Common.{◌≡◌, ◌∙◌, ◌+◌, ◌-◌, ◌≤◌, ◌<◌, ℕ, suc, List, [], ◌∷◌, ◌++◌, arith, ap}
-use Rattle.std.proofs.Common.{drop, get_or, length, refl, sym, take}
-use Rattle.std.proofs.lemmas.List.Sums.{sum_by-cons}
-use Rattle.std.specs.List.{sum_by}
-use Rattle.std.proofs.lemmas.List.{drop-append-le, drop_more, length-drop, take-append-le}
-use Rattle.std.proofs.lemmas.List.{take_all}
-use Rattle.relink.specs.NameList.{names_in}
+use Rattle.relink.proofs.Common.{List, [], ap, arith, drop, drop-append-le, drop_more, get_or, length, length-drop}
+use Rattle.relink.proofs.Common.{names_in, refl, suc, sum_by, sum_by-cons, sym, take, take-append-le, take_all, ℕ, ◌++◌}
+use Rattle.relink.proofs.Common.{◌+◌, ◌-◌, ◌<◌, ◌∙◌, ◌∷◌, ◌≡◌, ◌≤◌}
 
 -- one more name
 pub names_more : (text : List ℕ) (ns : List ℕ) (name : List ℕ) → sum_by (λ (n : ℕ). n) ns ≡ length text

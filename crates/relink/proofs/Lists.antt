@@ -1,8 +1,6 @@
 -- Lists in which one element goes and one comes.
-use Rattle.std.proofs.Common.{◌≡◌, ◌<◌, ◌≤◌, ℕ, zero, suc, List, [], ◌∷◌, Some}
-use Rattle.std.proofs.Common.{length, map, refl, ap, arith}
-use Rattle.std.specs.List.{AllZip, insert, remove}
-use Rattle.std.specs.Prelude.{slice_get}
+use Rattle.relink.proofs.Common.{AllZip, List, Some, [], ap, arith, insert, length, map, refl, remove, slice_get, suc}
+use Rattle.relink.proofs.Common.{zero, ℕ, ◌<◌, ◌∷◌, ◌≡◌, ◌≤◌}
 
 pub remove_insert : {X : Type 0} (xs : List X) (i : ℕ) (y : X) → i ≤ length xs → remove (insert xs i y) i ≡ xs
 remove_insert xs zero y l = refl

@@ -1,25 +1,16 @@
 -- The object that a step puts, beside those that are there.
-use Rattle.std.proofs.Common.{◌≡◌, ◌∙◌, ◌<◌, ◌≤◌, ◌+◌, ℕ, zero, suc, Bool, true, false, List, [], ◌∷◌}
-use Rattle.std.proofs.Common.{Option, Some, None, ap, arith, cond, not, refl, subst, sym}
-use Rattle.std.specs.List.{count_by}
-use Rattle.std.specs.Option.{option_map}
-use Rattle.std.specs.Prelude.{Contains, IfSome, if◌then◌else◌, nat_eq}
-use Rattle.std.proofs.lemmas.Bool.{eq-eqb, eqb-true}
-use Rattle.std.proofs.lemmas.Option.{slice_get-get_or}
-use Rattle.std.specs.Prelude.{slice_get}
+use Rattle.relink.proofs.Common.{AreKeysDistinct, Bool, Contains, IfSome, IsSince, List, Listed, Listing, NamedObject}
+use Rattle.relink.proofs.Common.{None, Option, ProjectState, PutsByName, PutsNoneOf, PutsSame, Some, Staged, Step, []}
+use Rattle.relink.proofs.Common.{ap, arith, cond, count_by, eq-eqb, eqb-true, false, found_under, if◌then◌else◌}
+use Rattle.relink.proofs.Common.{key_count, keys_of, nat_eq, next_found, next_listing, not, objects_of, option_map}
+use Rattle.relink.proofs.Common.{put_under, refl, replaced_by, replaced_in, slice_get, slice_get-get_or, stale_key_of}
+use Rattle.relink.proofs.Common.{subst, suc, sym, true, without, zero, ℕ, ◌+◌, ◌<◌, ◌∙◌, ◌∷◌, ◌≡◌, ◌≤◌}
 use Rattle.relink_driver.specs.Resume.{HasReplaced}
 use Rattle.ldmodel.specs.Edits.{AreNamesDistinct, has_name}
-use Rattle.ldmodel.specs.Project.{NamedObject}
-use Rattle.ldmodel_project.specs.ProjectState.{ProjectState, Listing, next_listing}
-use Rattle.ldmodel_project.specs.Listing.{AreKeysDistinct, Listed, found_under, key_count, keys_of, objects_of}
-use Rattle.ldmodel_project.specs.Next.{Fits, next_found, put_under}
-use Rattle.ldmodel_project.specs.declared.staged.Staged.{Staged}
-use Rattle.ldmodel_project.specs.declared.staged.Step.{Step}
+use Rattle.ldmodel_project.specs.Next.{Fits}
 use Rattle.ldmodel_project.specs.declared.staged.Step.TheVariants.{Put, Remove, Move, Stay}
 use Rattle.relink.proofs.Finding.{counts_head}
-use Rattle.relink.proofs.Since.{found_same, key_at, next_other, next_put, same_bytes, some_same, under_key}
-use Rattle.relink.specs.PreviousLink.{IsSince, PutsByName, PutsNoneOf, PutsSame, lost_key}
-use Rattle.relink.specs.PreviousLink.{replaced_by, replaced_in, without}
+use Rattle.relink.proofs.OriginsFollow.{found_same, key_at, next_other, next_put, same_bytes, some_same, under_key}
 
 -- ---- the object under a key
 
@@ -220,7 +211,7 @@ without_not x false h = h
 -- an object that has none is put
 pub came : (es : List Listed) (step : Step) (same : Bool) (origin : ℕ → Option ℕ) (key : ℕ) (o : NamedObject)
     → (same ≡ true → PutsSame es step) → AllHave es origin → next_found es step key ≡ Some o
-    → without origin (lost_key same step) key ≡ None → put_under step key ≡ Some o
+    → without origin (stale_key_of same step) key ≡ None → put_under step key ≡ Some o
 came es step true origin key o puts have h none =
     absurd (have key o (sym (found_same es step (puts refl) key) ∙ h) none)
 came es (Put new named) false origin key o puts have h none = at (nat_eq key new) refl

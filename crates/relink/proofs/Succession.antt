@@ -1,20 +1,14 @@
 -- A project that follows the previous link at once.
-use Rattle.std.proofs.Common.{◌≡◌, ◌∙◌, ℕ, zero, suc, Bool, true, false, List, [], ◌∷◌, Option, Some, None}
-use Rattle.std.proofs.Common.{ap, map, refl, subst, sym}
-use Rattle.std.specs.List.{position}
-use Rattle.std.specs.Prelude.{Contains, is_some, nat_eq, slice_get, slice_index_or}
-use Rattle.std.proofs.lemmas.Bool.{eq-eqb}
+use Rattle.relink.proofs.Common.{AreKeysDistinct, Bool, Contains, IsSince, List, Listed, NamedObject, None, Option}
+use Rattle.relink.proofs.Common.{PreviousState, Project, PutsByName, PutsSame, ReplacedObjectState, Some, Step, [], ap}
+use Rattle.relink.proofs.Common.{edited_key, eq-eqb, false, found_under, is_some, keys_of, map, nat_eq, next_found}
+use Rattle.relink.proofs.Common.{objects_of, place_in, position, put_under, refl, replaced_in, slice_get}
+use Rattle.relink.proofs.Common.{slice_index_or, stale_key_of, subst, suc, sym, true, without, zero, ℕ, ◌∙◌, ◌∷◌, ◌≡◌}
 use Rattle.relink_driver.specs.Resume.{HasReplaced, IsNext}
-use Rattle.relink_driver.specs.StayedSections.{PreviousState, ReplacedObjectState}
-use Rattle.ldmodel.specs.Project.{NamedObject, Project}
-use Rattle.ldmodel_project.specs.Listing.{AreKeysDistinct, Listed, found_under, keys_of, objects_of}
-use Rattle.ldmodel_project.specs.Next.{next_found, put_under, edited_key}
-use Rattle.ldmodel_project.specs.Edited.{place_in}
-use Rattle.ldmodel_project.specs.declared.staged.Step.{Step}
 use Rattle.relink.proofs.Putting.{all_have, came, replaced_here}
-use Rattle.relink.proofs.Since.{from_none, key_at, other_head, put_touches, rest_distinct, some_same, stands_there}
-use Rattle.relink.proofs.Since.{under_key}
-use Rattle.relink.specs.PreviousLink.{IsSince, PutsByName, PutsSame, lost_key, replaced_in, without}
+use Rattle.relink.proofs.OriginsFollow.{from_none, key_at, other_head, put_touches, rest_distinct, some_same}
+use Rattle.relink.proofs.OriginsFollow.{stands_there}
+use Rattle.relink.proofs.OriginsFollow.{under_key}
 
 -- a key stands at one place
 same_place : (key : ℕ) (keys : List ℕ) (i j : ℕ) → AreKeysDistinct keys → slice_get keys i ≡ Some key
@@ -52,7 +46,8 @@ pub is_next : (old new : Project) (es next : List Listed) (step : Step) (after :
     → ((key : ℕ) → is_some (position (nat_eq key) (keys_of next)) ≡ is_some (found_under next key))
     → after ≡ place_in (keys_of next) (edited_key step) → PutsByName es step → (same ≡ true → PutsSame es step)
     → IsSince old.objects origin es → x.same_script ≡ true
-    → x.from ≡ map (without origin (lost_key same step)) (keys_of next) → x.replaced ≡ replaced_in origin es step after
+    → x.origins ≡ map (without origin (stale_key_of same step)) (keys_of next) → x.replaced
+    ≡ replaced_in origin es step after
     → IsNext old new x
 is_next old new es next step after same origin x were are found distinct placed place by_name puts since script from
     replaced = record {
@@ -62,8 +57,8 @@ is_next old new es next step after same origin x were are found distinct placed 
           sym (ap (λ (os : List NamedObject). slice_get os i) are) ∙ at in
           let key = key_at next i o there in
           let here : found_under next key.0 ≡ Some o = sym (under_key next i key.0 distinct key.1) ∙ there in
-          let lost : without origin (lost_key same step) key.0 ≡ None =
-          sym (from_none (without origin (lost_key same step)) (keys_of next) i key.0 key.1)
+          let lost : without origin (stale_key_of same step) key.0 ≡ None =
+          sym (from_none (without origin (stale_key_of same step)) (keys_of next) i key.0 key.1)
           ∙ (sym (ap (λ (l : List (Option ℕ)). slice_index_or l i None) from) ∙ none) in
           let have = all_have es origin (subst (λ (os : List NamedObject). IsSince os origin es) were since) in
           let put : put_under step key.0 ≡ Some o =

@@ -1,35 +1,22 @@
 -- How much an edit counts.
-use Rattle.std.proofs.Common.{◌≡◌, ◌∙◌, ◌<◌, ◌≤◌, ◌+◌, ◌^◌, ◌++◌, ℕ, Bool, true, false, List, [], ◌∷◌}
-use Rattle.std.proofs.Common.{Option, Some, None, append-nil, ap, arith, cond, get_or, length, map, refl}
-use Rattle.std.proofs.Common.{subst, sym}
-use Rattle.std.specs.List.{count_by, find, insert, remove}
-use Rattle.std.specs.Option.{option_map_or}
-use Rattle.std.specs.Prelude.{Ok, is_some, nat_eq, nat_le, nat_lt, not, slice_get}
-use Rattle.std.proofs.lemmas.Bool.{eq-eqb, leb-false, ltb-false}
-use Rattle.std.proofs.lemmas.List.{length-map, length-set}
-use Rattle.std.proofs.lemmas.List.Edits.{get_or-insert_at, length-insert, length-remove}
+use Rattle.relink.proofs.Common.{Bool, Change, ChangesOneObject, Counts, CountsNames, IsAmong, KeysAreStable, List}
+use Rattle.relink.proofs.Common.{Listed, NamedObject, None, Ok, Option, Project, ProjectState, ReadsNothing, ReadsOne}
+use Rattle.relink.proofs.Common.{Rises, Some, Staged, StandsAsNamed, Table, [], ap, append-nil, arith, bytes_eq-Decides}
+use Rattle.relink.proofs.Common.{capped, cond, count_by, declared_in, declared_names, distinct, edited_key, eq-eqb}
+use Rattle.relink.proofs.Common.{false, find, get_or, get_or-insert_at, held, insert, is_some, key_count, leb-false}
+use Rattle.relink.proofs.Common.{length, length-insert, length-map, length-remove, length-set, ltb-false, map}
+use Rattle.relink.proofs.Common.{named_under, names_at, names_in_objects, names_of_edit, names_of_step, nat_eq, nat_le}
+use Rattle.relink.proofs.Common.{nat_lt, next_entries, next_listing, not, objects_of, objects_read, option_map_or}
+use Rattle.relink.proofs.Common.{project_of, refl, remove, slice_get, subst, sym, symbol_tables, tables_under, true}
+use Rattle.relink.proofs.Common.{unedited, unnamed, ℕ, ◌++◌, ◌+◌, ◌<◌, ◌^◌, ◌∙◌, ◌∷◌, ◌≡◌, ◌≤◌}
 use Rattle.std.proofs.lemmas.List.Quantifiers.{position-Some}
-use Rattle.std.proofs.lemmas.Slice.Eq.{bytes_eq-Decides}
-use Rattle.elfobj.specs.Counts.{Counts, capped}
 use Rattle.elfobj.specs.Raised.{raised}
 use Rattle.elfobj.specs.declared.meter.Count.TheVariants as counts
-use Rattle.ldmodel.specs.Edits.{Add, After, Change, InUse, Move, PastEnd, Refusal, Remove, Replace, SetScript, Unknown}
+use Rattle.ldmodel.specs.Edits.{Add, After, InUse, Move, PastEnd, Refusal, Remove, Replace, SetScript, Unknown}
 use Rattle.ldmodel.specs.Edits.{early_refusal, has_name, is_in_use, moved, new_object, place_of, removed, replaced}
-use Rattle.ldmodel.specs.Edits.{unnamed}
-use Rattle.ldmodel.specs.Names.{distinct, names_in_objects, symbol_tables}
-use Rattle.ldmodel.specs.Project.{NamedObject, Project}
-use Rattle.ldmodel.specs.SessionWork.{Rises, named_by, names_by_script, names_of, objects_read, touched_names}
-use Rattle.symres.specs.decisions.Change.{Table}
-use Rattle.symres.specs.decisions.Counted.{CountsNames, declared_in, declared_names}
-use Rattle.ldmodel_project.specs.ProjectState.{ProjectState, ReadsOne, StandsAsNamed, held, next_listing, project_of}
-use Rattle.ldmodel_project.specs.Listing.{Listed, key_count, objects_of}
-use Rattle.ldmodel_project.specs.Next.{Fits, KeysAreStable, named_under, next_entries, edited_key}
+use Rattle.ldmodel.specs.SessionWork.{named_by, names_by_script, names_of, touched_names}
+use Rattle.ldmodel_project.specs.Next.{Fits}
 use Rattle.ldmodel_project.specs.Staging.{EditsNamed}
-use Rattle.ldmodel_project.specs.Tables.{tables_under}
-use Rattle.ldmodel_project.specs.Edited.{IsAmong, ChangesOneObject, unedited}
-use Rattle.ldmodel_project.specs.declared.staged.Staged.{Staged}
-use Rattle.relink_driver.specs.Reads.{ReadsNothing}
-use Rattle.relink.specs.Change.{names_at, names_of_edit, names_of_step}
 use Rattle.relink.specs.Work.{AreSmall, Decides, IsReadingWork, decided_by}
 use Rattle.relink.proofs.Finding.{any_none, find_none, find_only, find_some, get_insert, inserted_counts}
 use Rattle.relink.proofs.Finding.{same_inserted}

@@ -100,13 +100,13 @@ PutsByName es (Move moved) = Unit {0}
 PutsByName es Stay = Unit {0}
 
 -- the key under which an object comes or goes; none where the same one comes
-abbrev pub lost_key : Bool → Step → Option ℕ
-lost_key true step = None
-lost_key false step = changed_key step
+abbrev pub stale_key_of : Bool → Step → Option ℕ
+stale_key_of true step = None
+stale_key_of false step = changed_key step
 
 -- the same origins, but for one key
 abbrev pub without : (ℕ → Option ℕ) → Option ℕ → ℕ → Option ℕ
-without origin lost key = if is_other lost key then origin key else None
+without origin stale_key key = if is_other stale_key key then origin key else None
 
 -- the previous link is that of the project, with another image, and these are the origins of its objects
 pub record IsRewrittenBy (l : Listing) (previous : Option PreviousState) (bytes : List ℕ) (origins : List (Option ℕ))
@@ -124,8 +124,8 @@ HasUpdateOutcome l previous old new (Good x m) =
 HasUpdateOutcome l previous old new (RewrittenInPlace origins) = IsRewrittenBy l previous new origins.items
 
 -- the object that an edit puts is none of the link
-abbrev pub Knows : PreviousLink → List Listed → Step → Type 0
-Knows x es step =
+abbrev pub LacksPutObject : PreviousLink → List Listed → Step → Type 0
+LacksPutObject x es step =
     (old : List NamedObject) → x.names.names ≡ map (λ (object : NamedObject). object.name) old
     → IsSince old (origin_of x.origins.items) es → PutsNoneOf old step
 
@@ -134,12 +134,12 @@ pub record IsEffect (state : ProjectState) (s : Staged) (same : Bool) (a : LinkO
     (e : EditEffect)
     : Type 0 where
   -- where the answer has no faults, what comes is known to be none of the previous link's objects
-  pub current : is_good a ≡ true → e.puts_none ≡ true
+  pub current : is_good a ≡ true → e.keeps_previous ≡ true
   -- where it has faults, what is known to be none of them is none of them
-  pub knows : is_good a ≡ false → e.puts_none ≡ true
-      → IfSome previous (λ x. Knows x state.contents.entries s.objects.step)
+  pub lacks_put_object : is_good a ≡ false → e.keeps_previous ≡ true
+      → IfSome previous (λ x. LacksPutObject x state.contents.entries s.objects.step)
   -- the key that has no origin any more is the one under which an object comes or goes
-  pub lost : e.lost ≡ lost_key same s.objects.step
+  pub stale_key : e.stale_key ≡ stale_key_of same s.objects.step
   -- the previous link is the one that is answered where the answer has no faults
   pub answered : e.is_answered ≡ is_good a
   -- where the script is said to stay, the edit leaves it
@@ -153,7 +153,7 @@ replaced_by None object new = None
 replaced_by (Some old) None new = None
 replaced_by (Some old) (Some object) None = None
 replaced_by (Some old) (Some object) (Some new) =
-    Some (record { old = record { 0 = old }; object = object; new = record { 0 = new } })
+    Some (record { old_place = record { 0 = old }; old_object = object; new_place = record { 0 = new } })
 
 abbrev pub object_under : List Listed → ℕ → Option ObjectData
 object_under es key = option_map (λ (object : NamedObject). object.object) (found_under es key)
@@ -170,7 +170,7 @@ abbrev pub view_for : List ℕ → PreviousLink → EditEffect → Option Replac
 view_for keys x e replaced = record {
   snapshot = x.snapshot;
   objects = length x.names.names;
-  from = map (without (origin_of x.origins.items) e.lost) keys;
+  origins = map (without (origin_of x.origins.items) e.stale_key) keys;
   same_script = x.same_script && e.same_script;
   replaced = replaced;
   is_answered = e.is_answered;
@@ -184,7 +184,7 @@ next_view x e h s =
 
 -- the effect of no edit, on a link that is not that of the project
 abbrev pub nothing_edited : EditEffect
-nothing_edited = record { puts_none = true; lost = None; same_script = true; is_answered = false }
+nothing_edited = record { keeps_previous = true; stale_key = None; same_script = true; is_answered = false }
 
 -- the previous link as a project takes it that is linked some edits later
 abbrev pub lent_later : Option PreviousLink → (keys : List ℕ) → Option PreviousState
@@ -206,19 +206,19 @@ lent_of x = option_map lent_state x
 
 -- the origins of the objects of the next project, if a previous link is lent
 abbrev pub AreOriginsFor : Option PreviousState → List (Option ℕ) → Type 0
-AreOriginsFor previous from = IfSome previous (λ x. from ≡ x.from)
+AreOriginsFor previous origins = IfSome previous (λ x. origins ≡ x.origins)
 
 -- after an edit to a link with faults: the previous link stays, without the origin of this key, and the script may have
 -- changed; it goes, where it isn't known to have none of what came
 abbrev pub IsAfterFault : Bool → Option ℕ → Bool → (old new : Option PreviousLink) → Type 0
-IsAfterFault false lost same_script old None = ⊤
-IsAfterFault false lost same_script old (Some y) = ⊥
-IsAfterFault true lost same_script None None = ⊤
-IsAfterFault true lost same_script None (Some y) = ⊥
-IsAfterFault true lost same_script (Some x) None = ⊥
-IsAfterFault true lost same_script (Some x) (Some y) =
+IsAfterFault false stale_key same_script old None = ⊤
+IsAfterFault false stale_key same_script old (Some y) = ⊥
+IsAfterFault true stale_key same_script None None = ⊤
+IsAfterFault true stale_key same_script None (Some y) = ⊥
+IsAfterFault true stale_key same_script (Some x) None = ⊥
+IsAfterFault true stale_key same_script (Some x) (Some y) =
     (y.snapshot ≡ x.snapshot) × (y.names ≡ x.names) × (y.same_script ≡ (x.same_script && same_script))
-    × ((key : ℕ) → origin_of y.origins.items key ≡ without (origin_of x.origins.items) lost key)
+    × ((key : ℕ) → origin_of y.origins.items key ≡ without (origin_of x.origins.items) stale_key key)
 
 -- the previous link stays, if there is one, and its objects have these origins
 abbrev pub AreOriginsRefreshed : Vec (Option ℕ) Global → (old new : Option PreviousLink) → Type 0
@@ -232,6 +232,6 @@ AreOriginsRefreshed v (Some x) (Some y) =
 abbrev pub IsRecorded : UpdateOutcome → EditEffect → (old new : Option PreviousLink) → (before after : LinkOutcome)
     → Type 0
 IsRecorded (Faulty text) e old new b a =
-    (a ≡ outcome.Faulty text) × IsAfterFault e.puts_none e.lost e.same_script old new
+    (a ≡ outcome.Faulty text) × IsAfterFault e.keeps_previous e.stale_key e.same_script old new
 IsRecorded (Good x m) e old new b a = (a ≡ outcome.Good m) × (new ≡ Some x)
 IsRecorded (RewrittenInPlace origins) e old new b a = (a ≡ b) × AreOriginsRefreshed origins old new

@@ -14,7 +14,7 @@ ghost use Rattle.relink.specs.PreviousLink.{IsOfGoodLink, IsPreviousLink};
 ghost use Rattle.relink.specs.Work.{HasPlacedWork};
 
 use crate::counts::counts_fit;
-use crate::lazy_tables::{follow_if_made, tables_of_next, tables_of_project};
+use crate::lazy_tables::{Means, follow_if_made, tables_of_next, tables_of_project};
 use crate::lent_link::{lend_later, lend_previous, no_effect};
 use crate::link_tables::LinkTables;
 use crate::outcome::LinkOutcome;
@@ -23,8 +23,8 @@ use crate::previous::{
 };
 use crate::session_link::{link_committed, link_next};
 use crate::unchanged::{is_unchanged, puts_same};
-use ldmodel::edit::{Edit, EditRefusal, Linked};
-use ldmodel::memory::NoMemory;
+use growth::NoMemory;
+use ldmodel::edit::{Edit, EditRefusal, LinkSummary};
 use ldmodel::meter::Meter;
 use ldmodel_deferred::linker::DeferredLinker;
 use ldmodel_project::law::found_where_placed;
@@ -32,9 +32,26 @@ use ldmodel_project::project::Project;
 use ldmodel_project::staged::Staged;
 use relink_driver::Canvas;
 use std::alloc::Global;
-use std::hash::RandomState;
 use std::marker::Model;
 use symres::decisions::law::{distinct_more, names_of_objects};
+
+/// The last link, where there may be edits after it.
+#[derive(Drop)]
+pub(crate) struct LastLink {
+    // the last link without faults, whose image is on the canvas
+    pub(crate) previous: Option<PreviousLink>,
+    pub(crate) outcome: LinkOutcome,
+    // whether it is the link of the project, without a staged edit
+    pub(crate) is_linked: bool,
+}
+
+/// The previous link as a staged edit sees it, with an outcome that is good only if that is the link of the project
+/// before the edit.
+#[derive(Clone, Copy)]
+struct SeenLink<'a> {
+    previous: &'a Option<PreviousLink>,
+    outcome: &'a LinkOutcome,
+}
 
 /// A linker that keeps what a `Session` keeps, and links when it is asked. The tables of names and matches follow each
 /// edit at once, once they are made: while a project is opened there are none, so that opening it is one link. The last
@@ -42,21 +59,15 @@ use symres::decisions::law::{distinct_more, names_of_objects};
 /// one edit, as in a `Session`.
 #[derive(Drop)]
 pub struct DeferredSession {
-    pub(crate) alloc: Global,
+    pub(crate) means: Means,
     // the project without `staged`
     pub(crate) project: Project,
     // the last edit, unless it is linked
     pub(crate) staged: Option<Staged>,
-    pub(crate) seed: RandomState,
     // of the project with `staged`; none while its objects are only added at the end, until the first link
     pub(crate) tables: Option<LinkTables>,
-    // the last link without faults, whose image is on the canvas
-    pub(crate) previous: Option<PreviousLink>,
     pub(crate) canvas: Canvas,
-    // of the last link
-    pub(crate) outcome: LinkOutcome,
-    // whether the last link is that of `project`
-    pub(crate) is_linked: bool,
+    pub(crate) last_link: LastLink,
 }
 
 impl Model for DeferredSession {
@@ -83,8 +94,10 @@ impl Model for DeferredSession {
 
     ghost invariant = { λ s. HasStaged s.project s.staged
         × HasTables (staged_listing s.project s.staged) s.tables
-        × IsLastGood s.is_linked (listing_of s.project) s.canvas.bytes s.outcome s.previous
-        × (s.is_linked ≡ true → shown s.canvas.bytes s.outcome ≡ link (held s.project)) };
+        × IsLastGood s.last_link.is_linked (listing_of s.project) s.canvas.bytes s.last_link.outcome
+        s.last_link.previous
+        × (s.last_link.is_linked ≡ true
+        → shown s.canvas.bytes s.last_link.outcome ≡ link (held s.project)) };
 }
 
 /// The outcome of the last link as an edit sees it: where that link is not of the project before the edit, one that
@@ -148,28 +161,26 @@ fn commit_staged_unlinked(
 
 /// Links the project of a staged edit over the previous link. Fails if memory runs out: then the canvas is as it was.
 fn link_staged(
-    alloc: Global,
+    means: Means,
     project: &Project,
     staged: &Staged,
-    seed: RandomState,
     tables: &mut Option<LinkTables>,
-    previous: &Option<PreviousLink>,
-    seen: &LinkOutcome,
+    seen: SeenLink<'_>,
     canvas: &mut Canvas,
     meter: &mut Meter,
 ) -> Result<(UpdateOutcome, EditEffect), NoMemory>
     requires staged { IsStaged project.now staged.now }
     requires tables { HasTables (next_listing project.now staged.now) tables.old }
-    requires previous { IsPreviousLink (listing_of project.now) canvas.old.bytes seen.now previous.now }
+    requires previous { IsPreviousLink (listing_of project.now) canvas.old.bytes seen.outcome.now seen.previous.now }
     ensures tables { HasTables (next_listing project.now staged.now) tables.new }
-    ensures updated { IfOk result (λ both. IsUpdatedOver project.now staged.now canvas.old.bytes seen.now previous.now
-        canvas.new.bytes both.0 both.1) }
+    ensures updated { IfOk result (λ both. IsUpdatedOver project.now staged.now canvas.old.bytes seen.entry.outcome.now
+        seen.entry.previous.now canvas.new.bytes both.0 both.1) }
     ensures unchanged { OnErr result (canvas.new.bytes ≡ canvas.old.bytes) }
     ensures made { OnOk result (is_some tables.new ≡ true) }
     ensures reads { OnOk result (is_some tables.old ≡ true → ReadsNothing meter.old meter.new) }
     ensures counted { OnOk result (is_some tables.old ≡ true → (change : Change)
         → (keeps_script change ≡ true → staged.now.script ≡ None)
-        → shown canvas.old.bytes seen.now ≡ link (held project.now)
+        → shown canvas.old.bytes seen.entry.outcome.now ≡ link (held project.now)
         → HasPlacedWork (held project.now) change (project_of (next_listing project.now staged.now))
         meter.old meter.new) }
 {
@@ -180,10 +191,17 @@ fn link_staged(
     let same = puts_same(project, staged);
     let next = project.next(staged);
     let keys = next.keys();
-    let (effect, previous) = lend_previous(previous, seen, project, staged, same, keys);
-    let mut made = tables_of_next(alloc, seed, &next, tables.take(), meter)?;
+    let (effect, previous) = lend_previous(
+        seen.previous,
+        seen.outcome,
+        project,
+        staged,
+        same,
+        keys,
+    );
+    let mut made = tables_of_next(means, &next, tables.take(), meter)?;
     let updated = link_next(
-        alloc,
+        means.alloc,
         &next,
         &mut made.symbol_table,
         &made.matches,
@@ -194,7 +212,7 @@ fn link_staged(
     *tables = Some(made);
     match updated {
         Ok(updated) => Ok((updated, effect)),
-        Err(refused) => Err(refused),
+        Err(no_memory) => Err(no_memory),
     }
 }
 
@@ -209,47 +227,46 @@ fn is_up_to_date(is_linked: bool, tables: &Option<LinkTables>) -> bool
 /// Links a project without a staged edit: nothing is done if the last link is its own; else it is linked over the
 /// previous one. Fails if memory runs out: then nothing has changed.
 fn link_unstaged(
-    alloc: Global,
+    means: Means,
     project: &Project,
-    seed: RandomState,
     tables: &mut Option<LinkTables>,
-    previous: &mut Option<PreviousLink>,
-    outcome: &mut LinkOutcome,
-    is_linked: &mut bool,
+    last: &mut LastLink,
     canvas: &mut Canvas,
     meter: &mut Meter,
 ) -> Result<(), NoMemory>
     requires tables { HasTables (listing_of project.now) tables.old }
-    requires last { IsLastGood is_linked.old (listing_of project.now) canvas.old.bytes outcome.old previous.old }
-    requires answers { is_linked.old ≡ true → shown canvas.old.bytes outcome.old ≡ link (held project.now) }
+    requires last { IsLastGood last.old.is_linked (listing_of project.now) canvas.old.bytes last.old.outcome
+        last.old.previous }
+    requires answers { last.old.is_linked ≡ true
+        → shown canvas.old.bytes last.old.outcome ≡ link (held project.now) }
     ensures tables { HasTables (listing_of project.now) tables.new }
-    ensures linked { OnOk result (is_linked.new ≡ true) }
-    ensures answers { OnOk result (shown canvas.new.bytes outcome.new ≡ link (held project.now)) }
-    ensures last { OnOk result (IsPreviousLink (listing_of project.now) canvas.new.bytes outcome.new previous.new) }
+    ensures linked { OnOk result (last.new.is_linked ≡ true) }
+    ensures answers { OnOk result (shown canvas.new.bytes last.new.outcome ≡ link (held project.now)) }
+    ensures last { OnOk result (IsPreviousLink (listing_of project.now) canvas.new.bytes last.new.outcome
+        last.new.previous) }
     ensures canvas { OnErr result (canvas.new.bytes ≡ canvas.old.bytes) }
-    ensures unchanged { OnErr result ((is_linked.new ≡ is_linked.old) × (outcome.new ≡ outcome.old)
-        × (previous.new ≡ previous.old)) }
+    ensures unchanged { OnErr result (last.new ≡ last.old) }
     ensures made { OnOk result (is_some tables.new ≡ true) }
     ensures reads { OnOk result (is_some tables.old ≡ true → ReadsNothing meter.old meter.new) }
-    ensures counted { is_linked.old ≡ true → is_some tables.old ≡ true → meter.new ≡ meter.old }
+    ensures counted { last.old.is_linked ≡ true → is_some tables.old ≡ true → meter.new ≡ meter.old }
 {
-    if is_up_to_date(*is_linked, tables) {
+    if is_up_to_date(last.is_linked, tables) {
         return Ok(());
     }
-    let mut made = tables_of_project(alloc, seed, project, tables.take(), meter)?;
+    let mut made = tables_of_project(means, project, tables.take(), meter)?;
     let updated = link_committed(
-        alloc,
+        means.alloc,
         project,
         &mut made.symbol_table,
         &made.matches,
-        lend_later(previous, project.keys()),
+        lend_later(&last.previous, project.keys()),
         canvas,
         meter,
     );
     *tables = Some(made);
     let updated = updated?;
-    record_outcome(updated, previous, outcome, no_effect());
-    *is_linked = true;
+    record_outcome(updated, &mut last.previous, &mut last.outcome, no_effect());
+    last.is_linked = true;
     Ok(())
 }
 
@@ -279,27 +296,20 @@ impl DeferredSession {
         // for the prover: brings in that the counts fit a u64
         counts_fit(meter);
         commit_staged_unlinked(
-            self.alloc,
+            self.means.alloc,
             &mut self.project,
             &mut self.staged,
-            &mut self.previous,
-            &self.outcome,
-            &mut self.is_linked,
+            &mut self.last_link.previous,
+            &self.last_link.outcome,
+            &mut self.last_link.is_linked,
         );
         let staged = self.project.stage(edit, meter)?;
         let same = puts_same(&self.project, &staged);
         if is_unchanged(&self.project, &staged, same) {
             return Ok(());
         }
-        match follow_if_made(
-            self.alloc,
-            self.seed,
-            &self.project,
-            &staged,
-            &mut self.tables,
-            meter,
-        ) {
-            Err(_) => Err(EditRefusal::NoMemory),
+        match follow_if_made(self.means, &self.project, &staged, &mut self.tables, meter) {
+            Err(no_memory) => Err(EditRefusal::NoMemory(no_memory)),
             Ok(()) => {
                 self.staged = Some(staged);
                 Ok(())
@@ -312,7 +322,7 @@ impl DeferredSession {
     /// # Errors
     ///
     /// If memory runs out; the last link stays.
-    pub fn link_now(&mut self, meter: &mut Meter) -> Result<Linked, NoMemory>
+    pub fn link_now(&mut self, meter: &mut Meter) -> Result<LinkSummary, NoMemory>
         ensures linked { IfOk result (λ l. l ≡ linked_of (link self.old.project)) }
         ensures last { OnOk result (self.new.last ≡ link self.old.project) }
         ensures unlinked { OnErr result (self.new.last ≡ self.old.last) }
@@ -323,39 +333,44 @@ impl DeferredSession {
     {
         let Some(staged) = self.staged.take() else {
             link_unstaged(
-                self.alloc,
+                self.means,
                 &self.project,
-                self.seed,
                 &mut self.tables,
-                &mut self.previous,
-                &mut self.outcome,
-                &mut self.is_linked,
+                &mut self.last_link,
                 &mut self.canvas,
                 meter,
             )?;
-            return Ok(self.outcome.summary(&self.canvas));
+            return Ok(self.last_link.outcome.summary(&self.canvas));
         };
-        let stale = LinkOutcome::Faulty(Vec::new(self.alloc));
+        let last = &self.last_link;
+        let stale = LinkOutcome::Faulty(Vec::new(self.means.alloc));
+        let seen = SeenLink {
+            previous: &last.previous,
+            outcome: seen(last.is_linked, &last.outcome, &stale),
+        };
         match link_staged(
-            self.alloc,
+            self.means,
             &self.project,
             &staged,
-            self.seed,
             &mut self.tables,
-            &self.previous,
-            seen(self.is_linked, &self.outcome, &stale),
+            seen,
             &mut self.canvas,
             meter,
         ) {
-            Err(refused) => {
+            Err(no_memory) => {
                 self.staged = Some(staged);
-                Err(refused)
+                Err(no_memory)
             }
             Ok((updated, effect)) => {
                 self.project.commit(staged);
-                record_outcome(updated, &mut self.previous, &mut self.outcome, effect);
-                self.is_linked = true;
-                Ok(self.outcome.summary(&self.canvas))
+                record_outcome(
+                    updated,
+                    &mut self.last_link.previous,
+                    &mut self.last_link.outcome,
+                    effect,
+                );
+                self.last_link.is_linked = true;
+                Ok(self.last_link.outcome.summary(&self.canvas))
             }
         }
     }
@@ -370,23 +385,23 @@ impl DeferredLinker for DeferredSession {
         self.stage_edit(edit, meter)
     }
 
-    fn make_link(&mut self, meter: &mut Meter) -> Result<Linked, NoMemory> {
+    fn make_link(&mut self, meter: &mut Meter) -> Result<LinkSummary, NoMemory> {
         self.link_now(meter)
     }
 
     fn image(&self) -> &[u8] {
-        self.outcome.image(&self.canvas)
+        self.last_link.outcome.image(&self.canvas)
     }
 
     fn map(&self) -> &[u8] {
-        self.outcome.map()
+        self.last_link.outcome.map()
     }
 
     fn faults(&self) -> &[u8] {
-        self.outcome.faults()
+        self.last_link.outcome.faults()
     }
 
     fn status(&self) -> u8 {
-        self.outcome.status()
+        self.last_link.outcome.status()
     }
 }

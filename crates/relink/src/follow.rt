@@ -11,7 +11,7 @@ ghost use Rattle.relink.specs.Update.{CanUpdate};
 use crate::change::{object_change, place_of};
 use crate::link_tables::{IncomingChange, LinkTables, forget_if};
 use crate::match_table::{matches_if_other, put_new, swap_matches};
-use ldmodel::memory::NoMemory;
+use growth::NoMemory;
 use ldmodel::meter::Meter;
 use ldmodel::names::ObjectKey;
 use ldmodel_project::project::Project;

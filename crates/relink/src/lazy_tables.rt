@@ -10,7 +10,7 @@ ghost use Rattle.relink.specs.KeptTables.{AreTablesOf};
 
 use crate::link_tables::LinkTables;
 use gather::matches::match_all;
-use ldmodel::memory::NoMemory;
+use growth::NoMemory;
 use ldmodel::meter::Meter;
 use ldmodel_project::project::{Next, Project};
 use ldmodel_project::staged::Staged;
@@ -19,6 +19,15 @@ use std::alloc::Global;
 use std::collections::VecDeque;
 use std::hash::RandomState;
 use symres::SymbolTable;
+
+/// What tables are made with.
+#[derive(Clone, Copy)]
+pub(crate) struct Means {
+    /// The allocator.
+    pub(crate) alloc: Global,
+    /// The seed of hash tables, on which no answer depends.
+    pub(crate) seed: RandomState,
+}
 
 /// Whether each key is the place at which it stands, from 0.
 pub(crate) fn are_places(keys: &[usize]) -> bool
@@ -34,16 +43,21 @@ pub(crate) fn are_places(keys: &[usize]) -> bool
 
 /// The tables of a project from nothing, whose objects have their places as keys. Fails if memory runs out.
 fn tables_of_view(
-    alloc: Global,
-    seed: RandomState,
+    means: Means,
     project: &ProjectView<'_>,
     meter: &mut Meter,
 ) -> Result<LinkTables, NoMemory>
     ensures { IfOk result (λ tables. (l : Listing) → project.now ≡ project_of l → AreKeysFrom 0 (keys_of l.entries)
         → AreTablesOf l tables.symbol_table tables.matches.items) }
 {
-    let symbol_table = SymbolTable::of(alloc, seed, project.inputs(), project.script(), meter)?;
-    let matches = match_all(alloc, project)?;
+    let symbol_table = SymbolTable::of(
+        means.alloc,
+        means.seed,
+        project.inputs(),
+        project.script(),
+        meter,
+    )?;
+    let matches = match_all(means.alloc, project)?;
     Ok(LinkTables {
         symbol_table,
         matches: VecDeque::from_vec(matches),
@@ -52,8 +66,7 @@ fn tables_of_view(
 
 /// The tables of a project: those that are there, or new ones. Fails if memory runs out: then there were none.
 pub(crate) fn tables_of_project(
-    alloc: Global,
-    seed: RandomState,
+    means: Means,
     project: &Project,
     tables: Option<LinkTables>,
     meter: &mut Meter,
@@ -66,17 +79,16 @@ pub(crate) fn tables_of_project(
     match tables {
         Some(tables) => Ok(tables),
         None => {
-            let inputs = project.inputs(alloc)?;
+            let inputs = project.inputs(means.alloc)?;
             let view = project.view(&inputs);
-            tables_of_view(alloc, seed, &view, meter)
+            tables_of_view(means, &view, meter)
         }
     }
 }
 
 /// The same of the project that a staged edit leads to.
 pub(crate) fn tables_of_next(
-    alloc: Global,
-    seed: RandomState,
+    means: Means,
     next: &Next<'_>,
     tables: Option<LinkTables>,
     meter: &mut Meter,
@@ -89,9 +101,9 @@ pub(crate) fn tables_of_next(
     match tables {
         Some(tables) => Ok(tables),
         None => {
-            let inputs = next.inputs(alloc)?;
+            let inputs = next.inputs(means.alloc)?;
             let view = next.view(&inputs);
-            tables_of_view(alloc, seed, &view, meter)
+            tables_of_view(means, &view, meter)
         }
     }
 }
@@ -103,8 +115,7 @@ pub(crate) fn tables_of_next(
 ///
 /// If memory runs out. The tables are then those of the project before the edit.
 pub(crate) fn follow_if_made(
-    alloc: Global,
-    seed: RandomState,
+    means: Means,
     project: &Project,
     staged: &Staged,
     tables: &mut Option<LinkTables>,
@@ -123,8 +134,8 @@ pub(crate) fn follow_if_made(
     if tables.is_none() && are_places(next.keys()) {
         return Ok(());
     }
-    let mut made = tables_of_project(alloc, seed, project, tables.take(), meter)?;
-    let followed = made.follow(alloc, project, staged, meter);
+    let mut made = tables_of_project(means, project, tables.take(), meter)?;
+    let followed = made.follow(means.alloc, project, staged, meter);
     *tables = Some(made);
     followed
 }

@@ -7,7 +7,7 @@ ghost use Rattle.relink.specs.PreviousLink.{IsEffect, lent, lent_later, lent_of,
 
 use crate::outcome::LinkOutcome;
 use crate::previous::{EditEffect, PreviousLink, effect_of};
-use ldmodel::memory::NoMemory;
+use growth::NoMemory;
 use ldmodel_project::project::Project;
 use ldmodel_project::staged::Staged;
 use relink_driver::stayed_sections::{PreviousView, ReplacedObject};
@@ -33,20 +33,21 @@ impl<'a> LentLink<'a> {
     /// The origins of the objects of the next project, in their order; an object that the edit puts has none. Fails
     /// if memory runs out.
     pub(crate) fn origins(&self, alloc: Global) -> Result<Vec<Option<usize>>, NoMemory>
-        ensures { IfOk result (λ from. from.items ≡ (lent_state self.now).from) }
+        ensures { IfOk result (λ origins. origins.items ≡ (lent_state self.now).origins) }
     {
-        self.previous.origins_of(alloc, self.keys, self.effect.lost)
+        self.previous
+            .origins_of(alloc, self.keys, self.effect.stale_key)
     }
 
-    /// The previous link as the next one sees it. `from` are the origins of the objects of the next project.
-    pub(crate) fn view(&self, from: &'a [Option<usize>]) -> PreviousView<'a>
-        requires { from.now ≡ (lent_state self.now).from }
+    /// The previous link as the next one sees it. `origins` are those of the objects of the next project.
+    pub(crate) fn view(&self, origins: &'a [Option<usize>]) -> PreviousView<'a>
+        requires { origins.now ≡ (lent_state self.now).origins }
         ensures { previous_state result ≡ lent_state self.now }
     {
         PreviousView {
             snapshot: &self.previous.snapshot,
             objects: self.previous.names.len(),
-            from,
+            origins,
             same_script: self.previous.same_script && self.effect.same_script,
             replaced: self.replaced,
             is_answered: self.effect.is_answered,
@@ -63,10 +64,10 @@ fn lend<'a>(
     keys: &'a [usize],
 ) -> Option<LentLink<'a>>
     requires { keys.now ≡ keys_of (next_listing project.now staged.now).entries }
-    ensures { lent_of result ≡ lent previous.now effect.puts_none effect project.now staged.now }
+    ensures { lent_of result ≡ lent previous.now effect.keeps_previous effect project.now staged.now }
 {
     match previous {
-        Some(previous) if effect.puts_none => Some(LentLink {
+        Some(previous) if effect.keeps_previous => Some(LentLink {
             previous,
             effect,
             replaced: previous.replaced(project, staged),
@@ -89,7 +90,7 @@ pub(crate) fn lend_previous<'a>(
 ) -> (EditEffect, Option<LentLink<'a>>)
     requires { keys.now ≡ keys_of (next_listing project.now staged.now).entries }
     ensures effect { IsEffect project.now staged.now same outcome.now previous.now result.0 }
-    ensures lent { lent_of result.1 ≡ lent previous.now result.0.puts_none result.0 project.now staged.now }
+    ensures lent { lent_of result.1 ≡ lent previous.now result.0.keeps_previous result.0 project.now staged.now }
 {
     let effect = effect_of(previous, outcome, project, staged, same);
     (effect, lend(previous, effect, project, staged, keys))
@@ -100,8 +101,8 @@ pub(crate) fn no_effect() -> EditEffect
     ensures { result ≡ nothing_edited }
 {
     EditEffect {
-        puts_none: true,
-        lost: None,
+        keeps_previous: true,
+        stale_key: None,
         same_script: true,
         is_answered: false,
     }

@@ -31,7 +31,7 @@ mod unchanged;
 
 pub use crate::deferred::DeferredSession;
 pub use crate::session::Session;
-pub use ldmodel::edit::{Edit, EditRefusal, Linked};
+pub use ldmodel::edit::{Edit, EditRefusal, LinkSummary};
 pub use ldmodel::linker::Linker;
 pub use ldmodel::options::{Options, Orphans};
 pub use ldmodel_deferred::linker::DeferredLinker;

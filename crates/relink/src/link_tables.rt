@@ -15,7 +15,7 @@ use crate::match_table::{match_under, matches_if_other, put_back, put_new, swap_
 use crate::previous::UpdateOutcome;
 use crate::session_link::link_next;
 use gather::matches::Matches;
-use ldmodel::memory::NoMemory;
+use growth::{NoMemory, deques};
 use ldmodel::meter::Meter;
 use ldmodel::names::ObjectKey;
 use ldmodel_project::order::Order;
@@ -71,7 +71,7 @@ impl LinkTables {
     {
         let order = Order::of(alloc, next.keys())?;
         let matches = match_under(alloc, next, change.key)?;
-        self.matches.reserve(2)?;
+        deques::reserve(&mut self.matches, 2)?;
         self.symbol_table.room_for(next.script(), change)?;
         Ok(IncomingChange { order, matches })
     }
@@ -116,10 +116,10 @@ impl LinkTables {
                 forget_if(&mut self.symbol_table, out.is_some());
                 Ok(updated)
             }
-            Err(refused) => {
+            Err(no_memory) => {
                 swap_matches(&mut self.matches, into, out, gone);
                 self.symbol_table.undo(script, &change, order, meter);
-                Err(refused)
+                Err(no_memory)
             }
         }
     }
@@ -156,10 +156,10 @@ impl LinkTables {
             meter,
         ) {
             Ok(updated) => Ok(updated),
-            Err(refused) => {
+            Err(no_memory) => {
                 put_back(&mut self.matches, before);
                 self.symbol_table.redecide(project.script(), meter);
-                Err(refused)
+                Err(no_memory)
             }
         }
     }

@@ -9,7 +9,7 @@ ghost use Rattle.relink.specs.Matches.{IsMatchedOr, Renews, exchanged, gone_at, 
 use gather::Matcher;
 use gather::matches::{Matches, match_all, match_object};
 use gather::same_inputs::have_same_inputs;
-use ldmodel::memory::NoMemory;
+use growth::{NoMemory, iterator};
 use ldmodel::names::ObjectKey;
 use ldmodel_project::project::Next;
 use ldscript::Script;
@@ -93,7 +93,7 @@ pub(crate) fn lend_matches(
 ) -> Result<Vec<&Matches>, NoMemory>
     ensures { IfOk result (λ lent. map (λ x. x.now) lent.items ≡ list.now.items) }
 {
-    list.iter().collect(alloc)
+    iterator::collect(list.iter(), alloc)
 }
 
 /// Removes the entry at a place, if there is a place.

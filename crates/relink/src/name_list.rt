@@ -7,7 +7,7 @@ ghost use Rattle.ldmodel_project.specs.Inputs.{shown_inputs};
 ghost use Rattle.relink.specs.NameList.{HasRoomFor};
 ghost use Rattle.relink.specs.PreviousLink.{IsNowhereButAt};
 
-use ldmodel::memory::NoMemory;
+use growth::{NoMemory, vec};
 use ldmodel_project::input::InputObject;
 use std::alloc::Global;
 use std::marker::Model;
@@ -59,8 +59,8 @@ impl NameList {
         // no memory holds more
         ensures few { OnOk result (bytes < 2 ^ 63) }
     {
-        let text = Vec::with_capacity(alloc, bytes)?;
-        let lengths = Vec::with_capacity(alloc, count)?;
+        let text = vec::with_capacity(alloc, bytes)?;
+        let lengths = vec::with_capacity(alloc, count)?;
         Ok(NameList { text, lengths })
     }
 

@@ -4,11 +4,11 @@ ghost use Rattle.std.specs.Prelude.{◌≡◌, ℕ, List};
 ghost use Rattle.ldmodel.specs.EditMeaning.{linked_of};
 ghost use Rattle.relink.specs.Outcome.{is_good, shown};
 
-use ldmodel::edit::Linked;
+use ldmodel::edit::LinkSummary;
 use relink_driver::Canvas;
 
-/// What a session answers of its link, beside the image, which a canvas holds. It is made from a `RelinkOutcome`, by way
-/// of an `UpdateOutcome`: a link that was rewritten in place leaves the outcome of the link before it.
+/// What a session answers of its link, beside the image, which a canvas holds. It is made from a `RelinkOutcome`, by
+/// way of an `UpdateOutcome`: a link that was rewritten in place leaves the outcome of the link before it.
 #[derive(Drop)]
 pub(crate) enum LinkOutcome {
     /// The link has no faults: its map.
@@ -69,10 +69,10 @@ impl LinkOutcome {
     }
 
     /// The status, and the length of the image.
-    pub(crate) fn summary(&self, canvas: &Canvas) -> Linked
+    pub(crate) fn summary(&self, canvas: &Canvas) -> LinkSummary
         ensures { result ≡ linked_of (shown canvas.now.bytes self.now) }
     {
-        Linked {
+        LinkSummary {
             status: self.status(),
             length: self.image(canvas).len() as u64,
         }

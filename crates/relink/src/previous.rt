@@ -7,14 +7,14 @@ ghost use Rattle.relink_driver.specs.StayedSections.{previous_of, replaced_state
 ghost use Rattle.ldmodel.specs.Project.{NamedObject};
 ghost use Rattle.relink.specs.PreviousLink.{AreOriginsFor, IsAfterFault, IsEffect, IsRecorded, IsNoneOf};
 ghost use Rattle.relink.specs.PreviousLink.{AreOriginsRefreshed, IsSince};
-ghost use Rattle.relink.specs.PreviousLink.{Knows, PutsNoneOf, changed_key, lent_of, lost_key};
+ghost use Rattle.relink.specs.PreviousLink.{LacksPutObject, PutsNoneOf, changed_key, lent_of, stale_key_of};
 ghost use Rattle.relink.specs.PreviousLink.{origin_of, replaced_by, replaced_in, without};
 
 use crate::lent_link::LentLink;
 use crate::name_list::NameList;
 use crate::outcome::LinkOutcome;
 use elfobj::Object;
-use ldmodel::memory::NoMemory;
+use growth::{NoMemory, iterator};
 use ldmodel::names::{ObjectKey, ObjectPlace};
 use ldmodel_project::named::NamedObject;
 use ldmodel_project::project::Project;
@@ -40,9 +40,9 @@ pub(crate) struct PreviousLink {
 #[derive(Clone, Copy)]
 pub(crate) struct EditEffect {
     /// Whether it is known that the edit puts no object that this link has.
-    pub puts_none: bool,
+    pub keeps_previous: bool,
     /// The key of the object that this link no longer has, if there is one.
-    pub lost: Option<usize>,
+    pub stale_key: Option<usize>,
     /// Whether the script is unchanged.
     pub same_script: bool,
     /// Whether queries are answered from this link.
@@ -81,7 +81,11 @@ fn replaced_at<'a>(
     let old = ObjectPlace(old?);
     let object = object?;
     let new = ObjectPlace(new?);
-    Some(ReplacedObject { old, object, new })
+    Some(ReplacedObject {
+        old_place: old,
+        old_object: object,
+        new_place: new,
+    })
 }
 
 impl PreviousLink {
@@ -133,7 +137,7 @@ impl PreviousLink {
     }
 
     /// Whether an edit is known to put no object that the previous link has already.
-    fn knows(&self, project: &Project, staged: &Staged) -> bool
+    fn lacks_put_object(&self, project: &Project, staged: &Staged) -> bool
         ensures { result ≡ true → (old : List NamedObject)
             → self.now.names.names ≡ map (λ (object : NamedObject). object.name) old
             → IsSince old (origin_of self.now.origins.items) project.now.contents.entries
@@ -174,9 +178,7 @@ impl PreviousLink {
     ) -> Result<Vec<Option<usize>>, NoMemory>
         ensures { IfOk result (λ v. v.items ≡ map (without (origin_of self.now.origins.items) gone) keys.now) }
     {
-        keys.iter()
-            .map(|key| self.origin_unless(gone, *key))
-            .collect(alloc)
+        iterator::collect(keys.iter().map(|key| self.origin_unless(gone, *key)), alloc)
     }
 
     /// Notes that the previous link no longer has the object under a key, if there is a key.
@@ -196,16 +198,17 @@ impl PreviousLink {
 }
 
 /// Whether there is a previous link, and an edit is known to put no object that it has already.
-fn puts_none_of_previous(
+fn previous_lacks_put_object(
     previous: &Option<PreviousLink>,
     project: &Project,
     staged: &Staged,
 ) -> bool
-    ensures { result ≡ true → IfSome previous.now (λ x. Knows x project.now.contents.entries staged.now.objects.step) }
+    ensures { result ≡ true → IfSome previous.now
+        (λ x. LacksPutObject x project.now.contents.entries staged.now.objects.step) }
 {
     match previous {
         None => false,
-        Some(previous) => previous.knows(project, staged),
+        Some(previous) => previous.lacks_put_object(project, staged),
     }
 }
 
@@ -223,8 +226,8 @@ fn changed_key(staged: &Staged) -> Option<usize>
 }
 
 /// The key of the object that the edit adds, removes or changes; none if it is replaced by the same one.
-fn lost_key(staged: &Staged, same: bool) -> Option<usize>
-    ensures { result ≡ lost_key same staged.now.objects.step }
+fn stale_key_of(staged: &Staged, same: bool) -> Option<usize>
+    ensures { result ≡ stale_key_of same staged.now.objects.step }
 {
     if same { None } else { changed_key(staged) }
 }
@@ -253,8 +256,8 @@ pub(crate) fn effect_of(
     ensures { IsEffect project.now staged.now same outcome.now previous.now result }
 {
     EditEffect {
-        puts_none: outcome.is_good() || puts_none_of_previous(previous, project, staged),
-        lost: lost_key(staged, same),
+        keeps_previous: outcome.is_good() || previous_lacks_put_object(previous, project, staged),
+        stale_key: stale_key_of(staged, same),
         same_script: leaves_script(staged),
         is_answered: outcome.is_good(),
     }
@@ -269,7 +272,7 @@ pub(crate) fn origins_for(
     alloc: Global,
     previous: &Option<LentLink<'_>>,
 ) -> Result<Vec<Option<usize>>, NoMemory>
-    ensures { IfOk result (λ from. AreOriginsFor (lent_of previous.now) from.items) }
+    ensures { IfOk result (λ origins. AreOriginsFor (lent_of previous.now) origins.items) }
 {
     match previous {
         None => Ok(Vec::new(alloc)),
@@ -277,29 +280,29 @@ pub(crate) fn origins_for(
     }
 }
 
-/// The previous link that is lent, as the next one sees it. `from` are the origins of the objects of the next project.
+/// The previous link that is lent, as the next one sees it. `origins` are those of the objects of the next project.
 pub(crate) fn view_previous<'a>(
     previous: &Option<LentLink<'a>>,
-    from: &'a [Option<usize>],
+    origins: &'a [Option<usize>],
 ) -> Option<PreviousView<'a>>
-    requires { AreOriginsFor (lent_of previous.now) from.now }
+    requires { AreOriginsFor (lent_of previous.now) origins.now }
     ensures { previous_of result ≡ lent_of previous.now }
 {
     let previous = previous.as_ref()?;
-    Some(previous.view(from))
+    Some(previous.view(origins))
 }
 
 /// After an edit whose link has faults: keeps the previous link, but forgets the origin of the edited object. If the
 /// previous link may have the object that came, it is dropped.
 pub(crate) fn keep_after_fault(previous: &mut Option<PreviousLink>, effect: EditEffect)
-    ensures { IsAfterFault effect.puts_none effect.lost effect.same_script previous.old previous.new }
+    ensures { IsAfterFault effect.keeps_previous effect.stale_key effect.same_script previous.old previous.new }
 {
-    if !effect.puts_none {
+    if !effect.keeps_previous {
         *previous = None;
         return;
     }
     if let Some(previous) = previous {
-        previous.forget(effect.lost);
+        previous.forget(effect.stale_key);
         previous.same_script = previous.same_script && effect.same_script;
     }
 }

@@ -10,17 +10,17 @@ ghost use Rattle.relink.specs.Work.{IsWholeWork};
 ghost use Rattle.relink_driver.specs.Applied.{Applied};
 
 use crate::counts::counts_fit;
-use crate::deferred::DeferredSession;
-use crate::lazy_tables::are_places;
+use crate::deferred::{DeferredSession, LastLink};
+use crate::lazy_tables::{Means, are_places};
 use crate::lent_link::lend_previous;
 use crate::link_tables::LinkTables;
 use crate::outcome::LinkOutcome;
 use crate::previous::{EditEffect, PreviousLink, record_outcome};
 use crate::session_link::link_without_previous;
 use crate::unchanged::{is_unchanged, puts_same};
-use ldmodel::edit::{Edit, EditRefusal, Linked};
+use growth::NoMemory;
+use ldmodel::edit::{Edit, EditRefusal, LinkSummary};
 use ldmodel::linker::Linker;
-use ldmodel::memory::NoMemory;
 use ldmodel::meter::Meter;
 use ldmodel::options::Options;
 use ldmodel_project::law::found_where_placed;
@@ -107,8 +107,8 @@ impl Session {
         )?;
         let mut previous = None;
         let effect = EditEffect {
-            puts_none: true,
-            lost: None,
+            keeps_previous: true,
+            stale_key: None,
             same_script: true,
             is_answered: false,
         };
@@ -124,8 +124,8 @@ impl Session {
         })
     }
 
-    /// Gives back the memory of a session that is over. A crate that lets a session go by itself is proved to give back
-    /// each part of it; one that calls this need not be.
+    /// Gives back the memory of a session that is over, as letting it go does. For the prover: a crate that lets a
+    /// session go is proved to give back each of its parts, and one that calls this is not.
     pub fn close(self) {}
 
     /// The same project, for edits that are linked when it is asked. `seed` is for hash tables; no link depends on it.
@@ -147,21 +147,22 @@ impl Session {
             Some(tables)
         };
         DeferredSession {
-            alloc,
+            means: Means { alloc, seed },
             project,
             staged: None,
-            seed,
             tables,
-            previous,
             canvas,
-            outcome,
-            is_linked: true,
+            last_link: LastLink {
+                previous,
+                outcome,
+                is_linked: true,
+            },
         }
     }
 
     /// Stages an edit, updates the tables and links; commits the next project and records its link only after that. If
     /// an object replaces one of the same bytes, nothing changes, and the link that is there answers.
-    fn apply_edit(&mut self, edit: Edit<'_>, meter: &mut Meter) -> Result<Linked, EditRefusal>
+    fn apply_edit(&mut self, edit: Edit<'_>, meter: &mut Meter) -> Result<LinkSummary, EditRefusal>
         ensures applied { Applied self.old (change_of edit.entry) self.new result }
         ensures counted { OnOk result (IsWholeWork self.old (change_of edit.entry) self.new meter.old meter.new) }
     {
@@ -194,7 +195,7 @@ impl Session {
             &mut self.canvas,
             meter,
         ) {
-            Err(_) => Err(EditRefusal::NoMemory),
+            Err(no_memory) => Err(EditRefusal::NoMemory(no_memory)),
             Ok(updated) => {
                 self.project.commit(staged);
                 record_outcome(updated, &mut self.previous, &mut self.outcome, effect);
@@ -209,7 +210,7 @@ impl Linker for Session {
 
     ghost bound = { IsWholeWork };
 
-    fn apply(&mut self, edit: Edit<'_>, meter: &mut Meter) -> Result<Linked, EditRefusal> {
+    fn apply(&mut self, edit: Edit<'_>, meter: &mut Meter) -> Result<LinkSummary, EditRefusal> {
         self.apply_edit(edit, meter)
     }
 

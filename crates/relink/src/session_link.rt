@@ -16,7 +16,7 @@ use crate::match_table::lend_matches;
 use crate::name_list::{names_in_room, room_for_names};
 use crate::previous::{PreviousLink, UpdateOutcome, origins_for, view_previous};
 use gather::matches::Matches;
-use ldmodel::memory::NoMemory;
+use growth::NoMemory;
 use ldmodel::meter::Meter;
 use ldmodel_project::law::found_where_placed;
 use ldmodel_project::order::places_of;
@@ -29,23 +29,32 @@ use std::alloc::Global;
 use std::collections::VecDeque;
 use symres::SymbolTable;
 
-/// Links a project over the tables that are kept of it. `keys` are those of its objects. Fails if memory runs out:
-/// then the canvas is as it was.
+/// The tables that are kept of a project, lent to its link.
+#[derive(Clone, Copy)]
+struct LentTables<'a> {
+    /// The keys of its objects.
+    keys: &'a [usize],
+    /// How its names are resolved.
+    symbol_table: &'a SymbolTable,
+    /// Which statements take the input sections of each object.
+    matches: &'a VecDeque<Matches>,
+}
+
+/// Links a project over the tables that are kept of it. Fails if memory runs out: then the canvas is as it was.
 fn link_keyed(
     alloc: Global,
     project: &ProjectView<'_>,
-    keys: &[usize],
-    symbol_table: &SymbolTable,
-    matches: &VecDeque<Matches>,
+    tables: LentTables<'_>,
     previous: Option<LentLink<'_>>,
     canvas: &mut Canvas,
     meter: &mut Meter,
 ) -> Result<UpdateOutcome, NoMemory>
-    requires distinct { AreKeysDistinct keys.now }
-    requires symbol_table { IsSymbolTable project.now symbol_table.now }
-    requires matches { AreMatched project.now matches.now.items }
+    requires distinct { AreKeysDistinct tables.keys.now }
+    requires symbol_table { IsSymbolTable project.now tables.symbol_table.now }
+    requires matches { AreMatched project.now tables.matches.now.items }
     requires previous { IfSome (lent_of previous) (HasPreviousImage project.now canvas.old.bytes) }
-    ensures updated { IfOk result (λ r. (l : Listing) → project.now ≡ project_of l → keys.now ≡ keys_of l.entries
+    ensures updated { IfOk result (λ r. (l : Listing) → project.now ≡ project_of l
+        → tables.entry.keys.now ≡ keys_of l.entries
         → HasUpdateOutcome l (lent_of previous.entry) canvas.old.bytes canvas.new.bytes r) }
     ensures unchanged { OnErr result (canvas.new.bytes ≡ canvas.old.bytes) }
     ensures reads { OnOk result (ReadsNothing meter.old meter.new) }
@@ -53,6 +62,11 @@ fn link_keyed(
 {
     // for the prover: brings in the law on the keys of the objects present
     found_where_placed();
+    let LentTables {
+        keys,
+        symbol_table,
+        matches,
+    } = tables;
     // while a project is opened most links end here: what goes over all objects is made only after this
     if let Some(text) = name_fault_lines(alloc, project, symbol_table)? {
         return Ok(UpdateOutcome::Faulty(text));
@@ -61,10 +75,10 @@ fn link_keyed(
     let origins = places_of(alloc, keys)?;
     let inputs = project.inputs();
     let names = room_for_names(alloc, inputs)?;
-    let from = origins_for(alloc, &previous)?;
-    let previous = view_previous(&previous, &from);
+    let origins = origins_for(alloc, &previous)?;
+    let previous = view_previous(&previous, &origins);
     match relink(alloc, project, symbol_table, &lent, previous, canvas, meter) {
-        Err(refused) => Err(refused),
+        Err(no_memory) => Err(no_memory),
         Ok(RelinkOutcome::Faulty(text)) => Ok(UpdateOutcome::Faulty(text)),
         Ok(RelinkOutcome::RewrittenInPlace) => Ok(UpdateOutcome::RewrittenInPlace(origins)),
         Ok(RelinkOutcome::Good(snapshot, map)) => Ok(UpdateOutcome::Good(
@@ -113,16 +127,12 @@ pub(crate) fn link_next(
     symbol_table.put_in_order();
     let inputs = next.inputs(alloc)?;
     let view = next.view(&inputs);
-    link_keyed(
-        alloc,
-        &view,
-        next.keys(),
+    let tables = LentTables {
+        keys: next.keys(),
         symbol_table,
         matches,
-        previous,
-        canvas,
-        meter,
-    )
+    };
+    link_keyed(alloc, &view, tables, previous, canvas, meter)
 }
 
 /// Links a project over what is kept of it, if there is no previous link.
@@ -144,16 +154,12 @@ pub(crate) fn link_without_previous(
     symbol_table.names_kept();
     let inputs = project.inputs(alloc)?;
     let view = project.view(&inputs);
-    link_keyed(
-        alloc,
-        &view,
-        project.keys(),
+    let tables = LentTables {
+        keys: project.keys(),
         symbol_table,
         matches,
-        None,
-        canvas,
-        &mut Meter::new(),
-    )
+    };
+    link_keyed(alloc, &view, tables, None, canvas, &mut Meter::new())
 }
 
 /// Links a project whose edits were committed without a link, over what is kept of it, and over the image of the
@@ -185,14 +191,10 @@ pub(crate) fn link_committed(
     symbol_table.put_in_order();
     let inputs = project.inputs(alloc)?;
     let view = project.view(&inputs);
-    link_keyed(
-        alloc,
-        &view,
-        project.keys(),
+    let tables = LentTables {
+        keys: project.keys(),
         symbol_table,
         matches,
-        previous,
-        canvas,
-        meter,
-    )
+    };
+    link_keyed(alloc, &view, tables, previous, canvas, meter)
 }

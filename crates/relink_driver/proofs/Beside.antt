@@ -1,47 +1,20 @@
 -- A link beside a previous one, if there is one.
-use Rattle.std.proofs.Common.{◌≡◌, ◌∙◌, ◌<◌, ◌^◌, ◌⊎◌, ℕ, inl, inr, refl, subst, sym, List}
-use Rattle.std.specs.Prelude.{IfSome, IsSome, Ok, Option, Some, None, is_some}
-use Rattle.std.specs.List.{All}
-use Rattle.emit.specs.fields.declared.patch.Patch.{Patch}
-use Rattle.emit.specs.image.Redrawings.{ArePatchesOf}
-use Rattle.emit.specs.image.Stretches.{EndsBy}
-use Rattle.relink_driver.specs.StayedSections.{AreStayedSections, IsPreviousOf, PreviousState, previous_of, range_of}
-use Rattle.relink_driver.specs.declared.stayed_sections.PreviousView.{PreviousView}
-use Rattle.relink_driver.specs.declared.stayed_sections.StayedSections.{StayedSections}
+use Rattle.relink_driver.proofs.Common.{All, AreEvaluated, AreNamesDistinct, ArePatchesOf, AreSymbolValues, AreValues}
+use Rattle.relink_driver.proofs.Common.{Counts, EndsBy, GoodLink, IfSome, IsComplete, IsGood, IsLinkLayout, IsLinkView}
+use Rattle.relink_driver.proofs.Common.{IsPreviousOf, IsRelocatedBeside, IsSome, KnownLink, Layout, LinkLayout}
+use Rattle.relink_driver.proofs.Common.{LinkView, List, None, Ok, Option, Patch, PreviousState, PreviousView, Project}
+use Rattle.relink_driver.proofs.Common.{ReadsNothing, Relocated, SectionRef, Some, StayedSections, SymbolTableState}
+use Rattle.relink_driver.proofs.Common.{SymbolValues, faults_in, image, image_length, inl, inr, is_some, known_link}
+use Rattle.relink_driver.proofs.Common.{new_link, placement, previous_of, provided, refl, relocation_faults, rows}
+use Rattle.relink_driver.proofs.Common.{subst, sym, ℕ, ◌<◌, ◌^◌, ◌∙◌, ◌≡◌, ◌⊎◌}
+use Rattle.relink_driver.specs.StayedSections.{AreStayedSections, range_of}
 use Rattle.emit.specs.Drawable.{IsDrawableAt}
 use Rattle.emit.specs.StayedPieces.{IsSound}
-use Rattle.ldmodel_laws.specs.Untouched.{IsGood}
-use Rattle.place.specs.LinkLayout.{IsLinkLayout}
-use Rattle.place.specs.declared.link_layout.LinkLayout.{LinkLayout}
-use Rattle.ldmodel.specs.Counts.{Counts}
-use Rattle.ldmodel.specs.Edits.{AreNamesDistinct}
-use Rattle.ldmodel.specs.Image.{image}
-use Rattle.ldmodel.specs.Layout.{Layout}
-use Rattle.ldmodel.specs.Names.{provided}
-use Rattle.ldmodel.specs.Placement.{placement}
-use Rattle.ldmodel.specs.Project.{Project}
-use Rattle.ldmodel.specs.Relocations.{relocation_faults}
-use Rattle.ldmodel.specs.Rows.{rows}
-use Rattle.ldmodel.specs.SectionHeaders.{image_length}
-use Rattle.ldmodel.specs.Stayed.{GoodLink}
-use Rattle.ldmodel.specs.declared.sections.SectionKey.{SectionKey}
-use Rattle.symres.specs.SymbolTable.{SymbolTableState}
-use Rattle.ldmodel_project.specs.ByPlace.{faults_in}
-use Rattle.emit.specs.Beside.{IsRelocatedBeside, new_link}
 use Rattle.emit.specs.Runs.{AreRunsUnless}
-use Rattle.emit.specs.declared.relocated.Relocated.{Relocated}
-use Rattle.emit.specs.relocate.PreviousLinkInfo.{IsComplete}
-use Rattle.emit.specs.relocate.KnownLink.{KnownLink}
-use Rattle.emit.specs.relocate.SymbolValues.{AreSymbolValues}
-use Rattle.emit.specs.relocate.declared.symbol_values.SymbolValues.{SymbolValues}
-use Rattle.emit.specs.relocate.LinkView.{IsLinkView, known_link}
-use Rattle.emit.specs.relocate.LinkValues.{AreValues}
-use Rattle.emit.specs.relocate.declared.link_view.LinkView.{LinkView}
 use Rattle.emit.specs.relocate.declared.values.Values.{Values}
-use Rattle.relink_driver.specs.Counted.{AreEvaluated, HasEvaluated}
+use Rattle.relink_driver.specs.Counted.{HasEvaluated}
 use Rattle.relink_driver.specs.RelinkOutcome.{HasPreviousImage}
 use Rattle.relink_driver.specs.Phases.{AreBeside, ArePatches, HasPreviousLink, IsFilled, IsShort}
-use Rattle.relink_driver.specs.Reads.{ReadsNothing}
 use Rattle.relink_driver.proofs.Reading.{fields_read_nothing}
 
 -- the previous link, whatever its image is
@@ -91,10 +64,11 @@ AreComplete y =
     (old : GoodLink) (l : KnownLink) → AreStayedSections y old l → IsSome y.previous → IsComplete (range_of y) old l
 
 abbrev pub NoneStays : StayedSections → Type 0
-NoneStays y = y.previous ≡ None → (k : SectionKey) → range_of y k ≡ None
+NoneStays y = y.previous ≡ None → (k : SectionRef) → range_of y k ≡ None
 
 pub known_beside : (p : Project) (l : LinkLayout) (y : StayedSections) (w : LinkView) (v : Values) (t : SymbolValues)
-    (r : Relocated) (before after : Counts) (is : IsShort p l w v) → before.fields < 2 ^ 64 → AreBeside p is.placed.known.layout y
+    (r : Relocated) (before after : Counts) (is : IsShort p l w v) → before.fields < 2 ^ 64 → AreBeside p
+    is.placed.known.layout y
     → AreSymbolValues p is.placed.known.layout t → AreNamesDistinct p.objects
     → ((s : Layout) (a : SymbolTableState) (old : GoodLink) → placement p.script (rows p) (provided p) ≡ Ok s
     → IsLinkView (known_link p s a) w → AreValues p s a v → AreSymbolValues p s t
@@ -149,7 +123,7 @@ pub drawn_image : (p : Project) (s : Layout) (a : SymbolTableState) (y : StayedS
     → ((old : GoodLink) → IfSome (previous_of y.previous) (IsPreviousOf old p)
     → IsSound (range_of y) old (known_link p s a))
     → ArePatches p s y r
-    → (((k : SectionKey) → range_of y k ≡ None) → bytes ≡ image p s)
+    → (((k : SectionRef) → range_of y k ≡ None) → bytes ≡ image p s)
     → ((old : GoodLink) → IsGood old → IsSound (range_of y) old (known_link p s a)
     → ArePatchesOf old (new_link p s) r.retargeted.items → old_bytes ≡ image old.project old.layout
     → bytes ≡ image p s)

@@ -1,22 +1,16 @@
 -- The flags of a column are those of the sections that stayed.
-use Rattle.std.proofs.Common.{◌≡◌, ◌∙◌, ◌<◌, ◌≤◌, ◌⊎◌, ◌+◌, ℕ, Bool, true, false, cond, List, [], ◌∷◌, ◌++◌, length}
-use Rattle.std.proofs.Common.{Option, Some, None, ap, arith, inl, inr, length-append, refl, sym}
-use Rattle.std.specs.Option.{option_and_then, option_map}
-use Rattle.std.specs.Prelude.{is_some, nat_lt, slice_index_or}
-use Rattle.std.proofs.lemmas.Bool.{cases_lt, false≢true, ltb-false, ltb-true}
-use Rattle.std.proofs.lemmas.List.{get_or_append_left, get_or_past, get_or_push}
-use Rattle.ldmodel.specs.declared.sections.SectionKey.{SectionKey}
+use Rattle.relink_driver.proofs.Common.{Bool, IndexedLayout, LinkLayout, List, None, Option, PreviousState}
+use Rattle.relink_driver.proofs.Common.{SectionAddress, SectionLocation, SectionRef, Some, [], ap, arith, cases_lt}
+use Rattle.relink_driver.proofs.Common.{cond, false, false≢true, flag_of, get_or_append_left, get_or_past, get_or_push}
+use Rattle.relink_driver.proofs.Common.{has_stayed_number, inl, inr, is_some, key_at, last_place, length, length-append}
+use Rattle.relink_driver.proofs.Common.{location_in, location_of, location_with, ltb-false, ltb-true, nat_lt, no_flags}
+use Rattle.relink_driver.proofs.Common.{option_and_then, option_map, previous_location, range_at, range_if_same, refl}
+use Rattle.relink_driver.proofs.Common.{same_location, slice_index_or, stayed_between, stayed_range, sym, true, ℕ, ◌++◌}
+use Rattle.relink_driver.proofs.Common.{◌+◌, ◌<◌, ◌∙◌, ◌∷◌, ◌≡◌, ◌≤◌, ◌⊎◌}
 use Rattle.place.specs.IndexedLayout.{address_in}
-use Rattle.place.specs.declared.indexed_layout.IndexedLayout.{IndexedLayout}
-use Rattle.place.specs.declared.indexed_layout.SectionAddress.{SectionAddress}
-use Rattle.place.specs.declared.link_layout.LinkLayout.{LinkLayout}
 use Rattle.emit.specs.relocate.declared.previous_link_info.FileRange.{FileRange}
-use Rattle.relink_driver.specs.PreviousLink.{PreviousState, address_from, range_if_same, stayed_range, last_place}
-use Rattle.relink_driver.specs.PreviousLink.{previous_address, previous_location, standing_from}
-use Rattle.relink_driver.specs.SectionLocation.{location_in, location_of, location_with, range_at, same_location}
-use Rattle.relink_driver.specs.StayedColumn.{AreFlagsAdded, flag_of, stayed_between, has_stayed_number, key_at}
-use Rattle.relink_driver.specs.StayedColumn.{no_flags, slice_of}
-use Rattle.relink_driver.specs.declared.section_location.SectionLocation.{SectionLocation}
+use Rattle.relink_driver.specs.PreviousLink.{address_from, previous_address, standing_from}
+use Rattle.relink_driver.specs.StayedColumn.{AreFlagsAdded, slice_of}
 use Rattle.relink_driver.specs.declared.stayed_column.FlagSlice.{FlagSlice}
 
 abbrev flag_at : List Bool → ℕ → Bool
@@ -196,7 +190,7 @@ nothing_kept None = refl
 nothing_kept (Some b) = refl
 
 -- by the addresses in both links
-module _ (x : PreviousState) (t : IndexedLayout) (key : SectionKey) where
+module _ (x : PreviousState) (t : IndexedLayout) (key : SectionRef) where
   standing : (p : Option ℕ) → option_and_then (standing_from x key.part) p
       ≡ option_and_then (location_of x.snapshot.indexed_layout.link_layout)
       (option_and_then (address_from x key.part) p)
@@ -248,7 +242,7 @@ range_now before l (Some a) e = go before (range_at l a) e
     go (Some b) (Some r) e = pick r (same_location b (location_with a r)) e
 
 -- that which is known to have stayed, and is found now
-pub range_found : (m : Option PreviousState) (t : IndexedLayout) (key : SectionKey)
+pub range_found : (m : Option PreviousState) (t : IndexedLayout) (key : SectionRef)
     → is_some (stayed_range m t key) ≡ true
     → option_and_then (range_at t.link_layout) (address_in t key) ≡ stayed_range m t key
 unfolding stayed_range location_in
@@ -260,7 +254,7 @@ not_found None e = refl
 not_found (Some r) e = absurd (false≢true (sym e))
 
 -- without a previous link
-pub empty_column : (t : IndexedLayout) (key : SectionKey) (flags : List Bool) (k : ℕ)
+pub empty_column : (t : IndexedLayout) (key : SectionRef) (flags : List Bool) (k : ℕ)
     → flag_of flags no_flags k ≡ is_some (stayed_range None t key)
 unfolding stayed_range
 empty_column t key flags k = no_flag flags k

@@ -1,15 +1,9 @@
 -- Objects that are added one after the other.
-use Rattle.std.proofs.Common.{◌≡◌, ℕ, suc, ◌+◌, List, [], ◌∷◌, Result, Ok, Err, add-one, subst, sym, ◌∙◌, length, arith}
-use Rattle.std.proofs.Common.{refl}
-use Rattle.ldmodel.specs.Edits.{Add, After, SetScript}
-use Rattle.ldmodel.specs.LinkCommand.{Course, ended, refused, accepted, ObjectFile, RefusedEdit, additions}
-use Rattle.ldmodel.specs.LinkCommand.{Linking, link_edits}
-use Rattle.ldmodel.specs.Options.{LinkOptions}
-use Rattle.ldmodel.specs.Project.{Project, empty_project}
-use Rattle.relink_driver.specs.Adding.{Adds, EndsAt, Prepares}
-use Rattle.relink_driver.specs.Answer.{refused_at}
-use Rattle.relink_driver.specs.declared.fault.LinkFault.{LinkFault}
-use Rattle.relink_driver.specs.declared.fault.LinkFault.TheVariants.{Refused, Memory}
+use Rattle.relink_driver.proofs.Common.{Add, Adds, After, EndsAt, Err, LinkFault, LinkOptions, List, Memory, Ok}
+use Rattle.relink_driver.proofs.Common.{Prepares, Project, Refused, Result, SetScript, [], add-one, arith}
+use Rattle.relink_driver.proofs.Common.{empty_project, length, refl, refused_at, subst, suc, sym, ℕ, ◌+◌, ◌∙◌, ◌∷◌, ◌≡◌}
+use Rattle.ldmodel.specs.LinkCommand.{Course, ended, refused, accepted, ObjectFile, RefusedEdit, additions, Linking}
+use Rattle.ldmodel.specs.LinkCommand.{link_edits}
 
 -- the first `n` of all objects are added, and these are left: how it goes on, it ends
 pub record Reached (old : Project) (all : List ObjectFile) (n : ℕ) (now : Project)
@@ -49,7 +43,7 @@ stopped {old = old} {now = now} {all = all} {left = left} {more = more} {n = n} 
     (λ (xs : List ObjectFile). Reached old all n now xs) same reached in
     let spot : place ≡ suc n = ends.0 ∙ add-one n in
     rw spot (whole.on (Err (refused_at (suc n) why)) (refused ends.1))
-stopped new Memory reached same ends = tt
+stopped new (Memory _) reached same ends = tt
 
 pub none_left : {X : Type 0} (xs : List X) → length xs ≡ 0 → xs ≡ []
 none_left [] none = refl
@@ -68,11 +62,11 @@ pub refused_script : {first : Project} (options : LinkOptions) (script : List �
 refused_script options script files (Refused place why) empty ends =
     rw ends.0 (subst (λ (p : Project). Course 0 p (link_edits script files) (Err (refused_at 0 why))) empty
     (refused ends.1))
-refused_script options script files Memory empty ends = tt
+refused_script options script files (Memory _) empty ends = tt
 
 pub refused_object : {first mid : Project} (new : Project) (options : LinkOptions) (script : List ℕ)
     (files : List ObjectFile) (e : LinkFault) → first ≡ empty_project options → After first (SetScript script) (Ok mid)
     → Adds mid files new (Err e) → Prepares options script files (Err e)
 refused_object new options script files (Refused place why) empty after ends =
     scripted options script files (Err (refused_at place why)) empty after ends
-refused_object new options script files Memory empty after ends = tt
+refused_object new options script files (Memory _) empty after ends = tt

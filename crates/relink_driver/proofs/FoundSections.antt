@@ -1,12 +1,9 @@
 -- Where sections stand in the order of their numbers, the one of a number is the first of that number.
-use Rattle.std.proofs.Common.{◌≡◌, ◌≢◌, ◌<◌, ℕ, zero, suc, List, [], ◌∷◌, length, map, get_or, refl, ap}
-use Rattle.std.proofs.Common.{◌∙◌, arith, true, false, cond, ◌==◌, slice_get, Option, Some, None}
-use Rattle.std.specs.Prelude.{AllPairs, All, IfNone, IfSome, MatchOption}
+use Rattle.relink_driver.proofs.Common.{All, AllPairs, IfNone, IfSome, LinkedSection, List, MatchOption, None, Option}
+use Rattle.relink_driver.proofs.Common.{Section, SectionIndex, Some, [], ap, arith, cond, false, get_or, length, map}
+use Rattle.relink_driver.proofs.Common.{refl, section_of, slice_get, suc, true, zero, ℕ, ◌<◌, ◌==◌, ◌∙◌, ◌∷◌, ◌≡◌, ◌≢◌}
 use Rattle.elfobj.specs.Numbering.{IsNumberedAt}
 use Rattle.elfobj.specs.declared.section.LinkedIndex.{LinkedIndex}
-use Rattle.elfobj.specs.Sections.{LinkedSection, section_of}
-use Rattle.elfobj.specs.declared.section.Section.{Section}
-use Rattle.elfobj.specs.declared.section.SectionIndex.{SectionIndex}
 use Rattle.relink_driver.specs.SameRows.{numbered}
 
 abbrev Ascend : List LinkedSection → Type 0

@@ -1,28 +1,29 @@
-mod Once
-mod Inside
-mod Kept
-mod Standings
+pub mod Common
+mod SectionsStandOnce
+mod BytesInImage
+mod StayedBySamePart
+mod TablesShowSections
 mod Ranges
 mod Columns
-mod Still
-mod Fixed
-mod Seen
+mod WhollyStayed
+mod StayedAtSameStart
+mod ValuesBySource
 mod Symbols
-mod Unmarked
+mod CleanObjectValues
 mod FoundSections
 mod SameRows
 mod Resumed
 mod Outlined
 mod Outlines
-mod TouchedSites
-mod Spotted
+mod SitesOfOverwritten
+mod TablesShowObject
 mod Rewriting
-mod Touching
+mod ObjectOverwritten
 pub mod Beside
 pub mod Placing
 pub mod Reading
-pub mod Stopping
+pub mod EarlyEnds
 pub mod Working
 mod Courses
-mod Shown
+mod AnswersWithoutMap
 mod Words

@@ -1,34 +1,20 @@
 -- Two projects of which one object differs in what its sections hold alone: what tables of a link say of them is the
 -- same.
-use Rattle.std.proofs.Common.{◌≡◌, ◌∙◌, ℕ, ◌+◌, ◌==◌, Bool, true, false, cond, List, [], ◌∷◌, ◌++◌, map}
-use Rattle.std.proofs.Common.{Global, Vec, flat_map, find, Option, Some, None, ap, arith, length, refl, slice_get}
-use Rattle.std.proofs.Common.{subst, sym, take}
-use Rattle.std.specs.List.{Contains, cons_option, enumerate_from, filter_map}
-use Rattle.std.specs.Option.{option_and_then, option_map, option_map_or}
-use Rattle.std.specs.Prelude.{sum_by}
-use Rattle.std.specs.Vec.{vec_items}
-use Rattle.std.proofs.lemmas.List.{length-map, map-append, take-map}
-use Rattle.std.proofs.lemmas.List.Sums.{sum_by-cons}
-use Rattle.std.proofs.lemmas.Option.{slice_get-map}
-use Rattle.std.proofs.lemmas.Simd.{map-map}
-use Rattle.elfobj.specs.Sections.{LinkedSection}
-use Rattle.elfobj.specs.Symbols.{NamedSymbol}
-use Rattle.elfobj.specs.declared.section.SectionIndex.{SectionIndex}
+use Rattle.relink_driver.proofs.Common.{Bool, Contains, Decision, DiffersInContents, Global, InCommon, InTable, IsOwned}
+use Rattle.relink_driver.proofs.Common.{LinkedSection, List, NamedObject, NamedSymbol, None, ObjectOutline, Option}
+use Rattle.relink_driver.proofs.Common.{Part, Project, SectionIndex, SectionOutline, Some, [], ap, arith, cond}
+use Rattle.relink_driver.proofs.Common.{cons_option, decision, enumerate_from, false, filter_map, find, flat_map}
+use Rattle.relink_driver.proofs.Common.{in_map, length, length-map, map, map-append, map-map, map_in, object_name}
+use Rattle.relink_driver.proofs.Common.{object_outline, option_and_then, option_map, option_map_or, piece_in, refl}
+use Rattle.relink_driver.proofs.Common.{rows_in, section_outline, slice_get, slice_get-map, subst, sum_by, sum_by-cons}
+use Rattle.relink_driver.proofs.Common.{sym, take, take-map, true, vec_items, ℕ, ◌++◌, ◌+◌, ◌==◌, ◌∙◌, ◌∷◌, ◌≡◌}
+use Rattle.std.proofs.Common.{Vec}
 use Rattle.ldmodel.specs.FaultCode.{name_of_part, name_of_section}
 use Rattle.ldmodel.specs.InputSections.{block_of, common_blocks, input_sections, linked_input, object_inputs}
-use Rattle.ldmodel.specs.Names.{Decision, decision}
-use Rattle.ldmodel.specs.NameFaults.{object_name}
-use Rattle.ldmodel.specs.Project.{NamedObject, Project}
 use Rattle.ldmodel.specs.Rows as model
 use Rattle.ldmodel.specs.Sections.{InputSection, SectionId}
 use Rattle.ldmodel.specs.declared.rows.Piece.{Piece}
-use Rattle.ldmodel.specs.declared.sections.Part.{Part}
-use Rattle.ldmodel.specs.declared.sections.Part.TheVariants.{InTable, InCommon}
-use Rattle.ldmodel_laws.specs.Outline.{DiffersInContents, ObjectOutline, SectionOutline, object_outline}
-use Rattle.ldmodel_laws.specs.Outline.{section_outline}
-use Rattle.ldmodel_project.specs.ByPlace.{name_of_section as section_name_in, piece_in, rows_in}
-use Rattle.place.specs.InPlace.{IsOwned}
-use Rattle.ldmodel_laws.proofs.Finding.{in_map, map_in}
+use Rattle.ldmodel_project.specs.ByPlace.{name_of_section as section_name_in}
 
 -- ---- lists
 
@@ -201,7 +187,8 @@ module _ (p q : Project) (i : ℕ) (h : DiffersInContents p q i) where
       ∙ sym (many_sections (take n q.objects))
 
   module _ (decided : (name : List ℕ) → decision p name ≡ decision q name) where
-    same_input_ids : map (λ (s : InputSection). s.id) (input_sections p) ≡ map (λ (s : InputSection). s.id) (input_sections q)
+    same_input_ids : map (λ (s : InputSection). s.id) (input_sections p) ≡ map (λ (s : InputSection). s.id)
+        (input_sections q)
     unfolding input_sections
     same_input_ids =
         of_objects p 0 p.objects ∙ same_ids (decision p) (decision q) decided 0 (map object_outline p.objects)
@@ -212,7 +199,8 @@ module _ (p q : Project) (i : ℕ) (h : DiffersInContents p q i) where
         → (s : InputSection) → Contains (input_sections q) s → P s.id
     input_before P all s c =
         let there = in_map (λ (s : InputSection). s.id) (input_sections p) s.id
-        (subst (λ l. Contains l s.id) (sym same_input_ids) (map_in (λ (s : InputSection). s.id) (input_sections q) s c)) in
+        (subst (λ l. Contains l s.id) (sym same_input_ids)
+        (map_in (λ (s : InputSection). s.id) (input_sections q) s c)) in
         subst P there.gives (all there.origin there.among)
 
   -- an object of a name

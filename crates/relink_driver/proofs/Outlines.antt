@@ -1,19 +1,10 @@
 -- Objects of which the code finds that they differ in what their sections hold alone.
-use Rattle.std.proofs.Common.{◌≡◌, ◌∙◌, ◌⊎◌, inl, inr, ◌<◌, ◌≤◌, ℕ, ◌+◌, List, [], ◌∷◌, Option, Some, None, ap, arith}
-use Rattle.std.proofs.Common.{true, false, length, map}
-use Rattle.std.proofs.Common.{refl, slice_get, subst, sym}
-use Rattle.std.specs.Option.{option_map}
-use Rattle.std.specs.Prelude.{slice_index_or}
-use Rattle.std.proofs.lemmas.Bool.{cases_lt}
-use Rattle.std.proofs.lemmas.List.{length-map, same_lists}
-use Rattle.std.proofs.lemmas.Option.{get_or_from_slice_get, same_Some, slice_get-get_or, slice_get-map}
-use Rattle.elfobj.specs.Sections.{LinkedSection, section_of}
-use Rattle.elfobj.specs.Symbols.{NamedSymbol}
-use Rattle.elfobj.specs.declared.relocation.Relocation.{Relocation}
-use Rattle.elfobj.specs.declared.relocation.SymbolIndex.{SymbolIndex}
-use Rattle.elfobj.specs.declared.section.Section.{Section}
-use Rattle.elfobj.specs.declared.symbol.Symbol.{Symbol}
-use Rattle.ldmodel_laws.specs.Outline.{SectionOutline, section_outline, section_targets}
+use Rattle.relink_driver.proofs.Common.{LinkedSection, List, NamedSymbol, None, Option, Relocation, Section}
+use Rattle.relink_driver.proofs.Common.{SectionOutline, Some, Symbol, SymbolIndex, [], ap, arith, cases_lt, false}
+use Rattle.relink_driver.proofs.Common.{get_or_from_slice_get, inl, inr, length, length-map, map, option_map, refl}
+use Rattle.relink_driver.proofs.Common.{same_Some, same_lists, section_of, section_outline, section_targets, slice_get}
+use Rattle.relink_driver.proofs.Common.{slice_get-get_or, slice_get-map, slice_index_or, subst, sym, true, ℕ, ◌+◌, ◌<◌}
+use Rattle.relink_driver.proofs.Common.{◌∙◌, ◌∷◌, ◌≡◌, ◌≤◌, ◌⊎◌}
 
 -- lists that have the same at each place
 pub same_at : {X : Type 0} (xs ys : List X) → length xs ≡ length ys
@@ -68,7 +59,8 @@ module _ {X A B C : Type 0} (g : X → A) (h : X → B) (both : A → B → C) w
       let b = length-map ys g in
       let c = length-map xs of in
       let d = length-map ys of in
-      same_at (map of xs) (map of ys) (omega (arith, long, a, b, c, d)) (λ k less. same k (omega (arith, is, a, c, less)))
+      same_at (map of xs) (map of ys) (omega (arith, long, a, b, c, d))
+      (λ k less. same k (omega (arith, is, a, c, less)))
 
 -- ---- symbols and sections
 

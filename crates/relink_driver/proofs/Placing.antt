@@ -1,25 +1,12 @@
 -- Input sections that a link places beside a previous one.
-use Rattle.std.proofs.Common.{◌≡◌, ◌∙◌, ℕ, zero, suc, false, List, [], ◌∷◌, length, map, Option, None, Some}
-use Rattle.std.proofs.Common.{ap, arith, refl}
-use Rattle.std.specs.List.{flat_map}
-use Rattle.std.specs.Prelude.{IfSome, IsNone, IsSome}
-use Rattle.std.proofs.lemmas.List.{length-append, length-map}
-use Rattle.std.proofs.lemmas.List.Sums.{sum_by-cons}
-use Rattle.elfobj.specs.Counts.{Counts}
-use Rattle.elfobj.specs.Raised.{raised}
-use Rattle.elfobj.specs.declared.meter.Count.TheVariants.{Pieces}
-use Rattle.relink_driver.specs.Resume.{AreSameBefore, IsFirstChanged, IsNext}
-use Rattle.relink_driver.specs.StayedSections.{IsPreviousOf, PreviousState}
-use Rattle.ldmodel_laws.specs.Spread.{entries_in}
-use Rattle.ldmodel.specs.Layout.{Layout, PlacedPiece, PlacedOutput, nothing_placed}
-use Rattle.ldmodel.specs.Project.{Project}
-use Rattle.ldmodel.specs.Rows.{Piece, rows}
-use Rattle.ldmodel.specs.SessionWork.{entries_from}
-use Rattle.ldmodel.specs.Stayed.{GoodLink}
-use Rattle.emit.specs.Beside.{new_link}
+use Rattle.relink_driver.proofs.Common.{ArePlaced, AreSameBefore, Counts, GoodLink, IfSome, IsFirstChanged, IsNext}
+use Rattle.relink_driver.proofs.Common.{IsNone, IsPreviousOf, IsSome, Layout, List, None, Option, Pieces, PlacedOutput}
+use Rattle.relink_driver.proofs.Common.{PlacedPiece, PreviousState, Project, Some, [], ap, arith, entries_from}
+use Rattle.relink_driver.proofs.Common.{entries_in, false, flat_map, length, length-append, length-map, map, new_link}
+use Rattle.relink_driver.proofs.Common.{nothing_placed, raised, refl, rows, suc, sum_by-cons, zero, ℕ, ◌∙◌, ◌∷◌, ◌≡◌}
+use Rattle.ldmodel.specs.Rows.{Piece}
 use Rattle.place.specs.sections.Counted.{first_of, placed_from}
 use Rattle.place.specs.sections.declared.resume_point.ResumePoint.{ResumePoint}
-use Rattle.relink_driver.specs.Counted.{ArePlaced}
 use Rattle.relink_driver.specs.Phases.{HasPreviousLink}
 
 -- some link that the previous one may be

@@ -1,45 +1,25 @@
 -- The ranges of a link that stayed, as far as they are known, are those of its input sections that stayed.
-use Rattle.std.proofs.Common.{◌≡◌, ◌<◌, ◌≤◌, ◌==◌, ◌&&◌, ℕ, ◌^◌, Bool, true, false, cond, refl, sym, ap, length, map}
-use Rattle.std.proofs.Common.{◌∙◌, List, Option, Some, None, slice_get, subst}
-use Rattle.std.specs.List.{Contains}
-use Rattle.std.specs.Option.{option_and_then, option_map}
-use Rattle.std.specs.Prelude.{IfSome, IsSome}
-use Rattle.std.proofs.lemmas.Bool.{false≢true}
-use Rattle.std.proofs.lemmas.Option.{same_Some}
-use Rattle.ldmodel.specs.Edits.{AreNamesDistinct}
-use Rattle.ldmodel.specs.Layout.{PlacedPiece, PlacedOutput}
-use Rattle.ldmodel.specs.Link.{max_image_length}
-use Rattle.ldmodel.specs.NameFaults.{object_name}
-use Rattle.ldmodel.specs.Project.{NamedObject}
-use Rattle.ldmodel.specs.SectionHeaders.{image_length}
-use Rattle.ldmodel.specs.Segments.{SectionInFile, file_offset, in_file, nonempty, segments}
-use Rattle.ldmodel.specs.Stayed.{GoodLink, LinkedPiece, has_stayed, link_pieces, same_piece}
-use Rattle.ldmodel.specs.declared.names.ObjectPlace.{ObjectPlace}
-use Rattle.ldmodel.specs.declared.sections.Part.{Part}
-use Rattle.ldmodel.specs.declared.sections.SectionKey.{SectionKey}
-use Rattle.ldmodel_laws.specs.FileOrder.{AreInFileOrder}
-use Rattle.place.specs.IndexedLayout.{IsIndexedLayout, address_in}
-use Rattle.place.specs.declared.indexed_layout.IndexedLayout.{IndexedLayout}
-use Rattle.place.specs.declared.indexed_layout.SectionAddress.{SectionAddress}
-use Rattle.place.specs.declared.link_layout.LinkLayout.{LinkLayout}
+use Rattle.relink_driver.proofs.Common.{AreInFileOrder, AreNamesDistinct, AreSymbolValues, AreValuesOf, Bool, Contains}
+use Rattle.relink_driver.proofs.Common.{GoodLink, HasSomeStayed, HasStayedAt, IfSome, IndexedLayout, IsComplete}
+use Rattle.relink_driver.proofs.Common.{IsIndexedLayout, IsPieceOf, IsPreviousOf, IsSome, KnownLink, LinkLayout, List}
+use Rattle.relink_driver.proofs.Common.{NamedObject, None, ObjectPlace, Option, Part, PlacedOutput, PlacedPiece}
+use Rattle.relink_driver.proofs.Common.{PreviousState, PreviousView, SectionAddress, SectionInFile, SectionLocation}
+use Rattle.relink_driver.proofs.Common.{SectionRef, Some, ap, cond, false, false≢true, file_offset, image_length}
+use Rattle.relink_driver.proofs.Common.{in_any, in_file, last_place, length, location_in, location_of, location_with}
+use Rattle.relink_driver.proofs.Common.{map, max_image_length, name_of_object, named_object, nonempty, object_name}
+use Rattle.relink_driver.proofs.Common.{option_and_then, option_map, previous_location, previous_of, previous_state}
+use Rattle.relink_driver.proofs.Common.{range_if_same, refl, same_Some, same_location, segments, slice_get}
+use Rattle.relink_driver.proofs.Common.{stayed_range, subst, sym, true, ℕ, ◌&&◌, ◌<◌, ◌==◌, ◌^◌, ◌∙◌, ◌≡◌, ◌≤◌}
+use Rattle.ldmodel.specs.Stayed.{LinkedPiece, has_stayed, link_pieces, same_piece}
+use Rattle.place.specs.IndexedLayout.{address_in}
 use Rattle.emit.specs.relocate.PreviousLinkInfo as earlier
-use Rattle.emit.specs.relocate.PreviousLinkInfo.{HasStayedAt, IsComplete, HasSomeStayed, IsPieceOf}
-use Rattle.emit.specs.relocate.KnownLink.{KnownLink, name_of_object, named_object}
-use Rattle.emit.specs.relocate.SymbolValues.{AreSymbolValues, AreValuesOf}
 use Rattle.emit.specs.relocate.declared.previous_link_info.FileRange.{FileRange}
 use Rattle.emit.specs.relocate.declared.value.SymbolValue.{SymbolValue}
-use Rattle.relink_driver.specs.SectionLocation.{same_location, location_in, location_of, location_with}
-use Rattle.relink_driver.specs.StayedSections.{IsPreviousOf, PreviousState, range_if_same, stayed_range, previous_of}
-use Rattle.relink_driver.specs.StayedSections.{address_from, last_place, previous_address, previous_location}
-use Rattle.relink_driver.specs.StayedSections.{previous_state}
-use Rattle.relink_driver.specs.StayedSections.{standing_from}
-use Rattle.relink_driver.specs.declared.section_location.SectionLocation.{SectionLocation}
-use Rattle.relink_driver.specs.declared.stayed_sections.PreviousView.{PreviousView}
-use Rattle.relink_driver.proofs.Inside.{below_64}
-use Rattle.relink_driver.proofs.Kept as same
-use Rattle.relink_driver.proofs.Kept.{Same, alike, same_of}
-use Rattle.relink_driver.proofs.Standings.{Linked, in_link, link_in, of_link, owned, shows, stood}
-use Rattle.ldmodel_laws.proofs.Members.{in_any}
+use Rattle.relink_driver.specs.StayedSections.{address_from, previous_address, standing_from}
+use Rattle.relink_driver.proofs.BytesInImage.{below_64}
+use Rattle.relink_driver.proofs.StayedBySamePart as same
+use Rattle.relink_driver.proofs.StayedBySamePart.{Same, alike, same_of}
+use Rattle.relink_driver.proofs.TablesShowSections.{Linked, in_link, link_in, of_link, owned, shows, stood}
 
 -- a range is known where an input section stands as it stood
 record Known (before now : Option SectionLocation) (r : FileRange) : Type 0 where
@@ -68,11 +48,11 @@ then_some f (Some x) y e = (x, refl, e)
 module _ (old : GoodLink) (l : KnownLink) (keys : (k : ℕ) → l.number k ≡ k)
     (names : AreNamesDistinct l.project.objects) (t : IndexedLayout)
     (indexed_layout : IsIndexedLayout l.project l.layout t) where
-  named : (key : SectionKey) → name_of_object l key.object ≡ object_name l.project key.object.0
+  named : (key : SectionRef) → name_of_object l key.object ≡ object_name l.project key.object.0
   named key = ap (object_name l.project) (keys key.object.0)
 
-  module _ (y : PreviousState) (previous : IsPreviousOf old l.project y) (key : SectionKey) where
-    abbrev at_place : ℕ → SectionKey
+  module _ (y : PreviousState) (previous : IsPreviousOf old l.project y) (key : SectionRef) where
+    abbrev at_place : ℕ → SectionRef
     at_place j = record { object = record { 0 = j }; part = key.part }
 
     module _ (k : ℕ) (q : PlacedOutput) (z : PlacedPiece) (at : slice_get l.layout.sections k ≡ Some q)
@@ -96,7 +76,8 @@ module _ (old : GoodLink) (l : KnownLink) (keys : (k : ℕ) → l.number k ≡ k
           let now = (shows l.project l.layout t indexed_layout key k q z at among (sym object)
           (sym part)).is h.new h.is
           in (
-            same.sound old l.project y.from previous.origins previous.table.names names key.object.0 x object refl some
+            same.sound old l.project y.origins previous.origins previous.table.names names key.object.0 x object refl
+                some
                 (of_link old.project old.layout before.section before.piece) refl w.0 w.1
                 (link_in old.project old.layout before.number before.section before.piece before.at before.among)
                 (sym before.object) (sym before.part ∙ sym part) h.old h.new before.is now h.alike,
@@ -130,12 +111,14 @@ module _ (old : GoodLink) (l : KnownLink) (keys : (k : ℕ) → l.number k ≡ k
           stands None e g h =
               let o = owned old.project old.layout y.snapshot.indexed_layout previous.table.indexed_layout
               there.number there.section there.piece there.at there.among in
-              same.not_fresh old l.project y.from previous.origins previous.table.names names key.object.0 x object refl
+              same.not_fresh old l.project y.origins previous.origins previous.table.names names key.object.0 x object
+              refl
               some v
               refl same_v o.object o.among o.is e
           stands (Some j) e g h =
               let name =
-              same.old_name old l.project y.from previous.origins previous.table.names names key.object.0 x object refl
+              same.old_name old l.project y.origins previous.origins previous.table.names names key.object.0 x object
+              refl
               some v
               refl same_v j e in
               let was = shows old.project old.layout y.snapshot.indexed_layout previous.table.indexed_layout
@@ -161,7 +144,7 @@ module _ (old : GoodLink) (l : KnownLink) (keys : (k : ℕ) → l.number k ≡ k
                 absurd (stands found.member (in_link old.project old.layout found.member found.among)
                 (same_of x found.member found.passes) (last_place y key.object) refl refl h)
 
-  pub sound : (m : Option PreviousState) → IfSome m (IsPreviousOf old l.project) → (key : SectionKey) (r : FileRange)
+  pub sound : (m : Option PreviousState) → IfSome m (IsPreviousOf old l.project) → (key : SectionRef) (r : FileRange)
       → stayed_range m t key ≡ Some r → HasStayedAt old l key r
   unfolding stayed_range
   sound None h key r e = absurd (let none : ⊥ = cc in none)
@@ -178,7 +161,7 @@ module _ (old : GoodLink) (l : KnownLink) (keys : (k : ℕ) → l.number k ≡ k
       → map (λ (v : SectionInFile). v.section) (in_file (segments l.layout.sections)) ≡ nonempty l.layout.sections
       → ((v : SectionInFile) → Contains (in_file (segments l.layout.sections)) v
       → file_offset (segments l.layout.sections) v.section ≡ v.offset)
-      → (key : SectionKey) (x : LinkedPiece) → stayed_range (Some y) t key ≡ None → IsPieceOf l key x
+      → (key : SectionRef) (x : LinkedPiece) → stayed_range (Some y) t key ≡ None → IsPieceOf l key x
       → has_stayed old x ≡ false
   unfolding stayed_range
   complete y previous short order all offset_is key x e piece =
@@ -199,12 +182,12 @@ module _ (old : GoodLink) (l : KnownLink) (keys : (k : ℕ) → l.number k ≡ k
       (previous_state y) previous short order all offset_is
 
 -- a section that is known to have stayed has, if each range that is known says so
-pub if_known : (old : GoodLink) (l : KnownLink) (key : SectionKey) (known : Option FileRange)
+pub if_known : (old : GoodLink) (l : KnownLink) (key : SectionRef) (known : Option FileRange)
     → ((r : FileRange) → known ≡ Some r → HasStayedAt old l key r) → IfSome known (HasStayedAt old l key)
 if_known old l key None h = tt
 if_known old l key (Some r) h = h r refl
 
-pub none_known : (m : Option PreviousState) (t : IndexedLayout) (key : SectionKey) → m ≡ None
+pub none_known : (m : Option PreviousState) (t : IndexedLayout) (key : SectionRef) → m ≡ None
     → stayed_range m t key ≡ None
 unfolding stayed_range
 none_known m t key e = ap (λ n. stayed_range n t key) e
@@ -225,7 +208,7 @@ elsewhere b a e (Some r) (Some s) =
     (sym e)
 
 module _ (m : Option PreviousView) (y : PreviousView) (last_is : m ≡ Some y) (t : IndexedLayout)
-    (key : SectionKey) where
+    (key : SectionRef) where
   abbrev was : LinkLayout
   was = y.snapshot.now.indexed_layout.link_layout
 

@@ -1,10 +1,8 @@
 -- Counts of objects and names that stay, and others that do not fall.
-use Rattle.std.proofs.Common.{◌≡◌, ◌∙◌, ◌<◌, ◌≤◌, ◌^◌, ℕ, ap, arith, inl, inr}
-use Rattle.elfobj.specs.Counts.{Counts, capped}
-use Rattle.elfobj.specs.Raised.{raised}
+use Rattle.relink_driver.proofs.Common.{Counts, EndsReadingNothing, ReadsNothing, ap, arith, capped, inl, inr, raised}
+use Rattle.relink_driver.proofs.Common.{ℕ, ◌<◌, ◌^◌, ◌∙◌, ◌≡◌, ◌≤◌}
 use Rattle.elfobj.specs.declared.meter.Count.TheVariants as counts
 use Rattle.place.specs.sections.Counted.{CountsPieces}
-use Rattle.relink_driver.specs.Reads.{EndsReadingNothing, ReadsNothing}
 use Rattle.relink_driver.specs.declared.pass_end.PassEnd.{PassEnd}
 use Rattle.relink_driver.specs.declared.pass_end.PassEnd.TheVariants.{Faulty, NoMemory}
 
@@ -63,10 +61,10 @@ bytes_read_nothing old new n small e = record {
 
 pub ends_reading : (old new : Counts) (stop : PassEnd) → ReadsNothing old new → EndsReadingNothing old new stop
 ends_reading old new (Faulty o) r = r
-ends_reading old new NoMemory r = tt
+ends_reading old new (NoMemory _) r = tt
 
 -- what read nothing, and then ended so
 pub reads_ending : (a b c : Counts) (stop : PassEnd) → ReadsNothing a b → EndsReadingNothing b c stop
     → EndsReadingNothing a c stop
 reads_ending a b c (Faulty o) x y = reads_then a b c x y
-reads_ending a b c NoMemory x y = tt
+reads_ending a b c (NoMemory _) x y = tt

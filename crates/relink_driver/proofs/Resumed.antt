@@ -1,23 +1,11 @@
 -- A link over a previous one may take the previous layout over, up to the first row that differs.
-use Rattle.std.proofs.Common.{◌≡◌, ◌≤◌, ℕ, true, sym, ap, List, [], map, flat_map, take, subst, ◌∙◌}
+use Rattle.relink_driver.proofs.Common.{AreSameBefore, Each, GoodLink, IsFirstChanged, IsNext, IsOwned, IsPlacement}
+use Rattle.relink_driver.proofs.Common.{IsPreviousOf, IsResumable, List, PreviousState, Project, Statement, [], ap}
+use Rattle.relink_driver.proofs.Common.{entries_from, entries_in, first_changed, flat_map, map, provided, rows_in}
+use Rattle.relink_driver.proofs.Common.{slice_index_or, subst, sym, take, true, ℕ, ◌∙◌, ◌≡◌, ◌≤◌}
 use Rattle.std.specs.Global.{Vec}
-use Rattle.std.specs.List.{slice_index_or}
-use Rattle.ldmodel.specs.Each.{Each}
-use Rattle.ldmodel.specs.Names.{provided}
-use Rattle.ldmodel.specs.Project.{Project}
 use Rattle.ldmodel.specs.Rows as model
-use Rattle.ldmodel.specs.SessionWork.{entries_from}
-use Rattle.ldmodel.specs.Stayed.{GoodLink}
 use Rattle.ldmodel.specs.declared.rows.Piece.{Piece}
-use Rattle.ldmodel_laws.specs.Spread.{entries_in}
-use Rattle.ldmodel_project.specs.ByPlace.{rows_in}
-use Rattle.ldscript.specs.statements.declared.statement.Statement.{Statement}
-use Rattle.place.specs.sections.Resumable.{IsResumable}
-use Rattle.place.specs.sections.Places.{IsPlacement}
-use Rattle.place.specs.InPlace.{IsOwned}
-use Rattle.relink_driver.specs.Resume.{AreSameBefore, IsFirstChanged, IsNext}
-use Rattle.relink_driver.specs.SameRows.{first_changed}
-use Rattle.relink_driver.specs.StayedSections.{IsPreviousOf, PreviousState}
 use Rattle.relink_driver.proofs.SameRows.{fewest, same_before}
 
 module _ (old : GoodLink) (new : Project) (x : PreviousState) (previous : IsPreviousOf old new x)

@@ -1,47 +1,21 @@
 -- A link whose project differs from that of a previous one in what the input sections of one object hold: what is kept
 -- of the previous link is right for it.
-use Rattle.std.proofs.Common.{◌≡◌, ◌∙◌, ◌⊎◌, inl, inr, ◌<◌, ◌≤◌, ℕ, ◌==◌, Bool, true, false, cond, List, [], ◌∷◌}
-use Rattle.std.proofs.Common.{Option, Some}
-use Rattle.std.proofs.Common.{None, ap, arith, length, map, refl, slice_get, subst, sym}
-use Rattle.std.specs.List.{list_any}
-use Rattle.std.specs.Option.{option_map}
-use Rattle.std.specs.Prelude.{IfSome, IsSome, position}
-use Rattle.std.proofs.lemmas.Bool.{cases_lt, eq-eqb, eqb-false, eqb-true, ne_eqb}
-use Rattle.std.proofs.lemmas.List.{length-map}
-use Rattle.std.proofs.lemmas.Option.{same_Some, slice_get-map, slice_get_past}
-use Rattle.elfobj.specs.Object.{ObjectData}
-use Rattle.elfobj.specs.Symbols.{NamedSymbol}
-use Rattle.ldmodel.specs.Each.{Each}
-use Rattle.ldmodel.specs.Edits.{AreNamesDistinct}
-use Rattle.ldmodel.specs.Layout.{Layout, PlacedPiece, PlacedOutput}
+use Rattle.relink_driver.proofs.Common.{AreNamesDistinct, AreOf, AreSymbolValues, Bool, DiffersInContents, Each}
+use Rattle.relink_driver.proofs.Common.{GoodLink, HasSameOutlines, IfSome, IndexedLayout, IsGood, IsIndexedLayout}
+use Rattle.relink_driver.proofs.Common.{IsLinkLayout, IsNextLink, IsOwned, IsPlacement, IsPreviousOf, IsReplaced}
+use Rattle.relink_driver.proofs.Common.{IsSectionAddress, IsSome, Layout, LinkLayout, LinkOptions, List, NamedObject}
+use Rattle.relink_driver.proofs.Common.{NamedSymbol, None, ObjectData, ObjectOutline, Option, PlacedOutput, PlacedPiece}
+use Rattle.relink_driver.proofs.Common.{PreviousState, Project, ReplacedObjectState, SectionAddress, SectionOutline}
+use Rattle.relink_driver.proofs.Common.{SectionRef, Some, Statement, SymbolValues, [], ap, arith, cases_lt, cond}
+use Rattle.relink_driver.proofs.Common.{entries_of, eq-eqb, eqb-false, eqb-true, false, inl, inr, is_part, length}
+use Rattle.relink_driver.proofs.Common.{length-map, list_any, map, ne_eqb, new_link, object_outline, object_targets}
+use Rattle.relink_driver.proofs.Common.{option_map, origin_beside, placed_part, placement, position, provided, refl}
+use Rattle.relink_driver.proofs.Common.{rows, same_Some, section_outline, section_targets, slice_get, slice_get-map}
+use Rattle.relink_driver.proofs.Common.{slice_get_past, subst, sym, true, ℕ, ◌<◌, ◌==◌, ◌∙◌, ◌∷◌, ◌≡◌, ◌≤◌, ◌⊎◌}
 use Rattle.ldmodel.specs.Link as model
-use Rattle.ldmodel.specs.Names.{provided}
-use Rattle.ldmodel.specs.Options.{LinkOptions}
-use Rattle.ldmodel.specs.Placement.{placement}
-use Rattle.ldmodel.specs.Project.{NamedObject, Project}
-use Rattle.ldmodel.specs.Rows.{rows}
 use Rattle.ldmodel.specs.Rows as rows_of
-use Rattle.ldmodel.specs.Stayed.{GoodLink}
-use Rattle.ldmodel.specs.SymbolValues.{is_part, placed_part}
-use Rattle.ldmodel.specs.declared.sections.SectionKey.{SectionKey}
-use Rattle.ldmodel_laws.specs.Outline.{DiffersInContents, ObjectOutline, SectionOutline, object_outline, object_targets}
-use Rattle.ldmodel_laws.specs.Outline.{section_outline, section_targets}
-use Rattle.ldmodel_laws.specs.Untouched.{IsGood}
-use Rattle.ldscript.specs.statements.declared.statement.Statement.{Statement}
-use Rattle.emit.specs.Beside.{new_link}
-use Rattle.emit.specs.relocate.SymbolValues.{AreSymbolValues}
-use Rattle.emit.specs.relocate.declared.symbol_values.SymbolValues.{SymbolValues}
 use Rattle.gather.specs.SectionTable.{IsTableOf, number_of}
 use Rattle.gather.specs.declared.input_section_table.InputSectionTable.{InputSectionTable}
-use Rattle.place.specs.IndexedLayout.{IsIndexedLayout, IsSectionAddress}
-use Rattle.place.specs.InPlace.{IsOwned, entries_of}
-use Rattle.place.specs.LinkLayout.{IsLinkLayout}
-use Rattle.place.specs.declared.indexed_layout.IndexedLayout.{IndexedLayout}
-use Rattle.place.specs.declared.indexed_layout.SectionAddress.{SectionAddress}
-use Rattle.place.specs.declared.link_layout.LinkLayout.{LinkLayout}
-use Rattle.place.specs.sections.Places.{AreOf, IsPlacement}
-use Rattle.relink_driver.specs.InPlace.{IsNextLink, HasSameOutlines, origin_beside}
-use Rattle.relink_driver.specs.StayedSections.{IsPreviousOf, IsReplaced, PreviousState, ReplacedObjectState}
 use Rattle.relink_driver.specs.LinkSnapshot.{IsLinkSnapshot}
 use Rattle.relink_driver.specs.declared.link_snapshot.LinkSnapshot.{LinkSnapshot}
 use Rattle.relink_driver.proofs.Outlines.{same_at}
@@ -64,13 +38,13 @@ module _ (old : GoodLink) (p : Project) (x : PreviousState) (r : ReplacedObjectS
   pub came : IsReplaced old.project p r
   came = subst (λ (m : Option ReplacedObjectState). IfSome m (IsReplaced old.project p)) f.replaced is.replaced
 
-  pub was : slice_get old.project.objects r.new.0 ≡ Some came.before
+  pub was : slice_get old.project.objects r.new_place.0 ≡ Some came.before
   was = ap (slice_get old.project.objects) (sym f.place) ∙ came.old
 
   abbrev pub came_before : NamedObject
   came_before = came.before
 
-  pub came_is : came.before.object ≡ r.object
+  pub came_is : came.before.object ≡ r.old_object
   came_is = came.object
 
   after_is : came.after ≡ f.after
@@ -86,48 +60,48 @@ module _ (old : GoodLink) (p : Project) (x : PreviousState) (r : ReplacedObjectS
       ap (λ n. made n came.before.object.symbols (map section_outline came.before.object.sections))
       (sym came.name ∙ ap (λ (o : NamedObject). o.name) after_is)
       ∙ ap (λ (d : ObjectData). made f.after.name d.symbols (map section_outline d.sections)) came.object
-      ∙ ap (λ l. made f.after.name l (map section_outline r.object.sections)) f.symbols
+      ∙ ap (λ l. made f.after.name l (map section_outline r.old_object.sections)) f.symbols
       ∙ ap (made f.after.name f.after.object.symbols) f.sections
 
-  others : (j : ℕ) → (j ≡ r.new.0 → ⊥) → slice_get old.project.objects j ≡ slice_get p.objects j
+  others : (j : ℕ) → (j ≡ r.new_place.0 → ⊥) → slice_get old.project.objects j ≡ slice_get p.objects j
   others j other = go (cases_lt j (length p.objects))
     where
       go : (j < length p.objects) ⊎ (length p.objects ≤ j)
           → slice_get old.project.objects j ≡ slice_get p.objects j
       go (inl within) =
-          sym (is.origins.same j j (f.origins j within ∙ beside_other r.new.0 j other))
+          sym (is.origins.same j j (f.origins j within ∙ beside_other r.new_place.0 j other))
       go (inr past) =
           slice_get_past old.project.objects j (omega (arith, past, many)) ∙ sym (slice_get_past p.objects j past)
 
   same_outline : (j : ℕ) → outline_at old.project j ≡ outline_at p j
-  same_outline j = go (j == r.new.0) refl
+  same_outline j = go (j == r.new_place.0) refl
     where
-      go : (b : Bool) → (j == r.new.0) ≡ b → outline_at old.project j ≡ outline_at p j
+      go : (b : Bool) → (j == r.new_place.0) ≡ b → outline_at old.project j ≡ outline_at p j
       go true e =
-          let here : j ≡ r.new.0 = eqb-true j r.new.0 e in
+          let here : j ≡ r.new_place.0 = eqb-true j r.new_place.0 e in
           ap (λ k. outline_at old.project k) here ∙ ap (option_map object_outline) was ∙ ap Some outline_there
           ∙ sym (ap (option_map object_outline) f.at) ∙ ap (λ k. outline_at p k) (sym here)
-      go false e = ap (option_map object_outline) (others j (eqb-false j r.new.0 e))
+      go false e = ap (option_map object_outline) (others j (eqb-false j r.new_place.0 e))
 
   same_targets : p.options.gc ≡ true → (j : ℕ)
       → option_map object_targets (slice_get old.project.objects j)
       ≡ option_map object_targets (slice_get p.objects j)
-  same_targets on j = go (j == r.new.0) refl
+  same_targets on j = go (j == r.new_place.0) refl
     where
       there : object_targets came.before ≡ object_targets f.after
       there = ap (λ (d : ObjectData). map section_targets d.sections) came.object ∙ f.references on
 
-      go : (b : Bool) → (j == r.new.0) ≡ b
+      go : (b : Bool) → (j == r.new_place.0) ≡ b
           → option_map object_targets (slice_get old.project.objects j)
           ≡ option_map object_targets (slice_get p.objects j)
       go true e =
-          let here : j ≡ r.new.0 = eqb-true j r.new.0 e in
+          let here : j ≡ r.new_place.0 = eqb-true j r.new_place.0 e in
           let targets_in = λ (os : List NamedObject) (k : ℕ). option_map object_targets (slice_get os k) in
           ap (targets_in old.project.objects) here ∙ ap (option_map object_targets) was ∙ ap Some there
           ∙ sym (ap (option_map object_targets) f.at) ∙ ap (targets_in p.objects) (sym here)
-      go false e = ap (option_map object_targets) (others j (eqb-false j r.new.0 e))
+      go false e = ap (option_map object_targets) (others j (eqb-false j r.new_place.0 e))
 
-  pub is_rewritten : DiffersInContents old.project p r.new.0
+  pub is_rewritten : DiffersInContents old.project p r.new_place.0
   is_rewritten = record {
     script = is.script f.script;
     options = is.options;
@@ -171,7 +145,7 @@ module _ (p q : Project) (i : ℕ) (h : DiffersInContents p q i) (s : Layout) (k
     named = is.named;
   }
 
-  same_place : (key : SectionKey) (m : Option SectionAddress) → IsSectionAddress p s key m → IsSectionAddress q s key m
+  same_place : (key : SectionRef) (m : Option SectionAddress) → IsSectionAddress p s key m → IsSectionAddress q s key m
   same_place key None is =
       subst (λ n. placed_part s n key.part ≡ None) (same_names p q i h key.object.0) is
   same_place key (Some x) is =

@@ -1,45 +1,26 @@
 -- Rows that the code finds to be the same are the same, and rows that are the same are found to be.
-use Rattle.std.proofs.Common.{◌≡◌, ◌<◌, ◌≤◌, ℕ, zero, suc, ◌+◌, ◌==◌, Bool, true, false, cond, not, refl, sym, ap}
-use Rattle.std.proofs.Common.{List, [], ◌∷◌, length, map, flat_map, take, drop, get_or, subst, arith, ◌∙◌}
-use Rattle.std.proofs.Common.{Option, Some, None, slice_get, eq-eqb, length-append}
+use Rattle.relink_driver.proofs.Common.{AreNamesDistinct, AreOrigins, Bool, Contains, Each, HasReplaced, IfSome}
+use Rattle.relink_driver.proofs.Common.{InCommon, InTable, IsOwned, IsReplaced, LinkedSection, List, NamedObject, None}
+use Rattle.relink_driver.proofs.Common.{Option, Part, PreviousState, Project, ReplacedObjectState, SectionKind}
+use Rattle.relink_driver.proofs.Common.{SectionRef, Some, [], and_from, and_parts, ap, arith, at_place}
+use Rattle.relink_driver.proofs.Common.{bytes_eq-Decides, cond, drop, entries_from, eq-eqb, eqb-true, false, false≢true}
+use Rattle.relink_driver.proofs.Common.{first_changed, flat_map, get_or, has_name, is_same_part, last_place, length}
+use Rattle.relink_driver.proofs.Common.{length-append, length-map, ltb-false, map, nat_lt, not, object_name}
+use Rattle.relink_driver.proofs.Common.{option_and_then, option_map_or, piece_in, position, position_or_len}
+use Rattle.relink_driver.proofs.Common.{prefix_len-le-length, refl, rows_in, same_Some, section_numbered, slice_get}
+use Rattle.relink_driver.proofs.Common.{slice_index_or, subst, suc, sum_by-cons, sym, take, true, unwrap_or, vec_items}
+use Rattle.relink_driver.proofs.Common.{zero, ℕ, ◌+◌, ◌<◌, ◌==◌, ◌∙◌, ◌∷◌, ◌≡◌, ◌≤◌}
 use Rattle.std.specs.Global.{Vec}
-use Rattle.std.specs.List.{Contains, position_or_len, slice_index_or}
-use Rattle.std.specs.Option.{option_and_then, option_map_or}
-use Rattle.std.specs.Prelude.{IfSome, nat_lt, position, unwrap_or}
-use Rattle.std.specs.Vec.{vec_items}
-use Rattle.std.proofs.lemmas.Bool.{eqb-true, false≢true, ltb-false, and_parts, and_from}
-use Rattle.std.proofs.lemmas.List.{length-map}
-use Rattle.std.proofs.lemmas.List.Sums.{prefix_len-le-length, sum_by-cons}
-use Rattle.std.proofs.lemmas.Option.{same_Some}
-use Rattle.std.proofs.lemmas.Slice.Eq.{bytes_eq-Decides}
-use Rattle.elfobj.specs.Sections.{LinkedSection}
-use Rattle.elfobj.specs.declared.section.SectionKind.{SectionKind}
 use Rattle.elfobj.specs.declared.section.SectionKind.TheVariants.{Progbits, Nobits, Note, InitArray, FiniArray}
 use Rattle.elfobj.specs.declared.section.SectionKind.TheVariants.{PreinitArray, Unwind}
-use Rattle.ldmodel.specs.Edits.{AreNamesDistinct, has_name}
 use Rattle.ldmodel.specs.FaultCode.{name_of_part}
-use Rattle.ldmodel.specs.Each.{Each}
-use Rattle.ldmodel.specs.Image.{section_numbered}
-use Rattle.ldmodel.specs.NameFaults.{object_name}
-use Rattle.ldmodel.specs.Project.{NamedObject, Project}
 use Rattle.ldmodel.specs.Rows as model
-use Rattle.ldmodel.specs.Sections.{is_same_part}
-use Rattle.ldmodel.specs.SessionWork.{entries_from}
 use Rattle.ldmodel.specs.declared.rows.Piece.{Piece}
-use Rattle.ldmodel.specs.declared.sections.Part.{Part}
-use Rattle.ldmodel.specs.declared.sections.Part.TheVariants.{InTable, InCommon}
-use Rattle.ldmodel.specs.declared.sections.SectionKey.{SectionKey}
-use Rattle.ldmodel_project.specs.ByPlace.{name_of_section, piece_in, rows_in}
-use Rattle.place.specs.InPlace.{IsOwned}
-use Rattle.relink_driver.specs.Resume.{HasReplaced}
-use Rattle.relink_driver.specs.Origins.{AreOrigins}
-use Rattle.relink_driver.specs.SameRows.{are_same_pieces, replaced_part, first_changed, has_same_name}
-use Rattle.relink_driver.specs.SameRows.{is_of_same_object}
+use Rattle.ldmodel_project.specs.ByPlace.{name_of_section}
+use Rattle.relink_driver.specs.SameRows.{are_same_pieces, replaced_part, has_same_name, is_of_same_object}
 use Rattle.relink_driver.specs.SameRows.{is_same_piece, is_same_row, is_same_section, kind_number, part_name}
-use Rattle.relink_driver.specs.StayedSections.{IsReplaced, PreviousState, ReplacedObjectState, last_place}
-use Rattle.relink_driver.proofs.Kept.{counted, same_part}
-use Rattle.relink_driver.proofs.Once.{own_part}
-use Rattle.ldmodel_laws.proofs.Members.{at_place}
+use Rattle.relink_driver.proofs.StayedBySamePart.{counted, same_part}
+use Rattle.relink_driver.proofs.SectionsStandOnce.{own_part}
 use Rattle.ldmodel_laws.proofs.EachOf.{each_parts}
 
 -- ---- lists
@@ -140,7 +121,7 @@ has_object p i some = go (slice_get p.objects i) refl
 -- ---- sections and entries
 
 -- two sections have the same names, and the same part
-record AreNamedAlike (old new : Project) (a b : SectionKey) : Type 0 where
+record AreNamedAlike (old new : Project) (a b : SectionRef) : Type 0 where
   part : a.part ≡ b.part
   object : object_name old a.object.0 ≡ object_name new b.object.0
   section : name_of_section old a ≡ name_of_section new b
@@ -157,9 +138,9 @@ entry statement object part name kind flags size alignment = record {
   alignment = alignment;
 }
 
-module _ (old new : Project) (x : PreviousState) (origins : AreOrigins old new x.from)
+module _ (old new : Project) (x : PreviousState) (origins : AreOrigins old new x.origins)
     (replaced : IfSome x.replaced (IsReplaced old new)) where
-  module _ (a b : SectionKey) where
+  module _ (a b : SectionRef) where
     -- ---- found to be the same
 
     same_names : (i : ℕ) → slice_get new.objects b.object.0 ≡ slice_get old.objects i → i ≡ a.object.0
@@ -183,16 +164,16 @@ module _ (old new : Project) (x : PreviousState) (origins : AreOrigins old new x
     came : (r : ReplacedObjectState) → IsReplaced old new r → replaced_part r new a b ≡ true → a.part ≡ b.part
         → AreNamedAlike old new a b
     came r is h part =
-        let first = and_parts (r.old.0 == a.object.0) _ h in
-        let second = and_parts (r.new.0 == b.object.0) _ first.1 in
+        let first = and_parts (r.old_place.0 == a.object.0) _ h in
+        let second = and_parts (r.new_place.0 == b.object.0) _ first.1 in
         let before : slice_get old.objects a.object.0 ≡ Some is.before =
-        ap (slice_get old.objects) (sym (eqb-true r.old.0 a.object.0 first.0)) ∙ is.old in
+        ap (slice_get old.objects) (sym (eqb-true r.old_place.0 a.object.0 first.0)) ∙ is.old in
         let after : slice_get new.objects b.object.0 ≡ Some is.after =
-        ap (slice_get new.objects) (sym (eqb-true r.new.0 b.object.0 second.0)) ∙ is.new in
-        let found : has_same_name r.object a.part is.after ≡ true =
-        ap (λ m. option_map_or (has_same_name r.object a.part) m false) (sym after) ∙ second.1 in
-        let named : part_name r.object a.part ≡ part_name is.after.object a.part =
-        (bytes_eq-Decides (part_name r.object a.part) (part_name is.after.object a.part)).0 found in
+        ap (slice_get new.objects) (sym (eqb-true r.new_place.0 b.object.0 second.0)) ∙ is.new in
+        let found : has_same_name r.old_object a.part is.after ≡ true =
+        ap (λ m. option_map_or (has_same_name r.old_object a.part) m false) (sym after) ∙ second.1 in
+        let named : part_name r.old_object a.part ≡ part_name is.after.object a.part =
+        (bytes_eq-Decides (part_name r.old_object a.part) (part_name is.after.object a.part)).0 found in
         record {
           part = part;
           object = object_is old a.object.0 is.before before ∙ sym is.name
@@ -221,7 +202,7 @@ module _ (old new : Project) (x : PreviousState) (origins : AreOrigins old new x
     -- ---- to be found
 
     module _ (distinct : AreNamesDistinct old.objects)
-        (known : (i : ℕ) (o y : NamedObject) → slice_get new.objects i ≡ Some o → slice_index_or x.from i None ≡ None
+        (known : (i : ℕ) (o y : NamedObject) → slice_get new.objects i ≡ Some o → slice_index_or x.origins i None ≡ None
         → Contains old.objects y → y.name ≡ o.name → HasReplaced x.replaced i)
         (alike : AreNamedAlike old new a b) (y : NamedObject) (was : slice_get old.objects a.object.0 ≡ Some y)
         (o : NamedObject) (is : slice_get new.objects b.object.0 ≡ Some o) where
@@ -237,17 +218,17 @@ module _ (old new : Project) (x : PreviousState) (origins : AreOrigins old new x
           let same : there.before.name ≡ y.name =
           sym there.name ∙ sym (object_is new b.object.0 there.after after) ∙ sym alike.object
           ∙ object_is old a.object.0 y was in
-          let place = one_place old.objects r.old.0 a.object.0 there.before y distinct there.old was same in
+          let place = one_place old.objects r.old_place.0 a.object.0 there.before y distinct there.old was same in
           let before : slice_get old.objects a.object.0 ≡ Some there.before =
           ap (slice_get old.objects) (sym place) ∙ there.old in
-          let named : part_name r.object a.part ≡ part_name there.after.object a.part =
+          let named : part_name r.old_object a.part ≡ part_name there.after.object a.part =
           ap (λ o. part_name o a.part) (sym there.object) ∙ sym (part_is old a.object.0 a.part there.before before)
           ∙ alike.section ∙ ap (name_of_part new b.object.0) (sym alike.part)
           ∙ part_is new b.object.0 a.part there.after after in
-          and_from (r.old.0 == a.object.0) _ (eq-eqb r.old.0 a.object.0 place)
-          (and_from (r.new.0 == b.object.0) _ (eq-eqb r.new.0 b.object.0 h)
-          (ap (λ m. option_map_or (has_same_name r.object a.part) m false) after
-          ∙ (bytes_eq-Decides (part_name r.object a.part) (part_name there.after.object a.part)).1 named))
+          and_from (r.old_place.0 == a.object.0) _ (eq-eqb r.old_place.0 a.object.0 place)
+          (and_from (r.new_place.0 == b.object.0) _ (eq-eqb r.new_place.0 b.object.0 h)
+          (ap (λ m. option_map_or (has_same_name r.old_object a.part) m false) after
+          ∙ (bytes_eq-Decides (part_name r.old_object a.part) (part_name there.after.object a.part)).1 named))
 
       found_object : (m : Option ℕ) → last_place x b.object ≡ m → is_of_same_object x new a b m ≡ true
       found_object (Some i) e =
@@ -329,7 +310,7 @@ module _ (old new : Project) (x : PreviousState) (origins : AreOrigins old new x
       go true e (suc k) l next = next k (omega (arith, l))
 
   module _ (distinct : AreNamesDistinct old.objects)
-      (known : (i : ℕ) (o y : NamedObject) → slice_get new.objects i ≡ Some o → slice_index_or x.from i None ≡ None
+      (known : (i : ℕ) (o y : NamedObject) → slice_get new.objects i ≡ Some o → slice_index_or x.origins i None ≡ None
       → Contains old.objects y → y.name ≡ o.name → HasReplaced x.replaced i) where
     found_piece : (a b : Piece) → piece_in old a ≡ piece_in new b → IsOwned old (piece_in old a)
         → is_same_piece x new a b ≡ true

@@ -1,31 +1,16 @@
 -- The values of the symbols of objects, one object after another.
-use Rattle.std.proofs.Common.{◌≡◌, ◌<◌, ◌≤◌, ◌⊎◌, inl, inr, ℕ, zero, suc, ◌+◌, refl, sym, ap, subst, List, []}
-use Rattle.std.proofs.Common.{◌∷◌, ◌++◌, length, map, flat_map, take, get_or, arith, ◌∙◌, Some, slice_get}
-use Rattle.std.specs.List.{slice_index_or}
-use Rattle.std.specs.Option.{option_map}
-use Rattle.std.proofs.lemmas.Bool.{cases_lt}
-use Rattle.std.proofs.lemmas.List.{append_assoc, length-append, length-map, map-append, take_all}
-use Rattle.std.proofs.lemmas.Option.{get_or_from_slice_get, same_Some, slice_get-map, slice_get_read, slice_get_within}
-use Rattle.elfobj.specs.Object.{ObjectData}
-use Rattle.elfobj.specs.Symbols.{NamedSymbol}
-use Rattle.elfobj.specs.declared.symbol.Symbol.{Symbol}
-use Rattle.ldmodel.specs.Layout.{Layout}
-use Rattle.ldmodel.specs.Project.{NamedObject, Project}
+use Rattle.relink_driver.proofs.Common.{AreSymbolValues, AreValueSources, IsSymbolOf, KnownLink, Layout, List}
+use Rattle.relink_driver.proofs.Common.{NamedObject, NamedSymbol, ObjectData, ObjectPlace, Project, Some, Symbol}
+use Rattle.relink_driver.proofs.Common.{SymbolTableState, SymbolValues, ValueSources, [], ap, append_assoc, arith}
+use Rattle.relink_driver.proofs.Common.{cases_lt, flat_map, get_or, get_or_from_slice_get, inl, inr, known_link, length}
+use Rattle.relink_driver.proofs.Common.{length-append, length-map, map, map-append, named_object, option_map}
+use Rattle.relink_driver.proofs.Common.{referenced_value, refl, same_Some, shown_input, shown_inputs, slice_get}
+use Rattle.relink_driver.proofs.Common.{slice_get-map, slice_get_read, slice_get_within, slice_index_or, subst, suc}
+use Rattle.relink_driver.proofs.Common.{sym, take, take_all, value_of, zero, ℕ, ◌++◌, ◌+◌, ◌<◌, ◌∙◌, ◌∷◌, ◌≡◌, ◌≤◌, ◌⊎◌}
 use Rattle.ldmodel.specs.SymbolValues as model
-use Rattle.ldmodel.specs.Targets.{referenced_value}
-use Rattle.ldmodel.specs.declared.names.ObjectPlace.{ObjectPlace}
-use Rattle.symres.specs.SymbolTable.{SymbolTableState}
-use Rattle.ldmodel_project.specs.Inputs.{shown_input, shown_inputs}
 use Rattle.ldmodel_project.specs.declared.input.InputObject.{InputObject}
-use Rattle.emit.specs.relocate.KnownLink.{IsSymbolOf, KnownLink, named_object}
-use Rattle.emit.specs.relocate.Values.{value_of}
 use Rattle.emit.specs.relocate.declared.value.SymbolValue.{SymbolValue}
 use Rattle.emit.specs.relocate.declared.value.SymbolValue.TheVariants.{NotDefined}
-use Rattle.emit.specs.relocate.LinkView.{known_link}
-use Rattle.relink_driver.specs.ValueSources.{AreValueSources}
-use Rattle.relink_driver.specs.declared.symbol_values.ValueSources.{ValueSources}
-use Rattle.emit.specs.relocate.SymbolValues.{AreSymbolValues}
-use Rattle.emit.specs.relocate.declared.symbol_values.SymbolValues.{SymbolValues}
 
 -- ---- lists
 

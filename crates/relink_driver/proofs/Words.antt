@@ -1,7 +1,7 @@
 -- The words of the files of a link, by their places.
-use Rattle.std.proofs.Common.{◌≡◌, ℕ, zero, suc, ◌<◌, ◌≤◌, ◌-◌, List, [], ◌∷◌, map, length, get_or, arith, ap, refl}
-use Rattle.std.specs.Prelude.{slice_get, option_map, unwrap_or}
-use Rattle.std.proofs.lemmas.Option.{slice_get-map, slice_get-get_or, slice_get_past}
+use Rattle.relink_driver.proofs.Common.{List, [], ap, arith, get_or, length, map, option_map, refl, slice_get}
+use Rattle.relink_driver.proofs.Common.{slice_get-get_or, slice_get-map, slice_get_past, suc, unwrap_or, zero, ℕ, ◌-◌}
+use Rattle.relink_driver.proofs.Common.{◌<◌, ◌∷◌, ◌≡◌, ◌≤◌}
 
 -- behind the first, what stands at a place of a list
 later : {X : Type 0} (s : List ℕ) (f : X → List ℕ) (xs : List X) (n : ℕ) → 0 < n

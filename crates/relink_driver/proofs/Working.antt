@@ -1,26 +1,12 @@
 -- What a link over a previous one counts.
-use Rattle.std.proofs.Common.{◌≡◌, ◌∙◌, ◌≤◌, ℕ, Bool, true, false, cond, List, [], ◌∷◌}
-use Rattle.std.proofs.Common.{ap, arith, inl, refl, subst, sym}
-use Rattle.std.specs.Prelude.{IfSome, IsSome, Option, None, Some, Ok, Err, nat_lt}
-use Rattle.std.proofs.lemmas.Bool.{ltb-true}
-use Rattle.elfobj.specs.Counts.{Counts, capped}
-use Rattle.elfobj.specs.Raised.{raised}
+use Rattle.relink_driver.proofs.Common.{AreEvaluated, ArePlaced, Bool, Counts, Err, Fault, GoodLink, IfSome}
+use Rattle.relink_driver.proofs.Common.{ImageTooLong, IsGood, IsPreviousOf, IsSome, IsWritten, Layout, List, None, Ok}
+use Rattle.relink_driver.proofs.Common.{Option, PreviousState, PreviousView, Project, Relocated, Some, StayedSections}
+use Rattle.relink_driver.proofs.Common.{[], ap, arith, capped, cond, false, image_length, inl, layout, ltb-true}
+use Rattle.relink_driver.proofs.Common.{max_image_length, nat_lt, new_link, of_length, previous_of, raised, refl}
+use Rattle.relink_driver.proofs.Common.{sites_to_evaluate, subst, sym, true, ℕ, ◌∙◌, ◌∷◌, ◌≡◌, ◌≤◌}
 use Rattle.elfobj.specs.declared.meter.Count.TheVariants as counts
-use Rattle.relink_driver.specs.StayedSections.{IsPreviousOf, PreviousState, previous_of}
-use Rattle.relink_driver.specs.declared.stayed_sections.PreviousView.{PreviousView}
-use Rattle.relink_driver.specs.declared.stayed_sections.StayedSections.{StayedSections}
-use Rattle.ldmodel_laws.specs.Untouched.{IsGood}
-use Rattle.ldmodel.specs.Fault.{Fault, ImageTooLong}
-use Rattle.ldmodel.specs.Layout.{Layout}
-use Rattle.ldmodel.specs.Link.{layout, max_image_length, of_length}
-use Rattle.ldmodel.specs.Project.{Project}
-use Rattle.ldmodel.specs.SectionHeaders.{image_length}
-use Rattle.ldmodel.specs.SessionWork.{sites_to_evaluate}
-use Rattle.ldmodel.specs.Stayed.{GoodLink}
-use Rattle.emit.specs.Beside.{new_link}
-use Rattle.emit.specs.declared.relocated.Relocated.{Relocated}
-use Rattle.relink_driver.specs.Counted.{AreDrawn, AreEvaluated, ArePlaced, CountsFields, IsImageCount, IsWritten}
-use Rattle.relink_driver.specs.Counted.{bytes_spent}
+use Rattle.relink_driver.specs.Counted.{AreDrawn, CountsFields, IsImageCount, bytes_spent}
 use Rattle.relink_driver.specs.Worked.{IsLinkWork}
 
 -- ---- the image

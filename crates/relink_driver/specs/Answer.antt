@@ -21,7 +21,7 @@ refused_at place why = record { place = place; why = refusal_of why }
 
 abbrev pub fault_answer : LinkFault → LinkAnswer
 fault_answer (Refused place why) = RefusedAt (refused_at place why)
-fault_answer Memory = model.NoMemory
+fault_answer (Memory _) = model.NoMemory
 
 abbrev pub answer_of : Result Link LinkFault → LinkAnswer
 answer_of (Ok output) = Linked output

@@ -30,15 +30,16 @@ pub record IsNextLink (previous : PreviousState) (project : Project) (r : Replac
   pub script : previous.same_script ≡ true
   pub current : previous.is_answered ≡ true
   pub replaced : previous.replaced ≡ Some r
-  pub place : r.old.0 ≡ r.new.0
+  pub place : r.old_place.0 ≡ r.new_place.0
   pub objects : previous.objects ≡ length project.objects
-  pub origins : (i : ℕ) → i < length project.objects → slice_index_or previous.from i None ≡ origin_beside r.new.0 i
+  pub origins : (i : ℕ) → i < length project.objects → slice_index_or previous.origins i None
+      ≡ origin_beside r.new_place.0 i
   pub after : NamedObject
-  pub at : slice_get project.objects r.new.0 ≡ Some after
-  pub symbols : r.object.symbols ≡ after.object.symbols
-  pub sections : map section_outline r.object.sections ≡ map section_outline after.object.sections
+  pub at : slice_get project.objects r.new_place.0 ≡ Some after
+  pub symbols : r.old_object.symbols ≡ after.object.symbols
+  pub sections : map section_outline r.old_object.sections ≡ map section_outline after.object.sections
   pub references : project.options.gc ≡ true
-      → map section_targets r.object.sections ≡ map section_targets after.object.sections
+      → map section_targets r.old_object.sections ≡ map section_targets after.object.sections
 
 -- what the laws on outlines say of two projects, at the layout of the first
 pub record HasSameOutlines (project q : Project) (s : Layout) : Type 0 where

@@ -5,7 +5,7 @@ use Rattle.elfobj.specs.declared.section.Section.{Section}
 use Rattle.emit.specs.declared.located_section.LocatedSection.{LocatedSection}
 use Rattle.ldmodel.specs.declared.names.ObjectPlace.{ObjectPlace}
 use Rattle.ldmodel.specs.declared.sections.Part.TheVariants.{InTable}
-use Rattle.ldmodel.specs.declared.sections.SectionKey.{SectionKey}
+use Rattle.ldmodel.specs.declared.sections.SectionRef.{SectionRef}
 use Rattle.place.specs.declared.indexed_layout.IndexedLayout.{IndexedLayout}
 use Rattle.relink_driver.specs.SectionLocation.{location_in}
 use Rattle.relink_driver.specs.declared.section_location.SectionLocation.{SectionLocation}
@@ -13,7 +13,7 @@ use Rattle.relink_driver.specs.declared.section_location.SectionLocation.{Sectio
 abbrev pub spot_with : ℕ → SectionLocation → LocatedSection
 spot_with n x = record { index = record { 0 = n }; start = x.start; range = x.range }
 
-abbrev pub key_of : ObjectPlace → Section → SectionKey
+abbrev pub key_of : ObjectPlace → Section → SectionRef
 key_of place x = record { object = place; part = InTable x.number }
 
 -- where section number n of the object of a place stands

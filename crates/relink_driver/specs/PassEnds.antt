@@ -11,4 +11,4 @@ faulty_link lines = record { status = 1; image = []; map = []; faults = lines }
 -- it ends with these lines, or memory ran out
 abbrev pub IsPassEnd : Link → PassEnd → Type 0
 IsPassEnd l (Faulty lines) = faulty_link lines.items ≡ l
-IsPassEnd l NoMemory = ⊤
+IsPassEnd l (NoMemory _) = ⊤

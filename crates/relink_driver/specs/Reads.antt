@@ -15,4 +15,4 @@ pub record ReadsNothing (old new : Counts) : Type 0 where
 -- so it is where faults end the link
 abbrev pub EndsReadingNothing : (old new : Counts) → PassEnd → Type 0
 EndsReadingNothing old new (Faulty o) = ReadsNothing old new
-EndsReadingNothing old new NoMemory = ⊤
+EndsReadingNothing old new (NoMemory _) = ⊤

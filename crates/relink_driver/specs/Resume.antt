@@ -8,14 +8,14 @@ use Rattle.relink_driver.specs.StayedSections.{PreviousState, ReplacedObjectStat
 -- the object at this place is known to have come in the place of another
 abbrev pub HasReplaced : Option ReplacedObjectState → ℕ → Type 0
 HasReplaced None i = ⊥
-HasReplaced (Some r) i = r.new.0 ≡ i
+HasReplaced (Some r) i = r.new_place.0 ≡ i
 
 -- the new project follows the previous one at once: its script is known to be the same, and each of its objects that is
 -- none of the previous ones, but has the name of one, is known to have come in its place
 pub record IsNext (old new : Project) (previous : PreviousState) : Type 0 where
   pub script : previous.same_script ≡ true
   pub known : (i : ℕ) (object y : NamedObject) → slice_get new.objects i ≡ Some object
-      → slice_index_or previous.from i None ≡ None
+      → slice_index_or previous.origins i None ≡ None
       → Contains old.objects y → y.name ≡ object.name → HasReplaced previous.replaced i
 
 -- no row before this one differs

@@ -16,7 +16,7 @@ use Rattle.ldmodel.specs.Sections.{is_same_part}
 use Rattle.ldmodel.specs.declared.rows.Piece.{Piece}
 use Rattle.ldmodel.specs.declared.sections.Part.{Part}
 use Rattle.ldmodel.specs.declared.sections.Part.TheVariants.{InTable, InCommon}
-use Rattle.ldmodel.specs.declared.sections.SectionKey.{SectionKey}
+use Rattle.ldmodel.specs.declared.sections.SectionRef.{SectionRef}
 use Rattle.relink_driver.specs.StayedSections.{PreviousState, ReplacedObjectState, last_place}
 
 -- the linked section of a number
@@ -36,20 +36,20 @@ has_same_name a part b = bytes_eq (part_name a part) (part_name b.object part)
 
 -- the object of a section came in the place of that of the previous link's section, and the part of the latter has the
 -- same name in both
-abbrev pub replaced_part : ReplacedObjectState → Project → SectionKey → SectionKey → Bool
+abbrev pub replaced_part : ReplacedObjectState → Project → SectionRef → SectionRef → Bool
 replaced_part r project a b =
-    (r.old.0 == a.object.0)
-    && ((r.new.0 == b.object.0) && option_map_or (has_same_name r.object a.part)
+    (r.old_place.0 == a.object.0)
+    && ((r.new_place.0 == b.object.0) && option_map_or (has_same_name r.old_object a.part)
     (slice_get project.objects b.object.0) false)
 
 -- by the place that the object had in the previous link, if it was there
-abbrev pub is_of_same_object : PreviousState → Project → SectionKey → SectionKey → Option ℕ → Bool
+abbrev pub is_of_same_object : PreviousState → Project → SectionRef → SectionRef → Option ℕ → Bool
 is_of_same_object previous project a b (Some i) = i == a.object.0
 is_of_same_object previous project a b None =
     option_map_or (λ (r : ReplacedObjectState). replaced_part r project a b) previous.replaced false
 
 -- a section of the new link is the previous link's
-abbrev pub is_same_section : PreviousState → Project → SectionKey → SectionKey → Bool
+abbrev pub is_same_section : PreviousState → Project → SectionRef → SectionRef → Bool
 is_same_section previous project a b =
     is_same_part a.part b.part && is_of_same_object previous project a b (last_place previous b.object)
 

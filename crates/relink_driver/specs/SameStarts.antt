@@ -4,7 +4,7 @@ use Rattle.std.specs.Prelude.{option_and_then, if◌then◌else◌, slice_get, s
 use Rattle.ldmodel.specs.declared.placed.Placed.{Placed}
 use Rattle.place.specs.declared.link_layout.LinkLayout.{LinkLayout}
 use Rattle.place.specs.declared.indexed_layout.SectionAddress.{SectionAddress}
-use Rattle.relink_driver.specs.declared.same_starts.OutputStart.{OutputStart}
+use Rattle.relink_driver.specs.declared.section_location.OutputStart.{OutputStart}
 
 -- where an output section with file bytes starts, if its offset is not above its address
 abbrev pub start_below : Placed → ℕ → Option OutputStart

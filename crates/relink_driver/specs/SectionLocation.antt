@@ -3,7 +3,7 @@ use Rattle.std.specs.Prelude.{Bool, ◌+◌, ◌-◌, ◌^◌, ◌==◌, ◌&&�
 use Rattle.std.specs.Prelude.{option_and_then, if◌then◌else◌}
 use Rattle.std.specs.Option.{option_map}
 use Rattle.ldmodel.specs.declared.placed.Placed.{Placed}
-use Rattle.ldmodel.specs.declared.sections.SectionKey.{SectionKey}
+use Rattle.ldmodel.specs.declared.sections.SectionRef.{SectionRef}
 use Rattle.place.specs.IndexedLayout.{address_in}
 use Rattle.place.specs.declared.link_layout.LinkLayout.{LinkLayout}
 use Rattle.place.specs.declared.indexed_layout.SectionAddress.{SectionAddress}
@@ -36,7 +36,7 @@ location_with x range = record { start = x.start; size = x.size; range = range }
 abbrev pub location_of : LinkLayout → SectionAddress → Option SectionLocation
 location_of l x = option_map (location_with x) (range_at l x)
 
-unfoldable pub location_in : IndexedLayout → SectionKey → Option SectionLocation
+unfoldable pub location_in : IndexedLayout → SectionRef → Option SectionLocation
 location_in x k = option_and_then (location_of x.link_layout) (address_in x k)
 
 abbrev pub same_location : SectionLocation → SectionLocation → Bool

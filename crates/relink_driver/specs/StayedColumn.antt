@@ -4,7 +4,7 @@ use Rattle.std.specs.Prelude.{is_some}
 use Rattle.std.specs.Prelude.{if◌then◌else◌, option_and_then, slice_index_or}
 use Rattle.elfobj.specs.declared.section.SectionIndex.{SectionIndex}
 use Rattle.ldmodel.specs.declared.names.ObjectPlace.{ObjectPlace}
-use Rattle.ldmodel.specs.declared.sections.SectionKey.{SectionKey}
+use Rattle.ldmodel.specs.declared.sections.SectionRef.{SectionRef}
 use Rattle.place.specs.IndexedLayout.{address_in, table_key}
 use Rattle.place.specs.declared.indexed_layout.IndexedLayout.{IndexedLayout}
 use Rattle.place.specs.declared.indexed_layout.SectionAddress.{SectionAddress}
@@ -35,7 +35,7 @@ abbrev pub stayed_between : LinkLayout → Option SectionAddress → LinkLayout 
 stayed_between previous before link_layout now =
     range_if_same (option_and_then (location_of previous) before) (option_and_then (location_of link_layout) now)
 
-abbrev pub key_at : ℕ → ℕ → SectionKey
+abbrev pub key_at : ℕ → ℕ → SectionRef
 key_at n k = table_key (record { 0 = n }) (record { 0 = k })
 
 -- whether the section of header number k of object number n stayed

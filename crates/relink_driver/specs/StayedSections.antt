@@ -5,7 +5,7 @@ use Rattle.ldmodel.specs.Link.{max_image_length}
 use Rattle.ldmodel.specs.Project.{NamedObject, Project}
 use Rattle.ldmodel.specs.SectionHeaders.{image_length}
 use Rattle.ldmodel.specs.Stayed.{GoodLink}
-use Rattle.ldmodel.specs.declared.sections.SectionKey.{SectionKey}
+use Rattle.ldmodel.specs.declared.sections.SectionRef.{SectionRef}
 use Rattle.symres.specs.SymbolTable.{SymbolTableState}
 use Rattle.place.specs.IndexedLayout.{IsIndexedLayout}
 use Rattle.emit.specs.relocate.KnownLink.{KnownLink}
@@ -21,16 +21,16 @@ pub use Rattle.relink_driver.specs.PreviousLink.{replaced_state, standing_from}
 unfoldable pub use Rattle.relink_driver.specs.PreviousLink.{stayed_range, previous_location}
 use Rattle.relink_driver.specs.declared.stayed_sections.StayedSections.{StayedSections}
 
-abbrev pub range_of : StayedSections → SectionKey → Option FileRange
+abbrev pub range_of : StayedSections → SectionRef → Option FileRange
 range_of s k = stayed_range (previous_of s.previous) s.indexed_layout.now k
 
 -- this object of the previous project was replaced by that of the new one which has its name
 pub record IsReplaced (project q : Project) (r : ReplacedObjectState) : Type 0 where
   pub before : NamedObject
   pub after : NamedObject
-  pub old : slice_get project.objects r.old.0 ≡ Some before
-  pub new : slice_get q.objects r.new.0 ≡ Some after
-  pub object : before.object ≡ r.object
+  pub old : slice_get project.objects r.old_place.0 ≡ Some before
+  pub new : slice_get q.objects r.new_place.0 ≡ Some after
+  pub object : before.object ≡ r.old_object
   pub name : after.name ≡ before.name
 
 -- the previous link is this one, with this number of objects, which are those of the next project as its origins say;
@@ -39,7 +39,7 @@ pub record IsPreviousOf (old : GoodLink) (new : Project) (previous : PreviousSta
   pub table : IsLinkSnapshot old previous.snapshot
   pub objects : previous.objects ≡ length old.project.objects
   pub options : old.project.options ≡ new.options
-  pub origins : AreOrigins old.project new previous.from
+  pub origins : AreOrigins old.project new previous.origins
   pub script : previous.same_script ≡ true → old.project.script ≡ new.script
   pub replaced : IfSome previous.replaced (IsReplaced old.project new)
 

@@ -12,7 +12,7 @@ ghost use Rattle.emit.specs.relocate.declared.value.SymbolValue.TheVariants.{Not
 use crate::stayed_sections::PreviousView;
 use crate::symbol_values::SymbolValues;
 use emit::relocate::value::SymbolValue;
-use ldmodel::memory::NoMemory;
+use growth::{NoMemory, vec};
 use ldmodel::names::ObjectPlace;
 use ldmodel_project::view::ProjectView;
 use std::alloc::Global;
@@ -34,7 +34,7 @@ fn have_same_values(old: &[SymbolValue], new: &[SymbolValue]) -> bool
 
 /// Whether an object of `count` symbols is dirty: the previous link does not have it, or one of its symbols had another
 /// value there.
-#[tactic(auto, using(crate::proofs::Unmarked::unmarked_by_rows))]
+#[tactic(auto, using(crate::proofs::CleanObjectValues::unmarked_by_rows))]
 fn is_dirty(
     previous: Option<PreviousView<'_>>,
     symbols: &SymbolValues,
@@ -46,10 +46,10 @@ fn is_dirty(
     let Some(previous) = previous else {
         return true;
     };
-    let Some(from) = previous.place(ObjectPlace(place)) else {
+    let Some(origin) = previous.origin(ObjectPlace(place)) else {
         return true;
     };
-    let before = previous.snapshot.symbols.slice(ObjectPlace(from), count);
+    let before = previous.snapshot.symbols.slice(ObjectPlace(origin), count);
     let now = symbols.slice(ObjectPlace(place), count);
     !have_same_values(before, now)
 }
@@ -72,9 +72,12 @@ pub fn dirty_objects(
         → AreSymbolValues project.now layout symbols.now → AreDirtyObjects old project.now layout dirty.items) }
 {
     let inputs = project.inputs();
-    let mut dirty = Vec::with_capacity(alloc, inputs.len())?;
+    let mut dirty = vec::with_capacity(alloc, inputs.len())?;
     for (place, input) in inputs.iter().enumerate() {
-        dirty.push(is_dirty(previous, symbols, place, input.object.symbols().len()))?;
+        vec::push(
+            &mut dirty,
+            is_dirty(previous, symbols, place, input.object.symbols().len()),
+        )?;
     }
     Ok(dirty)
 }

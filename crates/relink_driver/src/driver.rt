@@ -36,11 +36,11 @@ use emit::relocate::link_view::LinkView;
 use emit::relocate::values::Values;
 use emit::{Canvas, map_text};
 use gather::matches::Matches;
-use ldmodel::memory::NoMemory;
+use growth::NoMemory;
 use ldmodel::meter::Meter;
 use ldmodel_project::view::ProjectView;
 use place::indexed_layout::IndexedLayout;
-use std::alloc::{AllocError, Global};
+use std::alloc::Global;
 use symres::SymbolTable;
 
 /// The outcome of a link.
@@ -59,12 +59,12 @@ pub enum RelinkOutcome {
 fn map_if_asked(
     context: PassContext<'_, '_>,
     indexed_layout: &IndexedLayout,
-    values: &Values<'_>,
+    name_values: &Values<'_>,
 ) -> Result<Vec<u8>, NoMemory>
     requires { IsLaidOut (project_of context) indexed_layout.now }
     ensures { IfOk result (λ text. (layout : Layout) (a : SymbolTableState)
         → IsLinkLayout (project_of context.entry) layout indexed_layout.now.link_layout
-        → AreValues (project_of context.entry) layout a values.now
+        → AreValues (project_of context.entry) layout a name_values.now
         → text.items ≡ shown_map context.entry.with_map (definition.map_text (project_of context.entry) layout)) }
 {
     if !context.with_map {
@@ -75,7 +75,7 @@ fn map_if_asked(
         context.project,
         &indexed_layout.rows,
         &indexed_layout.link_layout,
-        values,
+        name_values,
     )
 }
 
@@ -115,11 +115,11 @@ fn run_passes(
         &indexed_layout.link_layout,
     )?;
     let view = LinkView::new(alloc, &*project, &*symbol_table, &indexed_layout, &given)?;
-    let values = compute_values(context, &indexed_layout.link_layout, &view, &given)?;
+    let name_values = compute_values(context, &indexed_layout.link_layout, &view, &given)?;
     let sources = ValueSources {
         symbol_table: &*symbol_table,
         indexed_layout: &indexed_layout,
-        names: &values.names,
+        names: &name_values.names,
     };
     let symbols = symbol_values(alloc, project, sources)?;
     let dirty = dirty_objects(alloc, project, context.previous, &symbols)?;
@@ -130,11 +130,25 @@ fn run_passes(
         dirty: &dirty,
         column: &column,
     };
-    let fields = evaluate_relocations(context, &stayed_sections, &view, &values, &symbols, meter)?;
-    check_assertions(context, &stayed_sections, &values, &fields)?;
-    let map = map_if_asked(context, &indexed_layout, &values)?;
+    let fields = evaluate_relocations(
+        context,
+        &stayed_sections,
+        &view,
+        &name_values,
+        &symbols,
+        meter,
+    )?;
+    check_assertions(context, &stayed_sections, &name_values, &fields)?;
+    let map = map_if_asked(context, &indexed_layout, &name_values)?;
     // the last pass that may fail, since it changes the canvas
-    draw_output(context, canvas, &stayed_sections, &values, &fields, meter)?;
+    draw_output(
+        context,
+        canvas,
+        &stayed_sections,
+        &name_values,
+        &fields,
+        meter,
+    )?;
     // `view` borrows `indexed_layout`, which moves into the snapshot
     drop(view);
     Ok(RelinkOutcome::Good(
@@ -152,41 +166,28 @@ fn run_passes(
 ///
 /// If memory runs out. Then the canvas is as it was.
 pub(crate) fn relink_with_or_without_map(
-    alloc: Global,
-    project: &ProjectView<'_>,
-    symbol_table: &SymbolTable,
-    matches: &[&Matches],
-    previous: Option<PreviousView<'_>>,
-    with_map: bool,
+    context: PassContext<'_, '_>,
     canvas: &mut Canvas,
     meter: &mut Meter,
 ) -> Result<RelinkOutcome, NoMemory>
-    requires symbol_table { IsSymbolTable project.now symbol_table.now }
-    requires matches { AreMatched project.now (map (λ x. x.now) matches.now) }
-    requires previous { IfSome (previous_of previous) (HasPreviousImage project.now canvas.old.bytes) }
-    ensures ended { IfOk result (HasShownOutcome with_map project.now
-        (previous_of previous.entry) canvas.old.bytes canvas.new.bytes) }
+    requires context { IsPassContext context }
+    requires previous { IfSome (previous_of context.previous) (HasPreviousImage (project_of context) canvas.old.bytes) }
+    ensures ended { IfOk result (HasShownOutcome context.entry.with_map (project_of context.entry)
+        (previous_of context.entry.previous) canvas.old.bytes canvas.new.bytes) }
     ensures reads { OnOk result (ReadsNothing meter.old meter.new) }
-    ensures worked { IfOk result (HasWorked project.now (previous_of previous.entry) meter.old meter.new) }
-    ensures in_place { IfOk result (λ ended. IsRewritable project.now (previous_of previous.entry)
-        → ended ≡ RewrittenInPlace) }
+    ensures worked { IfOk result (HasWorked (project_of context.entry)
+        (previous_of context.entry.previous) meter.old meter.new) }
+    ensures in_place { IfOk result (λ ended. IsRewritable (project_of context.entry)
+        (previous_of context.entry.previous) → ended ≡ RewrittenInPlace) }
     ensures unchanged { OnErr result (canvas.new.bytes ≡ canvas.old.bytes) }
 {
-    let context = PassContext {
-        alloc,
-        project,
-        symbol_table,
-        matches,
-        previous,
-        with_map,
-    };
     if rewrite_if_only_contents_differ(context, canvas, meter)? {
         return Ok(RelinkOutcome::RewrittenInPlace);
     }
     match run_passes(context, canvas, meter) {
         Ok(ended) => Ok(ended),
         Err(PassEnd::Faulty(lines)) => Ok(RelinkOutcome::Faulty(lines)),
-        Err(PassEnd::NoMemory) => Err(AllocError),
+        Err(PassEnd::NoMemory(no_memory)) => Err(no_memory),
     }
 }
 
@@ -224,14 +225,13 @@ pub fn relink(
         → ended ≡ RewrittenInPlace) }
     ensures unchanged { OnErr result (canvas.new.bytes ≡ canvas.old.bytes) }
 {
-    relink_with_or_without_map(
+    let context = PassContext {
         alloc,
         project,
         symbol_table,
         matches,
         previous,
-        true,
-        canvas,
-        meter,
-    )
+        with_map: true,
+    };
+    relink_with_or_without_map(context, canvas, meter)
 }

@@ -9,9 +9,9 @@ ghost use Rattle.relink_driver.specs.Message.{IsMessage, word_at};
 
 use crate::fault::LinkFault;
 use crate::output::Output;
+use growth::{NoMemory, vec};
 use itoa::Buffer;
 use ldmodel::edit::EditRefusal;
-use ldmodel::memory::NoMemory;
 use std::alloc::Global;
 
 /// The status of the program: 0 after a good link, 1 after one with faults, 2 if an edit is refused, 4 if memory ran
@@ -22,7 +22,7 @@ pub fn exit_status(outcome: &Result<Output, LinkFault>) -> u8
     match outcome {
         Ok(output) => output.status(),
         Err(LinkFault::Refused { .. }) => 2,
-        Err(LinkFault::Memory) => 4,
+        Err(LinkFault::Memory(_)) => 4,
     }
 }
 
@@ -46,12 +46,12 @@ fn refused_message(alloc: Global, word: &[u8], why: EditRefusal) -> Result<Vec<u
 {
     let mut number = Buffer::new();
     let mut inner = Buffer::new();
-    let mut text = Vec::from_slice(alloc, word)?;
-    text.extend_from_slice(b": refused ")?;
-    text.extend_from_slice(number.format(why.number()).as_bytes())?;
-    text.extend_from_slice(b" ")?;
-    text.extend_from_slice(inner.format(why.inner_number()).as_bytes())?;
-    text.extend_from_slice(b"\n")?;
+    let mut text = vec::from_slice(alloc, word)?;
+    vec::extend_from_slice(&mut text, b": refused ")?;
+    vec::extend_from_slice(&mut text, number.format(why.number()).as_bytes())?;
+    vec::extend_from_slice(&mut text, b" ")?;
+    vec::extend_from_slice(&mut text, inner.format(why.inner_number()).as_bytes())?;
+    vec::extend_from_slice(&mut text, b"\n")?;
     Ok(text)
 }
 
@@ -69,10 +69,10 @@ pub fn message(
     ensures { IfOk result (λ text. IsMessage (map string_bytes words.now) (answer_of outcome.now) text.items) }
 {
     match outcome {
-        Ok(output) => Vec::from_slice(alloc, output.faults()),
+        Ok(output) => vec::from_slice(alloc, output.faults()),
         Err(LinkFault::Refused { input, why }) => {
             refused_message(alloc, word_at(words, *input), *why)
         }
-        Err(LinkFault::Memory) => Vec::from_slice(alloc, b"memory\n"),
+        Err(LinkFault::Memory(_)) => vec::from_slice(alloc, b"memory\n"),
     }
 }

@@ -1,5 +1,6 @@
 //! Why a link of files gives nothing.
 
+use growth::NoMemory;
 use ldmodel::edit::EditRefusal;
 
 /// Why a link of files gives nothing.
@@ -13,5 +14,5 @@ pub enum LinkFault {
         why: EditRefusal,
     },
     /// Memory ran out.
-    Memory,
+    Memory(NoMemory),
 }

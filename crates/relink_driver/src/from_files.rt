@@ -14,8 +14,8 @@ use crate::fault::LinkFault;
 use crate::file::ObjectFile;
 use crate::from_scratch;
 use crate::output::Output;
+use growth::NoMemory;
 use ldmodel::edit::{Edit, EditRefusal};
-use ldmodel::memory::NoMemory;
 use ldmodel::meter::Meter;
 use ldmodel::options::Options;
 use ldmodel_project::project::Project;
@@ -29,7 +29,7 @@ fn apply_edit(project: &mut Project, input: usize, edit: Edit<'_>) -> Result<(),
 {
     match project.edit(edit) {
         Ok(()) => Ok(()),
-        Err(EditRefusal::NoMemory) => Err(LinkFault::Memory),
+        Err(EditRefusal::NoMemory(no_memory)) => Err(LinkFault::Memory(no_memory)),
         Err(why) => Err(LinkFault::Refused { input, why }),
     }
 }
@@ -114,7 +114,7 @@ fn link_files(
     match project_of(alloc, script, objects, options) {
         Err(fault) => Err(fault),
         Ok(project) => match link_project(alloc, seed, &project, with_map) {
-            Err(_) => Err(LinkFault::Memory),
+            Err(no_memory) => Err(LinkFault::Memory(no_memory)),
             Ok(output) => Ok(output),
         },
     }

@@ -1,19 +1,20 @@
 //! A link from scratch.
 
-ghost use Rattle.std.specs.Prelude.{◌≡◌, IfOk};
+ghost use Rattle.std.specs.Prelude.{◌≡◌, IfOk, map};
 ghost use Rattle.gather.specs.ProjectMatches.{AreMatched};
 ghost use Rattle.ldmodel.specs.Link.{link};
 ghost use Rattle.symres.specs.SymbolTable.{IsSymbolTable};
 ghost use Rattle.relink_driver.specs.WithoutMap.{shown};
 
+use crate::context::PassContext;
 use crate::driver::{RelinkOutcome, relink_with_or_without_map};
 use crate::output::Output;
 use emit::Canvas;
 use gather::matches::{Matches, lend_all, match_all};
-use ldmodel::memory::NoMemory;
+use growth::NoMemory;
 use ldmodel::meter::Meter;
 use ldmodel_project::view::ProjectView;
-use std::alloc::{AllocError, Global};
+use std::alloc::Global;
 use std::hash::RandomState;
 use symres::SymbolTable;
 
@@ -22,31 +23,29 @@ fn link_over(
     alloc: Global,
     project: &ProjectView<'_>,
     symbol_table: &SymbolTable,
-    matches: &[Matches],
+    matches: &[&Matches],
     with_map: bool,
     meter: &mut Meter,
 ) -> Result<Output, NoMemory>
     requires symbol_table { IsSymbolTable project.now symbol_table.now }
-    requires matches { AreMatched project.now matches.now }
+    requires matches { AreMatched project.now (map (λ x. x.now) matches.now) }
     ensures { IfOk result (λ o. o ≡ shown with_map (link project.now)) }
 {
-    let match_refs = lend_all(alloc, matches)?;
     let mut image = Canvas::new(alloc);
-    match relink_with_or_without_map(
+    let context = PassContext {
         alloc,
         project,
         symbol_table,
-        &match_refs,
-        None,
+        matches,
+        previous: None,
         with_map,
-        &mut image,
-        meter,
-    ) {
+    };
+    match relink_with_or_without_map(context, &mut image, meter) {
         Ok(RelinkOutcome::Good(_kept, map)) => Ok(Output::good(image, map)),
         Ok(RelinkOutcome::Faulty(lines)) => Ok(Output::faulty(lines)),
         // there is no previous link
         Ok(RelinkOutcome::RewrittenInPlace) => unreachable!(),
-        Err(_) => Err(AllocError),
+        Err(no_memory) => Err(no_memory),
     }
 }
 
@@ -67,5 +66,6 @@ pub(crate) fn link(
 {
     let symbol_table = SymbolTable::of(alloc, seed, project.inputs(), project.script(), meter)?;
     let matches = match_all(alloc, project)?;
-    link_over(alloc, project, &symbol_table, &matches, with_map, meter)
+    let match_refs = lend_all(alloc, &matches)?;
+    link_over(alloc, project, &symbol_table, &match_refs, with_map, meter)
 }

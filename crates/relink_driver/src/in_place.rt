@@ -15,8 +15,8 @@ ghost use Rattle.relink_driver.specs.Reads.{ReadsNothing};
 ghost use Rattle.relink_driver.specs.Touched.{HasFault, HasTouched, IsTouchedWork};
 
 use crate::context::PassContext;
-use crate::located::locate_sections;
 use crate::outline::{same_outline, same_targets};
+use crate::section_location::locate_sections;
 use crate::stayed_sections::{PreviousView, ReplacedObject};
 use emit::Canvas;
 use emit::good::faultless_link_is_good;
@@ -26,7 +26,7 @@ use emit::rewritten::{
     rewritten_frame, rewritten_layout, rewritten_link, rewritten_names, rewritten_rows,
     rewritten_values,
 };
-use ldmodel::memory::NoMemory;
+use growth::NoMemory;
 use ldmodel::meter::Meter;
 use ldmodel::names::ObjectPlace;
 use ldmodel_laws::segments::{files_in_order, sections_in_file};
@@ -39,11 +39,11 @@ use std::alloc::Global;
 /// `place`: that one is not in the previous link.
 fn others_in_place(previous: &PreviousView<'_>, count: usize, place: ObjectPlace) -> bool
     ensures { (result ≡ true) ↔ ((i : ℕ) → i < count
-        → slice_index_or previous.now.from.now i None ≡ origin_beside place.0 i) }
+        → slice_index_or previous.now.origins.now i None ≡ origin_beside place.0 i) }
 {
     for i in 0..count {
         let origin = if i == place.0 { None } else { Some(i) };
-        if previous.place(ObjectPlace(i)) != origin {
+        if previous.origin(ObjectPlace(i)) != origin {
             return false;
         }
     }
@@ -65,15 +65,17 @@ fn find_replaced<'a>(
         return None;
     }
     let replaced = previous.replaced?;
-    let object = project.object(replaced.new)?;
+    let object = project.object(replaced.new_place)?;
     let count = project.inputs().len();
-    if replaced.old != replaced.new || previous.objects != count {
+    if replaced.old_place != replaced.new_place || previous.objects != count {
         return None;
     }
-    if !others_in_place(previous, count, replaced.new) || !same_outline(replaced.object, object) {
+    if !others_in_place(previous, count, replaced.new_place)
+        || !same_outline(replaced.old_object, object)
+    {
         return None;
     }
-    if project.options().gc() && !same_targets(replaced.object, object) {
+    if project.options().gc() && !same_targets(replaced.old_object, object) {
         return None;
     }
     Some(replaced)
@@ -113,7 +115,7 @@ fn rewrite_object(
         → IsInPlaceOutcome (project_of context.entry) (Some (previous_state previous.now)) canvas.new.bytes) }
     ensures counted { IfOk result (λ made. made ≡ Done
         → IsTouchedWork (project_of context.entry) (previous_state previous.now)
-        replaced.now.new.0 meter.old meter.new) }
+        replaced.now.new_place.0 meter.old meter.new) }
     ensures refused { IfOk result (λ made. made ≡ Faulty → canvas.new.bytes ≡ canvas.old.bytes) }
     ensures faulty { IfOk result (λ made. made ≡ Faulty → HasFault (project_of context.entry)) }
     ensures reads { OnOk result (ReadsNothing meter.old meter.new) }
@@ -127,25 +129,25 @@ fn rewrite_object(
     stayed_in_image();
     sections_in_file();
     files_in_order();
-    nobits_are_bare(replaced.object);
+    nobits_are_bare(replaced.old_object);
     are_numbered(context.project);
     // for the prover: brings in the invariant of `context.project`
     let _inputs = context.project.inputs();
     let indexed_layout = &previous.snapshot.indexed_layout;
     faultless_link_is_good(context.project, &indexed_layout.link_layout);
-    let Some(object) = context.project.object(replaced.new) else {
+    let Some(object) = context.project.object(replaced.new_place) else {
         // `find_replaced` has compared it with the object that it replaced
         unreachable!()
     };
-    let located = locate_sections(context.alloc, indexed_layout, replaced.new, object)?;
+    let located = locate_sections(context.alloc, indexed_layout, replaced.new_place, object)?;
     let values = previous
         .snapshot
         .symbols
-        .slice(replaced.new, object.symbols().len());
+        .slice(replaced.new_place, object.symbols().len());
     rewrite_in_place(
         context.alloc,
         canvas,
-        replaced.new,
+        replaced.new_place,
         object,
         values,
         &located,

@@ -3,11 +3,10 @@
 //!
 //! - `driver` over `passes`, `context`, `pass_end`: all passes of a link, in their order, over resolved names,
 //!   matches, and the previous link;
-//! - `link_snapshot`: what is kept of a link; `stayed_sections` over `stayed_column` and `same_starts`: which input
-//!   sections stayed, as `emit_relocate` asks; `resume` over `row_changes` and `section_names`: the first row that
-//!   differs; `dirty`: objects with a symbol of another value;
-//! - `in_place` over `outline`, `located`: the fast path, for a link that differs from the previous one only in the
-//!   contents of one object's sections;
+//! - `link_snapshot`: what is kept of a link; `stayed_sections` over `stayed_column`: which input sections stayed, as
+//!   `emit_relocate` asks; `resume`: the first row that differs; `dirty`: objects with a symbol of another value;
+//! - `in_place` over `outline`: the fast path, for a link that differs from the previous one only in the contents of
+//!   one object's sections;
 //! - `name_faults`: the fault lines of names; a link may end with them;
 //! - `symbol_values`, `section_location`: the values of symbols, and where a section lies in memory and in the file;
 //! - `from_scratch`, `output`: a link from scratch; `plain`: `Plain`, the linker that links from scratch after every
@@ -26,7 +25,6 @@ pub mod from_files;
 mod from_scratch;
 mod in_place;
 pub mod link_snapshot;
-mod located;
 pub mod name_faults;
 mod outline;
 pub mod output;
@@ -34,10 +32,7 @@ mod pass_end;
 mod passes;
 pub mod plain;
 pub mod resume;
-mod row_changes;
-mod same_starts;
 mod section_location;
-mod section_names;
 mod stayed_column;
 pub mod stayed_sections;
 pub mod symbol_values;

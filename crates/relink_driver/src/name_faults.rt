@@ -7,12 +7,12 @@ ghost use Rattle.symres.specs.SymbolTable.{IsSymbolTable};
 
 use crate::pass_end::{PassEnd, end_if_faulty};
 use emit::fault_text;
+use growth::NoMemory;
 use ldmodel::fault::Fault;
-use ldmodel::memory::NoMemory;
 use ldmodel::options::Options;
 use ldmodel_project::view::ProjectView;
 use ldscript::Script;
-use std::alloc::{AllocError, Global};
+use std::alloc::Global;
 use symres::SymbolTable;
 
 /// The fault lines of the names of a project, if they have faults. The link then gives nothing else, and nothing else
@@ -35,7 +35,7 @@ pub fn name_fault_lines(
     match end_if_faulty(alloc, project, &faults) {
         Ok(()) => Ok(None),
         Err(PassEnd::Faulty(lines)) => Ok(Some(lines)),
-        Err(PassEnd::NoMemory) => Err(AllocError),
+        Err(PassEnd::NoMemory(no_memory)) => Err(no_memory),
     }
 }
 

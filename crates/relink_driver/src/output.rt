@@ -7,8 +7,8 @@ ghost use Rattle.relink_driver.specs.WithoutMap.{without_map};
 
 use crate::from_scratch::link;
 use emit::Canvas;
-use ldmodel::edit::Linked;
-use ldmodel::memory::NoMemory;
+use growth::NoMemory;
+use ldmodel::edit::LinkSummary;
 use ldmodel::meter::Meter;
 use ldmodel_project::view::ProjectView;
 use std::alloc::Global;
@@ -111,7 +111,8 @@ impl Output {
         }
     }
 
-    /// The map of names, sections and segments; empty if the link has faults, or was made without a map.
+    /// The map: the entry point, the output sections with their input sections, and the symbols. Empty if the link has
+    /// faults, or was made without a map.
     pub fn map(&self) -> &[u8]
         ensures { result.now ≡ self.now.map }
     {
@@ -132,10 +133,10 @@ impl Output {
     }
 
     /// The status, and the length of the image.
-    pub fn summary(&self) -> Linked
+    pub fn summary(&self) -> LinkSummary
         ensures { result ≡ linked_of self.now }
     {
-        Linked {
+        LinkSummary {
             status: self.status(),
             length: self.image().len() as u64,
         }

@@ -7,10 +7,10 @@ ghost use Rattle.ldmodel_project.specs.ByPlace.{faults_in};
 ghost use Rattle.relink_driver.specs.PassEnds.{IsPassEnd};
 
 use emit::fault_text;
+use growth::NoMemory;
 use ldmodel::fault::Fault;
-use ldmodel::memory::NoMemory;
 use ldmodel_project::view::ProjectView;
-use std::alloc::{AllocError, Global};
+use std::alloc::Global;
 
 /// Why a link ends before its last pass.
 #[derive(Drop)]
@@ -18,22 +18,22 @@ pub(crate) enum PassEnd {
     /// A phase has faults: their lines.
     Faulty(Vec<u8>),
     /// Out of memory.
-    NoMemory,
+    NoMemory(NoMemory),
 }
 
-impl From<AllocError> for PassEnd {
+impl From<NoMemory> for PassEnd {
     ghost use Rattle.std.specs.Prelude.{◌≡◌};
     ghost use Rattle.relink_driver.specs.declared.pass_end.PassEnd.TheVariants as stop;
 
-    ghost from_gives = { λ _ result. result ≡ stop.NoMemory };
+    ghost from_gives = { λ no_memory result. result ≡ stop.NoMemory no_memory };
 
-    fn from(_error: AllocError) -> PassEnd {
-        PassEnd::NoMemory
+    fn from(no_memory: NoMemory) -> PassEnd {
+        PassEnd::NoMemory(no_memory)
     }
 }
 
 /// Ends the link if a phase has faults.
-#[tactic(auto, using(crate::proofs::Stopping::unless_none, crate::proofs::Stopping::unless_some))]
+#[tactic(auto, using(crate::proofs::EarlyEnds::unless_none, crate::proofs::EarlyEnds::unless_some))]
 pub(crate) fn end_if_faulty(
     alloc: Global,
     project: &ProjectView<'_>,

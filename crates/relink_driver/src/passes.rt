@@ -19,7 +19,8 @@ ghost use Rattle.relink_driver.specs.Phases.{IsLaidOut, IsPlaced};
 ghost use Rattle.relink_driver.specs.Phases.{IsShort};
 ghost use Rattle.relink_driver.specs.Reads.{EndsReadingNothing, ReadsNothing};
 ghost use Rattle.relink_driver.specs.PassEnds.{IsPassEnd};
-ghost use Rattle.relink_driver.specs.declared.pass_end.PassEnd.TheVariants.{NoMemory};
+ghost use Rattle.relink_driver.specs.declared.pass_end.PassEnd.TheVariants.{NoMemory as OutOfMemory};
+ghost use Rattle.growth.specs.Memory.{no_memory};
 
 use crate::context::PassContext;
 use crate::pass_end::{PassEnd, end_if_faulty};
@@ -28,6 +29,7 @@ use crate::stayed_sections::StayedSections;
 use crate::symbol_values::SymbolValues;
 use emit::drawing::draw_image;
 use emit::good::faultless_link_is_good;
+use emit::image_sources::ImageSources;
 use emit::length::image_length;
 use emit::relocate::asserting::assertion_faults;
 use emit::relocate::given::GivenValues;
@@ -36,11 +38,11 @@ use emit::relocate::values::Values;
 use emit::relocated::Relocated;
 use emit::{Canvas, fault_text};
 use gather::Gathering;
+use growth::{NoMemory, iterator};
 use ldmodel::fault::Fault;
-use ldmodel::memory::NoMemory;
 use ldmodel::meter::Meter;
 use ldmodel::rows::Piece;
-use ldmodel::sections::SectionKey;
+use ldmodel::sections::SectionRef;
 use ldmodel_laws::layout::placed_are_rows;
 use place::indexed_layout::IndexedLayout;
 use place::length::length_fault;
@@ -66,10 +68,10 @@ pub(crate) fn check_names(context: PassContext<'_, '_>) -> Result<(), PassEnd>
 /// # Errors
 ///
 /// If memory runs out.
-fn orphan_faults(alloc: Global, orphans: &[SectionKey]) -> Result<Vec<Fault>, NoMemory>
+fn orphan_faults(alloc: Global, orphans: &[SectionRef]) -> Result<Vec<Fault>, NoMemory>
     ensures { IfOk result (λ v. v.items ≡ map Orphan orphans.now) }
 {
-    orphans.iter().map(|key| Fault::Orphan(*key)).collect(alloc)
+    iterator::collect(orphans.iter().map(|key| Fault::Orphan(*key)), alloc)
 }
 
 /// Gathering: the numbers of the input sections, and the row of each output section.
@@ -119,7 +121,7 @@ pub(crate) fn assign_addresses(
     let kept = resume_point(context.previous, context.project, rows);
     match LinkLayout::of(context.alloc, context.project, &in_force, rows, kept, meter) {
         Ok(link_layout) => Ok(link_layout),
-        Err(LayoutFault::NoMemory) => Err(PassEnd::NoMemory),
+        Err(LayoutFault::NoMemory(no_memory)) => Err(PassEnd::NoMemory(no_memory)),
         Err(LayoutFault::Faulty(faults)) => {
             let lines = fault_text(context.alloc, context.project, &faults)?;
             Err(PassEnd::Faulty(lines))
@@ -137,12 +139,12 @@ pub(crate) fn index_layout(
     requires link_layout { HasLayout (project_of context) link_layout }
     requires rest { link (project_of context) ≡ placed (project_of context) (layout (project_of context)) }
     ensures good { IfOk result (λ a. IsLaidOut (project_of context.entry) a) }
-    ensures stop { IfErr result (λ stop. stop ≡ NoMemory) }
+    ensures stop { IfErr result (λ stop. stop ≡ OutOfMemory no_memory) }
 {
     let Gathering { table, rows, .. } = gathering;
     match IndexedLayout::of(context.alloc, context.project, table, rows, link_layout) {
         Ok(indexed_layout) => Ok(indexed_layout),
-        Err(_) => Err(PassEnd::NoMemory),
+        Err(no_memory) => Err(PassEnd::NoMemory(no_memory)),
     }
 }
 
@@ -151,13 +153,13 @@ fn check_length(
     context: PassContext<'_, '_>,
     link_layout: &LinkLayout,
     view: &LinkView<'_, '_>,
-    values: &Values<'_>,
+    name_values: &Values<'_>,
 ) -> Result<(), PassEnd>
-    requires { IsPlaced (project_of context) link_layout.now view.now values.now }
-    ensures good { OnOk result (IsShort (project_of context.entry) link_layout.now view.now values.now) }
+    requires { IsPlaced (project_of context) link_layout.now view.now name_values.now }
+    ensures good { OnOk result (IsShort (project_of context.entry) link_layout.now view.now name_values.now) }
     ensures stop { IfErr result (λ stop. IsPassEnd (link (project_of context.entry)) stop) }
 {
-    let length = image_length(context.alloc, context.project, link_layout, values)?;
+    let length = image_length(context.alloc, context.project, link_layout, name_values)?;
     match length_fault(length) {
         None => Ok(()),
         Some(fault) => {
@@ -177,18 +179,19 @@ pub(crate) fn compute_values<'a>(
     requires context { IsPassContext context }
     requires given { IsGiven (project_of context) context.symbol_table.now link_layout.now given.now }
     requires known { IsKnown (project_of context) context.symbol_table.now link_layout.now view.now }
-    ensures good { IfOk result (λ values. IsShort (project_of context.entry) link_layout.now view.now values) }
+    ensures good { IfOk result (λ name_values. IsShort
+        (project_of context.entry) link_layout.now view.now name_values) }
     ensures stop { IfErr result (λ stop. IsPassEnd (link (project_of context.entry)) stop) }
 {
-    let values = Values::of(
+    let name_values = Values::of(
         context.alloc,
         context.project,
         context.symbol_table,
         view,
         given,
     )?;
-    check_length(context, link_layout, view, &values)?;
-    Ok(values)
+    check_length(context, link_layout, view, &name_values)?;
+    Ok(name_values)
 }
 
 /// Relocation: the fields of all relocations, except those of unchanged symbols in input sections that stayed.
@@ -196,17 +199,17 @@ pub(crate) fn evaluate_relocations(
     context: PassContext<'_, '_>,
     stayed_sections: &StayedSections<'_>,
     view: &LinkView<'_, '_>,
-    values: &Values<'_>,
+    name_values: &Values<'_>,
     symbols: &SymbolValues,
     meter: &mut Meter,
 ) -> Result<Relocated, PassEnd>
     requires short { IsShort (project_of context) stayed_sections.now.indexed_layout.now.link_layout view.now
-        values.now }
+        name_values.now }
     requires beside { IsBeside (project_of context) stayed_sections.now }
     requires symbols { (layout : Layout) → IsLinkLayout
         (project_of context) layout stayed_sections.now.indexed_layout.now.link_layout
         → AreSymbolValues (project_of context) layout symbols.now }
-    ensures good { IfOk result (λ r. IsFilled (project_of context.entry) stayed_sections.now values.now r) }
+    ensures good { IfOk result (λ r. IsFilled (project_of context.entry) stayed_sections.now name_values.now r) }
     ensures stop { IfErr result (λ stop. IsPassEnd (link (project_of context.entry)) stop) }
     ensures reads { OnOk result (ReadsNothing meter.old meter.new) }
     ensures counted { IfOk result (λ r. HasEvaluated
@@ -225,7 +228,7 @@ pub(crate) fn evaluate_relocations(
         context.project,
         view,
         stayed_sections,
-        values,
+        name_values,
         symbols,
         meter,
     )?;
@@ -237,18 +240,18 @@ pub(crate) fn evaluate_relocations(
 pub(crate) fn check_assertions(
     context: PassContext<'_, '_>,
     stayed_sections: &StayedSections<'_>,
-    values: &Values<'_>,
+    name_values: &Values<'_>,
     fields: &Relocated,
 ) -> Result<(), PassEnd>
-    requires { IsFilled (project_of context) stayed_sections.now values.now fields.now }
-    ensures good { OnOk result (IsFaultless (project_of context.entry) stayed_sections.now values.now fields.now) }
+    requires { IsFilled (project_of context) stayed_sections.now name_values.now fields.now }
+    ensures good { OnOk result (IsFaultless (project_of context.entry) stayed_sections.now name_values.now fields.now) }
     ensures stop { IfErr result (λ stop. IsPassEnd (link (project_of context.entry)) stop) }
 {
     let faults = assertion_faults(
         context.alloc,
         context.project,
         &stayed_sections.indexed_layout.link_layout,
-        values,
+        name_values,
     )?;
     end_if_faulty(context.alloc, context.project, &faults)?;
     Ok(())
@@ -259,11 +262,11 @@ pub(crate) fn draw_output(
     context: PassContext<'_, '_>,
     canvas: &mut Canvas,
     stayed_sections: &StayedSections<'_>,
-    values: &Values<'_>,
+    name_values: &Values<'_>,
     fields: &Relocated,
     meter: &mut Meter,
 ) -> Result<(), NoMemory>
-    requires filled { IsFilled (project_of context) stayed_sections.now values.now fields.now }
+    requires filled { IsFilled (project_of context) stayed_sections.now name_values.now fields.now }
     requires previous { IfSome (previous_of stayed_sections.now.previous)
         (HasPreviousImage (project_of context) canvas.old.bytes) }
     ensures image { OnOk result (IsImage (project_of context.entry) stayed_sections.now canvas.new.bytes) }
@@ -276,14 +279,17 @@ pub(crate) fn draw_output(
     stayed_sections.is_complete();
     // for the prover: brings in that the count of bytes fits a u64
     let _bytes = meter.bytes();
+    let sources = ImageSources {
+        project: context.project,
+        indexed_layout: stayed_sections.indexed_layout,
+        relocated: fields,
+        previous: stayed_sections,
+    };
     draw_image(
         context.alloc,
         canvas,
-        context.project,
-        stayed_sections.indexed_layout,
-        values,
-        fields,
-        stayed_sections,
+        &sources,
+        name_values,
         &fields.retargeted,
         meter,
     )?;

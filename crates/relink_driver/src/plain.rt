@@ -10,9 +10,9 @@ ghost use Rattle.relink_driver.specs.Applied.{Applied};
 ghost use Rattle.relink_driver.specs.Unbounded.{Unbounded};
 
 use crate::output::Output;
-use ldmodel::edit::{Edit, EditRefusal, Linked};
+use growth::NoMemory;
+use ldmodel::edit::{Edit, EditRefusal, LinkSummary};
 use ldmodel::linker::Linker;
-use ldmodel::memory::NoMemory;
 use ldmodel::meter::Meter;
 use ldmodel::options::Options;
 use ldmodel_project::project::Project;
@@ -99,12 +99,12 @@ impl Plain {
     }
 
     /// Stages an edit and links the next project; takes both over only after that.
-    fn apply_edit(&mut self, edit: Edit<'_>, meter: &mut Meter) -> Result<Linked, EditRefusal>
+    fn apply_edit(&mut self, edit: Edit<'_>, meter: &mut Meter) -> Result<LinkSummary, EditRefusal>
         ensures { Applied self.old (change_of edit.entry) self.new result }
     {
         let staged = self.project.stage(edit, meter)?;
         match link_next(self.alloc, self.seed, &self.project, &staged, meter) {
-            Err(_) => Err(EditRefusal::NoMemory),
+            Err(no_memory) => Err(EditRefusal::NoMemory(no_memory)),
             Ok(output) => {
                 self.project.commit(staged);
                 self.output = output;
@@ -119,7 +119,7 @@ impl Linker for Plain {
 
     ghost bound = { Unbounded };
 
-    fn apply(&mut self, edit: Edit<'_>, meter: &mut Meter) -> Result<Linked, EditRefusal> {
+    fn apply(&mut self, edit: Edit<'_>, meter: &mut Meter) -> Result<LinkSummary, EditRefusal> {
         self.apply_edit(edit, meter)
     }
 

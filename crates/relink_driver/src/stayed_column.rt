@@ -9,11 +9,10 @@ ghost use Rattle.relink_driver.specs.StayedColumn.{IsWhollyStayedColumn, HasWhol
 ghost use Rattle.relink_driver.specs.StayedColumn.{flag_of, stayed_between, has_stayed_number, stayed_in};
 ghost use Rattle.relink_driver.specs.StayedColumn.{wholly_stayed_in};
 
-use crate::same_starts::same_starts;
-use crate::section_location::range_if_stayed;
+use crate::section_location::{range_if_stayed, same_starts};
 use crate::stayed_sections::PreviousView;
 use elfobj::section::SectionIndex;
-use ldmodel::memory::NoMemory;
+use growth::{NoMemory, vec};
 use ldmodel::names::ObjectPlace;
 use ldmodel::placed::OutputIndex;
 use place::LinkLayout;
@@ -152,7 +151,7 @@ fn add_flags(
         (slice_index_or now.now k None))) (slice_index_or now.now k None)) }
 {
     let count = now.len();
-    flags.reserve(count)?;
+    vec::reserve(flags, count)?;
     let mut all_stayed = true;
     for number in 0..count {
         let address_before = address_at(before, number);
@@ -187,11 +186,11 @@ fn add_object(
     ensures all_stayed { IfOk result (λ all_stayed. all_stayed ≡ true
         → HasWhollyStayedIn (previous_state previous.now) indexed_layout.now object.0) }
 {
-    let Some(from) = previous.place(object) else {
+    let Some(origin) = previous.origin(object) else {
         return Ok(false);
     };
     let layout_before = &previous.snapshot.indexed_layout;
-    let before = layout_before.addresses_of(ObjectPlace(from));
+    let before = layout_before.addresses_of(ObjectPlace(origin));
     let now = indexed_layout.addresses_of(object);
     let all_stayed = add_flags(
         &layout_before.link_layout,
@@ -213,16 +212,16 @@ fn column_beside(
     ensures flags { IfOk result (IsStayedColumn (Some (previous_state previous.now)) indexed_layout.now) }
     ensures all_stayed { IfOk result (IsWhollyStayedColumn (Some (previous_state previous.now)) indexed_layout.now) }
 {
-    let objects = previous.from.len();
+    let objects = previous.origins.len();
     let layout_before = &previous.snapshot.indexed_layout;
     let with_same_start = same_starts(
         alloc,
         &layout_before.link_layout,
         &indexed_layout.link_layout,
     )?;
-    let mut slices = Vec::with_capacity(alloc, objects)?;
+    let mut slices = vec::with_capacity(alloc, objects)?;
     let mut flags = Vec::new(alloc);
-    let mut all_stayed = Vec::with_capacity(alloc, objects)?;
+    let mut all_stayed = vec::with_capacity(alloc, objects)?;
     for place in 0..objects {
         let begin = flags.len();
         let has_wholly_stayed = add_object(
@@ -233,8 +232,8 @@ fn column_beside(
             &mut flags,
         )?;
         let count = flags.len() - begin;
-        slices.push(FlagSlice { begin, count })?;
-        all_stayed.push(has_wholly_stayed)?;
+        vec::push(&mut slices, FlagSlice { begin, count })?;
+        vec::push(&mut all_stayed, has_wholly_stayed)?;
     }
     Ok(StayedColumn {
         slices,

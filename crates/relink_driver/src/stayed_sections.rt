@@ -19,7 +19,7 @@ use elfobj::Object;
 use emit::relocate::previous_link_info::{FileRange, PreviousLinkInfo};
 use emit::relocate::value::SymbolValue;
 use ldmodel::names::ObjectPlace;
-use ldmodel::sections::{Part, SectionKey};
+use ldmodel::sections::{Part, SectionRef};
 use ldmodel_laws::segments::{files_in_order, sections_in_file};
 use place::indexed_layout::{IndexedLayout, SectionAddress};
 
@@ -27,11 +27,11 @@ use place::indexed_layout::{IndexedLayout, SectionAddress};
 #[derive(Clone, Copy)]
 pub struct ReplacedObject<'a> {
     /// Its place in the previous link.
-    pub old: ObjectPlace,
+    pub old_place: ObjectPlace,
     /// The object.
-    pub object: &'a Object,
+    pub old_object: &'a Object,
     /// The place in the new link of the object that replaced it.
-    pub new: ObjectPlace,
+    pub new_place: ObjectPlace,
 }
 
 /// A previous link without faults, as the new link sees it.
@@ -42,7 +42,7 @@ pub struct PreviousView<'a> {
     /// How many objects it has.
     pub objects: usize,
     /// For each object of the new link its place in the previous one; `None` if the previous one does not have it.
-    pub from: &'a [Option<usize>],
+    pub origins: &'a [Option<usize>],
     /// Whether its script is known to be that of the new link.
     pub same_script: bool,
     /// The object that was replaced, if one is known.
@@ -53,18 +53,18 @@ pub struct PreviousView<'a> {
 
 impl<'a> PreviousView<'a> {
     /// The place that an object of the new link had in the previous one.
-    pub(crate) fn place(&self, object: ObjectPlace) -> Option<usize>
-        ensures { result ≡ slice_index_or self.now.from.now object.0 None }
+    pub(crate) fn origin(&self, object: ObjectPlace) -> Option<usize>
+        ensures { result ≡ slice_index_or self.now.origins.now object.0 None }
     {
-        self.from.get(object.0).copied().unwrap_or(None)
+        self.origins.get(object.0).copied().unwrap_or(None)
     }
 
     /// The address of an input section of the new link in the previous one, if it was in the output.
-    fn section_address(&self, section: SectionKey) -> Option<SectionAddress>
+    fn section_address(&self, section: SectionRef) -> Option<SectionAddress>
         ensures { result ≡ previous_address (previous_state self.now) section }
     {
-        let place = self.place(section.object)?;
-        let section = SectionKey {
+        let place = self.origin(section.object)?;
+        let section = SectionRef {
             object: ObjectPlace(place),
             part: section.part,
         };
@@ -75,12 +75,12 @@ impl<'a> PreviousView<'a> {
     /// one; none if the previous one does not have it.
     fn values(&self, object: ObjectPlace, count: usize) -> &'a [SymbolValue]
         ensures { (project : Project) (layout : Layout) (from : ℕ) (named : NamedObject)
-            → slice_index_or self.now.from.now object.0 None ≡ Some from
+            → slice_index_or self.now.origins.now object.0 None ≡ Some from
             → AreSymbolValues project layout self.now.snapshot.now.symbols
             → slice_get project.objects from ≡ Some named → length named.object.symbols ≡ count
             → AreValuesOf project layout named result.now }
     {
-        match self.place(object) {
+        match self.origin(object) {
             None => &[],
             Some(place) => self.snapshot.symbols.slice(ObjectPlace(place), count),
         }
@@ -88,7 +88,7 @@ impl<'a> PreviousView<'a> {
 }
 
 /// Which input sections of a link stayed where the previous one has them, if there is one. One stayed if its object has
-/// the same name and bytes in both links, as `PreviousView::place` tells, and it has the same address, size and file
+/// the same name and bytes in both links, as `PreviousView::origin` tells, and it has the same address, size and file
 /// offset, which `StayedColumn` compares (`has_same_location`) and, for a common block, `find_range`.
 #[derive(Clone, Copy)]
 pub struct StayedSections<'a> {
@@ -117,7 +117,7 @@ impl<'a> StayedSections<'a> {
 
     /// The bytes in the file of an input section that stayed, by what both links have of it.
     #[inline(never)]
-    fn find_range(&self, section: SectionKey) -> Option<FileRange>
+    fn find_range(&self, section: SectionRef) -> Option<FileRange>
         ensures { result ≡ range_of self.now section }
     {
         let previous = self.previous?;
@@ -129,7 +129,7 @@ impl<'a> StayedSections<'a> {
 
     /// Finds whether an input section stayed. For a section of an object this is read from the column.
     #[inline(always)]
-    fn find_stayed(&self, section: SectionKey) -> bool
+    fn find_stayed(&self, section: SectionRef) -> bool
         ensures { result ≡ is_some (range_of self.now section) }
     {
         match section.part {
@@ -146,7 +146,7 @@ impl<'a> StayedSections<'a> {
             → IsComplete (range_of self.now) old link }
         ensures sound { (old : GoodLink) (link : KnownLink) → AreStayedSections self.now old link
             → IsSound (range_of self.now) old link }
-        ensures none { self.now.previous ≡ None → (key : SectionKey) → range_of self.now key ≡ None }
+        ensures none { self.now.previous ≡ None → (key : SectionRef) → range_of self.now key ≡ None }
     {
         // for the prover: brings in the laws of output sections in the file
         sections_in_file();
@@ -161,7 +161,7 @@ impl<'a> PreviousLinkInfo for StayedSections<'a> {
 
     ghost range = { range_of };
 
-    fn stayed(&self, section: SectionKey) -> Option<FileRange> {
+    fn stayed_range(&self, section: SectionRef) -> Option<FileRange> {
         if !self.find_stayed(section) {
             return None;
         }
@@ -170,7 +170,7 @@ impl<'a> PreviousLinkInfo for StayedSections<'a> {
     }
 
     #[inline(always)]
-    fn has_stayed(&self, section: SectionKey) -> bool {
+    fn has_stayed(&self, section: SectionRef) -> bool {
         self.find_stayed(section)
     }
 

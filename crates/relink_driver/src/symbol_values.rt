@@ -22,7 +22,7 @@ use elfobj::section::SectionIndex;
 use elfobj::symbol::{Binding, Symbol, SymbolPlace};
 pub use emit::relocate::symbol_values::SymbolValues;
 use emit::relocate::value::{SymbolValue, address_from};
-use ldmodel::memory::NoMemory;
+use growth::{NoMemory, vec};
 use ldmodel::names::{NameKey, ObjectPlace};
 use ldmodel_project::input::InputObject;
 use ldmodel_project::view::ProjectView;
@@ -92,8 +92,7 @@ fn start_at(addresses: &[Option<SectionAddress>], section: SectionIndex) -> Opti
     }
 }
 
-/// The value of a symbol by its own entry, like `emit::relocate::symbol::own_value`, by the addresses of the sections
-/// of its object.
+/// The value of a symbol by its own entry, by the addresses of the sections of its object.
 #[inline(always)]
 fn own_value(addresses: &[Option<SectionAddress>], symbol: &Symbol) -> SymbolValue
     ensures { (l : KnownLink) (key : ObjectPlace) → AreAddressesOf l key addresses.now → value_of result
@@ -147,7 +146,7 @@ fn add_object(
     let addresses = sources.indexed_layout.addresses_of(place);
     let symbols = object.symbols();
     let count = symbols.len();
-    values.reserve(count)?;
+    vec::reserve(values, count)?;
     for number in 0..count {
         let symbol = &symbols[number];
         let index = SymbolIndex(number as u32);
@@ -173,10 +172,10 @@ pub(crate) fn symbol_values(
 {
     let inputs = project.inputs();
     let count = count_symbols(inputs);
-    let mut starts = Vec::with_capacity(alloc, inputs.len())?;
-    let mut values = Vec::with_capacity(alloc, count)?;
+    let mut starts = vec::with_capacity(alloc, inputs.len())?;
+    let mut values = vec::with_capacity(alloc, count)?;
     for (place, input) in inputs.iter().enumerate() {
-        starts.push(values.len())?;
+        vec::push(&mut starts, values.len())?;
         add_object(sources, ObjectPlace(place), input.object, &mut values)?;
     }
     Ok(SymbolValues { starts, values })

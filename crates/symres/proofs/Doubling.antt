@@ -1,56 +1,39 @@
 -- Names that are defined twice, a symbol more.
-use Rattle.std.proofs.Common.{◌≡◌, ◌∙◌, ℕ, ◌+◌, ◌<◌, ◌≤◌, zero, suc, Bool, true, false, cond, not, List, [], ◌∷◌, ◌++◌}
-use Rattle.std.proofs.Common.{length, map, filter, get_or, set, refl, ap, sym, subst, arith, ⊎_elim}
-use Rattle.std.proofs.Common.{take, drop, replicate, append-nil, append_assoc, length-append, get_or-set_same}
-use Rattle.std.proofs.Common.{get_or-set_other}
-use Rattle.std.specs.Prelude.{Option, Some, None, bytes_eq, nat_lt, ◌&&◌, ◌||◌, ◌==◌, unwrap_or, slice_get}
-use Rattle.std.specs.Option.{option_map, option_map_or, option_and_then}
-use Rattle.std.specs.List.{enumerate_from}
-use Rattle.std.specs.Prelude.{flat_map}
-use Rattle.std.proofs.Math.Seq.{take-suc}
+use Rattle.symres.proofs.Common.{AreDistinct, AreFound, Begins, Bool, Case, Decision, Declaration, Duplicate, HasCase}
+use Rattle.symres.proofs.Common.{InputObject, IsNameAt, IsNamed, IsSeenAt, IsSymbolTable, List, NamedObject}
+use Rattle.symres.proofs.Common.{NamedSymbol, None, ObjectPlace, Option, Project, Some, SymbolTableState, []}
+use Rattle.symres.proofs.Common.{all_entries, ap, append-nil, append_assoc, arith, bytes_eq, bytes_eq-Decides, case_at}
+use Rattle.symres.proofs.Common.{cond, decided, decision, decision_of, declarations, declarations_in, declarations_of}
+use Rattle.symres.proofs.Common.{definer_before, drop, duplicate_fault, enumerate_from, false, faults_in, faults_of}
+use Rattle.symres.proofs.Common.{filter, filter-append, flat_map, get_or, get_or-enumerate_from, get_or-map}
+use Rattle.symres.proofs.Common.{get_or-set_other, get_or-set_same, get_or_from_slice_get, is_assigned, is_doubled}
+use Rattle.symres.proofs.Common.{is_local, is_provided, is_seen, length, length-append, length-enumerate_from}
+use Rattle.symres.proofs.Common.{length-map, length-replicate, map, map-append, nat_lt, not, option_and_then}
+use Rattle.symres.proofs.Common.{option_map, option_map_or, refl, replicate, set, shown_inputs, slice_get}
+use Rattle.symres.proofs.Common.{slice_get-get_or, slot, subst, suc, sym, symbol_tables, take, take-suc, take_all, true}
+use Rattle.symres.proofs.Common.{unwrap_or, zero, ℕ, ⊎_elim, ◌&&◌, ◌++◌, ◌+◌, ◌<◌, ◌==◌, ◌||◌, ◌∙◌, ◌∷◌, ◌≡◌, ◌≤◌}
 use Rattle.std.proofs.lemmas.List.Concat.{flat_map-append}
 use Rattle.std.proofs.lemmas.Bool.{cases_eq, cases_lt, eq-eqb, ltb-false, true≢false}
-use Rattle.std.proofs.lemmas.List.{map-append, length-map, get_or-map, get_or_past, get_or-replicate, length-replicate}
-use Rattle.std.proofs.lemmas.List.{take-append-drop, take_all}
-use Rattle.std.proofs.lemmas.List.Elements.{filter-append}
-use Rattle.std.proofs.lemmas.Slice.Eq.{bytes_eq-Decides}
-use Rattle.std.proofs.lemmas.Option.{get_or_from_slice_get, slice_get-get_or}
-use Rattle.std.proofs.lemmas.List.FromFn.{length-enumerate_from, get_or-enumerate_from}
-use Rattle.elfobj.specs.Symbols.{NamedSymbol}
+use Rattle.std.proofs.lemmas.List.{get_or_past, get_or-replicate, take-append-drop}
 use Rattle.elfobj.specs.declared.symbol.Binding.{Binding}
 use Rattle.elfobj.specs.declared.symbol.Binding.TheVariants as binding
 use Rattle.elfobj.specs.declared.symbol.Symbol.{Symbol}
 use Rattle.ldmodel.specs.Fault.{Fault}
 use Rattle.ldmodel.specs.Fault as fault
 use Rattle.ldmodel.specs.FaultCode.{definer_of, fault_of, name_of_symbol}
-use Rattle.ldmodel.specs.HandedOver.{decision_of}
 use Rattle.ldmodel.specs.InputSections.{is_same_entry}
-use Rattle.ldmodel.specs.Link.{duplicate_fault}
 use Rattle.ldmodel.specs.NameFaults.{ByObject, ByScript, Definer, duplicate, first_definer, first_among, duplicates}
 use Rattle.ldmodel.specs.NameFaults.{is_duplicate, is_first_of, object_name, strong_definitions}
-use Rattle.ldmodel.specs.Names.{Declaration, Decision, Duplicate, Entry, decided, decision, declaration, declarations}
-use Rattle.ldmodel.specs.Names.{all_entries, declarations_in, declarations_of, entries, is_global, is_local}
-use Rattle.ldmodel.specs.Names.{is_of_name, is_placed, is_strong, symbol_tables}
-use Rattle.ldmodel.specs.Project.{NamedObject, Project}
-use Rattle.ldmodel.specs.ScriptNames.{is_assigned, is_provided}
+use Rattle.ldmodel.specs.Names.{Entry, declaration, entries, is_global, is_of_name, is_placed, is_strong}
 use Rattle.ldmodel.specs.declared.fault.Definer as code_definer
 use Rattle.ldmodel.specs.declared.fault.Definer.TheVariants as definer
 use Rattle.ldmodel.specs.declared.fault.Fault as code
 use Rattle.ldmodel.specs.declared.fault.Fault.TheVariants as variant
-use Rattle.ldmodel.specs.declared.names.Case.{Case}
 use Rattle.ldmodel.specs.declared.names.Case.TheVariants as case
 use Rattle.ldmodel.specs.declared.names.Entry as code_names
-use Rattle.ldmodel.specs.declared.names.ObjectPlace.{ObjectPlace}
 use Rattle.ldmodel.specs.declared.names.NameKey.{NameKey}
-use Rattle.ldmodel_project.specs.ByPlace.{faults_in}
-use Rattle.symres_table.specs.State.{AreDistinct, IsNamed, slot}
-use Rattle.ldmodel_project.specs.Inputs.{shown_inputs}
-use Rattle.ldmodel_project.specs.declared.input.InputObject.{InputObject}
-use Rattle.symres.specs.Decided.{HasCase, case_at}
 use Rattle.symres.specs.Entered.{tables_of}
-use Rattle.symres.specs.Duplicates.{AreFound, Begins, IsDoubled, IsTableAt, by_place, declared_by, definer_before}
-use Rattle.symres.specs.Duplicates.{faults_of, first_entry, is_doubled, is_seen, strongs}
-use Rattle.symres.specs.SymbolTable.{IsNameAt, IsSymbolTable, IsSeenAt, SymbolTableState}
+use Rattle.symres.specs.Duplicates.{IsDoubled, IsTableAt, by_place, declared_by, first_entry, strongs}
 use Rattle.symres.proofs.Entering.{Table, length-tables, symbols_of, table_at}
 
 -- ---- strong definitions

@@ -1,24 +1,12 @@
 -- The objects of a link under their places.
-use Rattle.std.proofs.Common.{◌≡◌, ◌∙◌, ℕ, ◌+◌, ◌<◌, ◌≤◌, suc, Bool, true, false, cond, List, [], ◌∷◌, ◌++◌, length}
-use Rattle.std.proofs.Common.{take, map}
-use Rattle.std.proofs.Common.{get_or, refl, ap, sym, subst, arith}
-use Rattle.std.specs.Prelude.{count_by, nat_eq}
-use Rattle.std.specs.List.{enumerate_from}
-use Rattle.std.proofs.Math.Seq.{take-suc}
+use Rattle.symres.proofs.Common.{AreKeysDistinct, Bool, InputObject, KeyedObject, List, NamedObject, NamedSymbol, []}
+use Rattle.symres.proofs.Common.{ap, arith, cond, count_by, enumerate_from, false, get_or, get_or-enumerate_from}
+use Rattle.symres.proofs.Common.{get_or-map, length, length-enumerate_from, length-map, map, map-append, map-map}
+use Rattle.symres.proofs.Common.{nat_eq, refl, shown_input, shown_inputs, subst, suc, sum_by-cons, sym, symbol_tables}
+use Rattle.symres.proofs.Common.{take, take-suc, take_all, true, ℕ, ◌++◌, ◌+◌, ◌<◌, ◌∙◌, ◌∷◌, ◌≡◌, ◌≤◌}
 use Rattle.std.proofs.lemmas.Bool.{eqb-true, ne_eqb}
-use Rattle.std.proofs.lemmas.List.{get_or-map, length-map, map-append, take_all}
-use Rattle.std.proofs.lemmas.List.Sums.{sum_by-cons}
-use Rattle.std.proofs.lemmas.Simd.{map-map}
-use Rattle.std.proofs.lemmas.List.FromFn.{length-enumerate_from, get_or-enumerate_from}
-use Rattle.elfobj.specs.Symbols.{NamedSymbol}
-use Rattle.ldmodel.specs.Names.{symbol_tables}
-use Rattle.ldmodel.specs.Project.{NamedObject}
-use Rattle.ldmodel_project.specs.Inputs.{shown_input, shown_inputs}
-use Rattle.ldmodel_project.specs.Listing.{AreKeysDistinct}
-use Rattle.ldmodel_project.specs.declared.input.InputObject.{InputObject}
 use Rattle.symres_decisions.specs.Keyed as keyed
 use Rattle.symres_decisions.specs.Keyed.{AreApart, table_of}
-use Rattle.symres_decisions.specs.declared.keyed_object.KeyedObject.{KeyedObject}
 use Rattle.symres.specs.Entered.{tables_of}
 
 abbrev pub Table : Type 0

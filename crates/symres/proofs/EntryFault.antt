@@ -1,25 +1,18 @@
 -- The fault of an entry symbol that nothing defines.
-use Rattle.std.proofs.Common.{◌≡◌, ◌∙◌, ℕ, Bool, true, false, List, [], ◌∷◌, ◌++◌, map, refl, ap, sym}
-use Rattle.std.specs.Prelude.{Option, Some, None, is_some, option_to_list, unwrap_or}
-use Rattle.std.specs.Option.{option_or}
-use Rattle.std.proofs.lemmas.List.{map-append}
+use Rattle.symres.proofs.Common.{Bool, Case, Decision, List, None, ObjectPlace, Option, Project, Some, Statement, []}
+use Rattle.symres.proofs.Common.{ap, decision, decision_of, duplicate_fault, false, faults_in, is_some, map, map-append}
+use Rattle.symres.proofs.Common.{option_or, option_to_list, refl, sym, true, unwrap_or, ℕ, ◌++◌, ◌∙◌, ◌∷◌, ◌≡◌}
 use Rattle.ldmodel.specs.Fault.{Fault, UndefinedEntry}
 use Rattle.ldmodel.specs.FaultCode.{fault_of}
-use Rattle.ldmodel.specs.HandedOver.{decision_of}
-use Rattle.ldmodel.specs.Link.{duplicate_fault, name_faults}
+use Rattle.ldmodel.specs.Link.{name_faults}
 use Rattle.ldmodel.specs.NameFaults.{duplicates, if_undefined, undefined_among, undefined_entry}
-use Rattle.ldmodel.specs.Names.{Decision, Undefined, decision, entry_symbol}
+use Rattle.ldmodel.specs.Names.{Undefined, entry_symbol}
 use Rattle.ldmodel.specs.Names as names
 use Rattle.ldmodel.specs.Options.{LinkOptions}
 use Rattle.ldscript.specs.statements.Numbering.{entry_of}
-use Rattle.ldscript.specs.statements.declared.statement.Statement.{Statement}
-use Rattle.ldmodel.specs.Project.{Project}
 use Rattle.ldmodel.specs.declared.fault.Fault as code
 use Rattle.ldmodel.specs.declared.fault.Fault.TheVariants as variant
-use Rattle.ldmodel.specs.declared.names.Case.{Case}
 use Rattle.ldmodel.specs.declared.names.Case.TheVariants as case
-use Rattle.ldmodel.specs.declared.names.ObjectPlace.{ObjectPlace}
-use Rattle.ldmodel_project.specs.ByPlace.{faults_in}
 use Rattle.symres.specs.Undefined.{faults_if, is_undefined}
 
 if_case : (c : Case ObjectPlace) (name : List ℕ) → is_some (if_undefined name (decision_of (λ key. key) c))

@@ -1,3 +1,4 @@
+pub mod Common
 pub mod Entering
 pub mod Placing
 pub mod Providing

@@ -1,29 +1,16 @@
 -- What is kept under keys, seen by place.
-use Rattle.std.proofs.Common.{◌≡◌, ◌∙◌, ℕ, ◌<◌, zero, suc, List, [], ◌∷◌, length, map, get_or, refl, ap, sym, subst}
-use Rattle.std.proofs.Common.{arith, inl, inr}
-use Rattle.std.specs.Prelude.{false, Option, Some, None}
-use Rattle.std.specs.List.{enumerate_from}
-use Rattle.std.specs.Option.{option_map}
-use Rattle.std.proofs.lemmas.List.{get_or-map, length-map}
-use Rattle.std.proofs.lemmas.List.FromFn.{length-enumerate_from, get_or-enumerate_from}
-use Rattle.elfobj.specs.Symbols.{NamedSymbol}
-use Rattle.ldscript.specs.statements.declared.statement.Statement.{Statement}
+use Rattle.symres.proofs.Common.{AreDecisionsOf, Case, DecisionsState, HasCase, IsCaseNamed, IsNameAt, IsNamed}
+use Rattle.symres.proofs.Common.{IsSeenAt, IsSymbolTable, List, NamedSymbol, None, ObjectPlace, Option, Project, Some}
+use Rattle.symres.proofs.Common.{Statement, [], ap, arith, case_at, decided, decision, decision_in, decision_of}
+use Rattle.symres.proofs.Common.{decision_under_keys, entries_of, enumerate_from, false, get_or, get_or-enumerate_from}
+use Rattle.symres.proofs.Common.{get_or-map, inl, inr, is_assigned, is_local, is_provided, keys_of, length}
+use Rattle.symres.proofs.Common.{length-enumerate_from, length-map, map, option_map, place_case, place_or_0, refl}
+use Rattle.symres.proofs.Common.{state_of, subst, suc, sym, symbol_tables, zero, ℕ, ◌<◌, ◌∙◌, ◌∷◌, ◌≡◌}
 use Rattle.ldmodel_laws.specs.Renumbering.{renumbered_decision}
-use Rattle.ldmodel.specs.HandedOver.{decision_of, decision_under_keys}
-use Rattle.ldmodel.specs.Names.{decided, decision, is_local, symbol_tables}
-use Rattle.ldmodel.specs.Project.{Project}
-use Rattle.ldmodel.specs.ScriptNames.{is_assigned, is_provided}
-use Rattle.ldmodel.specs.declared.names.Case.{Case}
 use Rattle.ldmodel.specs.declared.names.Case.TheVariants as case
 use Rattle.ldmodel.specs.declared.names.ObjectKey.{ObjectKey}
-use Rattle.ldmodel.specs.declared.names.ObjectPlace.{ObjectPlace}
-use Rattle.ldmodel_project.specs.Tables.{place_or_0}
 use Rattle.symres_table.specs.State as keyed
-use Rattle.symres_table.specs.State.{IsNamed, entries_of}
-use Rattle.symres_decisions.specs.Decided.{HasCase, case_at, decision_in}
-use Rattle.symres_decisions.specs.Decisions.{AreDecisionsOf, DecisionsState, IsCaseNamed}
-use Rattle.symres.specs.SymbolTable.{IsNameAt, IsSymbolTable, IsSeenAt, state_of}
-use Rattle.symres.specs.Placed.{by_place, keys_of, place_case}
+use Rattle.symres.specs.Placed.{by_place}
 use Rattle.symres.proofs.Entering.{Table, seconds}
 
 -- ---- tables

@@ -1,22 +1,14 @@
 -- The PROVIDEs in force, command by command.
-use Rattle.std.proofs.Common.{◌≡◌, ◌∙◌, ℕ, ◌+◌, ◌<◌, ◌≤◌, List, [], ◌∷◌, ◌++◌, map, length, take, get_or, ap, sym, refl}
-use Rattle.std.proofs.Common.{arith}
-use Rattle.std.proofs.Common.{Bool, true, false, cond, suc, append_assoc}
-use Rattle.std.specs.Prelude.{Some, slice_get, filter}
-use Rattle.std.proofs.Math.Seq.{take-suc}
-use Rattle.std.proofs.lemmas.List.{get_or-map, length-map, map-append, take_all}
-use Rattle.std.proofs.lemmas.List.Elements.{filter-append}
-use Rattle.std.proofs.lemmas.Option.{slice_get-get_or}
-use Rattle.std.specs.Option.{option_map_or}
+use Rattle.symres.proofs.Common.{Bool, List, Project, Some, Statement, [], ap, append_assoc, arith, cond, decision}
+use Rattle.symres.proofs.Common.{false, filter, filter-append, get_or, get_or-map, length, length-map, map, map-append}
+use Rattle.symres.proofs.Common.{option_map_or, refl, shown_directives, slice_get, slice_get-get_or, suc, sym, take}
+use Rattle.symres.proofs.Common.{take-suc, take_all, true, ℕ, ◌++◌, ◌+◌, ◌<◌, ◌∙◌, ◌∷◌, ◌≡◌, ◌≤◌}
 use Rattle.ldscript.specs.statements.Numbering.{AssignmentAt, DirectiveAt, all_directives, provided_by, provided_in}
-use Rattle.ldscript.specs.statements.Numbered.{shown_directives}
 use Rattle.ldscript.specs.statements.declared.directive.Directive.{Directive}
 use Rattle.ldscript.specs.statements.declared.directive.Directive.TheVariants as directive
 use Rattle.ldscript.specs.statements.declared.numbering.DirectiveAt as code
-use Rattle.ldscript.specs.statements.declared.statement.Statement.{Statement}
 use Rattle.ldmodel.specs.PlacementView.{given_name, name_given_by}
-use Rattle.ldmodel.specs.Names.{decision, is_provided_case, provided}
-use Rattle.ldmodel.specs.Project.{Project}
+use Rattle.ldmodel.specs.Names.{is_provided_case, provided}
 use Rattle.ldmodel.specs.ScriptNames.{provided_names}
 use Rattle.ldmodel.specs.declared.script_symbol.DirectiveIndex.{DirectiveIndex}
 use Rattle.symres.specs.Provided.{AddsIfInForce, in_force, names_in_force}

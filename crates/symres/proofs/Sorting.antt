@@ -1,31 +1,23 @@
 -- The names of a link in byte order.
-use Rattle.std.proofs.Common.{◌≡◌, ◌∙◌, ℕ, ◌+◌, ◌<◌, zero, suc, Bool, true, false, List, [], ◌∷◌, length, map, get_or}
-use Rattle.std.proofs.Common.{refl, ap, sym, subst, arith}
-use Rattle.std.specs.Prelude.{Contains, Option, Some, bytes_eq}
+use Rattle.symres.proofs.Common.{AreDistinct, AreSorted, Bool, Contains, DecisionsState, IsInByteOrder, IsListing}
+use Rattle.symres.proofs.Common.{IsNamed, IsSymbolTable, List, NamedKey, NamedObject, Option, Project, Some}
+use Rattle.symres.proofs.Common.{SymbolTableState, [], ap, arith, bytes_eq, bytes_eq-Decides, comes_before, false}
+use Rattle.symres.proofs.Common.{get_or, get_or-map, length, length-map, map, map-map, named_number, refl, state_of}
+use Rattle.symres.proofs.Common.{subst, suc, sym, symbol_tables, true, zero, ℕ, ◌+◌, ◌<◌, ◌∙◌, ◌∷◌, ◌≡◌}
 use Rattle.std.specs.List.{All, AllByRecursion, IsDistinct}
 use Rattle.std.specs.List.Sorted.{IsPermutation, IsSortedBy}
 use Rattle.std.specs.Cmp.Lexicographic.{slice_cmp, nat_list_cmp_total}
 use Rattle.std.specs.Ordering.{is_lt, is_eq, nat_cmp, ordering_reverse}
 use Rattle.std.specs.declared.cmp.Ordering.{Ordering}
 use Rattle.std.specs.declared.cmp.Ordering.TheVariants.{Less, Equal, Greater}
-use Rattle.std.proofs.lemmas.List.{get_or-map, length-map}
-use Rattle.std.proofs.lemmas.Simd.{map-map}
 use Rattle.std.proofs.lemmas.List.MinMax.{ranks_by}
 use Rattle.std.proofs.lemmas.List.Sorted.{All-permutation, Contains-permutation, sorted_far}
 use Rattle.std.proofs.lemmas.Map.Keys.{IsDistinct-IsPermutation}
 use Rattle.std.proofs.lemmas.Map.Text.{is_eq-slice_cmp}
 use Rattle.std.proofs.lemmas.Map.Views.{Contains-from_lookup}
-use Rattle.std.proofs.lemmas.Slice.Eq.{bytes_eq-Decides}
-use Rattle.ldmodel.specs.Names.{names_in_objects, symbol_tables}
+use Rattle.ldmodel.specs.Names.{names_in_objects}
 use Rattle.ldmodel.specs.OutputSymbols.{is_before}
-use Rattle.ldmodel.specs.Project.{NamedObject, Project}
-use Rattle.symres_table.specs.State.{AreDistinct, IsListing, IsNamed}
 use Rattle.symres_decisions.specs.Counted.{declared_names}
-use Rattle.symres_decisions.specs.Decisions.{DecisionsState}
-use Rattle.symres_decisions.specs.NameText.{IsInByteOrder, comes_before}
-use Rattle.symres.specs.SymbolTable.{IsSymbolTable, SymbolTableState, state_of}
-use Rattle.symres.specs.Sorted.{AreSorted, named_number}
-use Rattle.symres.specs.declared.sorted.NamedKey.{NamedKey}
 use Rattle.symres.proofs.Entering.{Table}
 use Rattle.symres.proofs.Placing.{same_tables}
 

@@ -1,22 +1,13 @@
 -- Projects in which no name is defined twice.
-use Rattle.std.proofs.Common.{◌≡◌, ◌∙◌, ℕ, zero, suc, Bool, true, false, cond, List, [], ◌∷◌, ◌++◌, filter, map}
-use Rattle.std.proofs.Common.{refl, ap, sym, arith, append_assoc}
-use Rattle.std.specs.Prelude.{Option, Some, count_by}
-use Rattle.std.proofs.lemmas.List.Sums.{sum_by-cons}
+use Rattle.symres.proofs.Common.{Bool, Case, DecisionsState, Declaration, Duplicate, HasCase, HasName, IsNamed}
+use Rattle.symres.proofs.Common.{IsSymbolTable, List, Option, Project, Some, [], ap, append_assoc, arith, case_at, cond}
+use Rattle.symres.proofs.Common.{count_by, decided, decision, declarations, entries_of, false, filter, is_assigned}
+use Rattle.symres.proofs.Common.{is_doubled, is_provided, keys_of, map, place_case, place_or_0, refl, state_of, suc}
+use Rattle.symres.proofs.Common.{sum_by-cons, sym, true, zero, ℕ, ◌++◌, ◌∙◌, ◌∷◌, ◌≡◌}
 use Rattle.ldmodel_laws.specs.Renumbering.{renumbered_decision}
 use Rattle.ldmodel.specs.NameFaults.{duplicate, duplicates, is_duplicate}
-use Rattle.ldmodel.specs.Names.{Declaration, Duplicate, decided, decision, declarations}
-use Rattle.ldmodel.specs.Project.{Project}
-use Rattle.ldmodel.specs.ScriptNames.{is_assigned, is_provided}
-use Rattle.ldmodel.specs.declared.names.Case.{Case}
 use Rattle.ldmodel.specs.declared.names.Case.TheVariants as case
 use Rattle.ldmodel.specs.declared.names.ObjectKey.{ObjectKey}
-use Rattle.ldmodel_project.specs.Tables.{place_or_0}
-use Rattle.symres_table.specs.State.{HasName, IsNamed, entries_of}
-use Rattle.symres_decisions.specs.Decided.{HasCase, case_at, is_doubled}
-use Rattle.symres_decisions.specs.Decisions.{DecisionsState}
-use Rattle.symres.specs.SymbolTable.{IsSymbolTable, state_of}
-use Rattle.symres.specs.Placed.{keys_of, place_case}
 use Rattle.symres.proofs.Doubling.{case_duplicate, not_duplicate}
 use Rattle.symres.proofs.Placing.{ByKeys, same_tables, some_placed}
 

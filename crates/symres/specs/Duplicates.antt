@@ -3,7 +3,7 @@ use Rattle.std.specs.Prelude.{◌≡◌, ◌<◌, ◌++◌, ℕ, Bool, true, Lis
 use Rattle.std.specs.Prelude.{if◌then◌else◌, length, slice_index_or}
 use Rattle.std.specs.Option.{option_map}
 use Rattle.elfobj.specs.Symbols.{NamedSymbol}
-use Rattle.ldmodel.specs.HandedOver.{entry_of}
+use Rattle.ldmodel.specs.CodeValues.{entry_of}
 use Rattle.ldmodel.specs.InputSections.{is_same_entry}
 use Rattle.ldmodel.specs.Link.{duplicate_fault}
 use Rattle.ldmodel.specs.NameFaults.{duplicate, is_duplicate}

@@ -4,7 +4,7 @@ use Rattle.std.specs.Prelude.{false}
 use Rattle.std.specs.List.{enumerate_from}
 use Rattle.std.specs.Option.{option_map}
 use Rattle.elfobj.specs.Symbols.{NamedSymbol}
-use Rattle.ldmodel.specs.HandedOver.{decision_of}
+use Rattle.ldmodel.specs.CodeValues.{decision_of}
 use Rattle.ldmodel.specs.Names.{decision, is_local, symbol_tables}
 use Rattle.ldmodel.specs.Project.{Project}
 use Rattle.ldmodel.specs.declared.names.Case.{Case}

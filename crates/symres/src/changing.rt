@@ -13,7 +13,7 @@ ghost use Rattle.symres_table.specs.State.{Forgets, IsNamed};
 
 use crate::symbol_table::SymbolTable;
 use elfobj::Meter;
-use ldmodel::memory::NoMemory;
+use growth::NoMemory;
 use ldmodel_project::order::Order;
 use ldscript::Script;
 use std::mem;

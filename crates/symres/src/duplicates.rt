@@ -19,9 +19,9 @@ use crate::symbol_table::SymbolTable;
 use elfobj::Object;
 use elfobj::relocation::SymbolIndex;
 use elfobj::symbol::{Binding, Symbol, SymbolPlace};
+use growth::{NoMemory, vec};
 use ldmodel::fault::{Definer, Fault};
 use ldmodel::given;
-use ldmodel::memory::NoMemory;
 use ldmodel::names::{Case, Entry, NameKey, ObjectPlace};
 use ldmodel_project::view::ProjectView;
 use ldscript::Script;
@@ -49,7 +49,7 @@ fn is_assigned(script: &Script, name: &[u8]) -> bool
 fn no_entries(alloc: Global, count: usize) -> Result<Vec<Option<Entry<ObjectPlace>>>, NoMemory>
     ensures { IfOk result (λ v. v.items ≡ replicate count None) }
 {
-    vec![in alloc; None; count]
+    vec::from_elem(alloc, None, count)
 }
 
 /// The first definition of a name, by its key: this one, unless one was noted before. It is noted from then on.
@@ -98,7 +98,7 @@ fn add_if_not_first(
     match definer_before(is_assigned(script, name), first, entry) {
         None => Ok(()),
         Some(first) => {
-            faults.push(Fault::DuplicateDefinition { entry, first })?;
+            vec::push(faults, Fault::DuplicateDefinition { entry, first })?;
             Ok(())
         }
     }

@@ -6,7 +6,7 @@ ghost use Rattle.symres_decisions.specs.Keyed.{AreApart};
 ghost use Rattle.symres_decisions.specs.declared.keyed_object.KeyedObject.{KeyedObject};
 ghost use Rattle.symres.specs.Entered.{tables_of};
 
-use ldmodel::memory::NoMemory;
+use growth::{NoMemory, iterator, vec};
 use ldmodel::names::ObjectKey;
 use ldmodel_project::input::InputObject;
 use std::alloc::Global;
@@ -24,12 +24,15 @@ pub fn by_place<'a>(
     ensures tables { IfOk result (λ list. keyed.tables_of list.items ≡ tables_of inputs.now) }
     ensures apart { IfOk result (λ list. AreApart list.items) }
 {
-    let mut list = Vec::with_capacity(alloc, inputs.len())?;
+    let mut list = vec::with_capacity(alloc, inputs.len())?;
     for (place, input) in inputs.iter().enumerate() {
-        list.push(KeyedObject {
-            key: ObjectKey(place),
-            object: input.object,
-        })?;
+        vec::push(
+            &mut list,
+            KeyedObject {
+                key: ObjectKey(place),
+                object: input.object,
+            },
+        )?;
     }
     Ok(list)
 }
@@ -38,5 +41,5 @@ pub fn by_place<'a>(
 pub fn keys_of(alloc: Global, objects: &[KeyedObject<'_>]) -> Result<Vec<usize>, NoMemory>
     ensures { IfOk result (λ v. v.items ≡ map (λ (x : KeyedObject). x.key.0) objects.now) }
 {
-    objects.iter().map(|keyed| keyed.key.0).collect(alloc)
+    iterator::collect(objects.iter().map(|keyed| keyed.key.0), alloc)
 }

@@ -10,8 +10,8 @@ ghost use Rattle.symres.specs.Undefined.{faults_if, is_undefined};
 ghost use Rattle.ldmodel_project.specs.ByPlace.{faults_in};
 
 use crate::symbol_table::SymbolTable;
+use growth::{NoMemory, vec};
 use ldmodel::fault::Fault;
-use ldmodel::memory::NoMemory;
 use ldmodel::names::{Case, ObjectPlace};
 use ldmodel_project::view::ProjectView;
 use std::alloc::Global;
@@ -72,7 +72,7 @@ impl SymbolTable {
         if !self.is_entry_undefined(project) {
             return Ok(());
         }
-        faults.push(Fault::UndefinedEntry)?;
+        vec::push(faults, Fault::UndefinedEntry)?;
         Ok(())
     }
 

@@ -1,7 +1,7 @@
 //! The PROVIDEs of a script that are in force.
 
 ghost use Rattle.std.specs.Prelude.{◌≡◌, IfOk, OnOk, map};
-ghost use Rattle.ldmodel.specs.HandedOver.{decision_of};
+ghost use Rattle.ldmodel.specs.CodeValues.{decision_of};
 ghost use Rattle.ldmodel.specs.PlacementView.{name_given_by};
 ghost use Rattle.ldmodel.specs.Names.{is_provided_case, provided};
 ghost use Rattle.ldmodel.specs.Project.{Project};
@@ -10,8 +10,7 @@ ghost use Rattle.symres.specs.SymbolTable.{IsSymbolTable};
 ghost use Rattle.symres.specs.Provided.{in_force, AddsIfInForce};
 
 use crate::symbol_table::SymbolTable;
-use ldmodel::impossible::impossible;
-use ldmodel::memory::NoMemory;
+use growth::{NoMemory, impossible, vec};
 use ldmodel::names::{Case, ObjectPlace};
 use ldmodel::script_symbol::DirectiveIndex;
 use ldscript::Script;
@@ -62,7 +61,7 @@ impl SymbolTable {
         }
         match u32::try_from(number) {
             Ok(number) => {
-                list.push(DirectiveIndex(number))?;
+                vec::push(list, DirectiveIndex(number))?;
                 Ok(())
             }
             // No script has 2^32 statements

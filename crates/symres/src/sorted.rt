@@ -5,7 +5,7 @@ ghost use Rattle.symres.specs.Sorted.{named_number, AreSorted};
 ghost use Rattle.symres_decisions.specs.NameText.{AreInOrder, compared_number};
 
 use crate::symbol_table::SymbolTable;
-use ldmodel::memory::NoMemory;
+use growth::{NoMemory, vec};
 use ldmodel::names::NameKey;
 use std::alloc::Global;
 use symres_decisions::decisions::Decisions;
@@ -38,7 +38,7 @@ fn written(alloc: Global, text: &NameText) -> Result<Vec<NamedKey<'_>>, NoMemory
     ensures { IfOk result (λ list. map named_number list.items ≡ text.now) }
 {
     let count = text.len();
-    let mut list = Vec::with_capacity(alloc, count)?;
+    let mut list = vec::with_capacity(alloc, count)?;
     for place in 0..count {
         list.push_reserved(named_at(text, place));
     }
@@ -49,7 +49,7 @@ fn written(alloc: Global, text: &NameText) -> Result<Vec<NamedKey<'_>>, NoMemory
 fn named<'a>(alloc: Global, list: &[ComparedName<'a>]) -> Result<Vec<NamedKey<'a>>, NoMemory>
     ensures { IfOk result (λ named. map named_number named.items ≡ map compared_number list.now) }
 {
-    let mut names = Vec::with_capacity(alloc, list.len())?;
+    let mut names = vec::with_capacity(alloc, list.len())?;
     for compared in list {
         names.push_reserved(NamedKey {
             name: compared.name.name(),

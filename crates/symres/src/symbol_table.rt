@@ -2,7 +2,7 @@
 
 ghost use Rattle.std.specs.Prelude.{◌≡◌, ℕ, List, IfOk, MatchOption, length, map};
 ghost use Rattle.elfobj.specs.Symbols.{NamedSymbol};
-ghost use Rattle.ldmodel.specs.HandedOver.{decision_of};
+ghost use Rattle.ldmodel.specs.CodeValues.{decision_of};
 ghost use Rattle.ldmodel.specs.Names.{decision, symbol_tables};
 ghost use Rattle.ldmodel.specs.Project.{Project};
 ghost use Rattle.ldmodel_laws.specs.Renumbering.{renumbered_decision};
@@ -19,7 +19,7 @@ use crate::case_by_place::place_case;
 use crate::entered::{by_place, keys_of};
 use elfobj::Meter;
 use elfobj::relocation::SymbolIndex;
-use ldmodel::memory::NoMemory;
+use growth::NoMemory;
 use ldmodel::names::{Case, NameKey, ObjectPlace};
 use ldmodel_laws::names::decision_by_keys;
 use ldmodel_project::input::InputObject;

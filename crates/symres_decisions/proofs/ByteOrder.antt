@@ -1,26 +1,20 @@
 -- Names in byte order: one is put in its place, and some are taken out.
-use Rattle.std.proofs.Common.{◌≡◌, ◌∙◌, ◌+◌, ◌-◌, ◌<◌, ◌≤◌, ℕ, zero, suc, Bool, true, false, cond, List, [], ◌∷◌, ◌++◌}
-use Rattle.std.proofs.Common.{length, filter, get_or, set, map, take, Some, None, refl, ap, sym, subst, arith, ⊎_elim}
-use Rattle.std.specs.Prelude.{is_some, nat_lt}
-use Rattle.std.specs.List.{All, insert}
-use Rattle.std.specs.List.Sorted.{IsPermutation, IsSortedBy}
+use Rattle.symres_decisions.proofs.Common.{All, All-head, All-tail, All-weaker, AreInOrder, Bool, ComparedName, Forgets}
+use Rattle.symres_decisions.proofs.Common.{IsListing, IsNamed, IsPermutation, IsSortedBy, List, None, Some, State, []}
+use Rattle.symres_decisions.proofs.Common.{ap, arith, cases_eq, cases_lt, compared_number, cond, entries_of, false}
+use Rattle.symres_decisions.proofs.Common.{filter, get_or, get_or-insert_at, get_or-map, insert, is_known, is_some}
+use Rattle.symres_decisions.proofs.Common.{length, length-insert, length-map, map, nat_list_cmp_total, nat_lt, ranks_by}
+use Rattle.symres_decisions.proofs.Common.{refl, set, slice_cmp, subst, suc, sym, take, take_all, take_more, true}
+use Rattle.symres_decisions.proofs.Common.{true≢false, zero, ℕ, ⊎_elim, ◌++◌, ◌+◌, ◌-◌, ◌<◌, ◌∙◌, ◌∷◌, ◌≡◌, ◌≤◌}
 use Rattle.std.specs.Cmp.{IsStrictWeakOrder}
-use Rattle.std.specs.Cmp.Lexicographic.{nat_list_cmp_total, slice_cmp}
 use Rattle.std.specs.Ordering.{is_lt, nat_cmp}
-use Rattle.std.proofs.lemmas.Bool.{cases_eq, cases_lt, true≢false}
-use Rattle.std.proofs.lemmas.List.{get_or-map, length-map, take_all, take_more}
-use Rattle.std.proofs.lemmas.List.Elements.{All-head, All-tail, All-weaker}
-use Rattle.std.proofs.lemmas.List.Edits.{get_or-insert_above, get_or-insert_at, get_or-insert_below, length-insert, swap_is}
+use Rattle.std.proofs.lemmas.List.Edits.{get_or-insert_above, get_or-insert_below, swap_is}
 use Rattle.std.proofs.lemmas.List.Kept.{IsSortedBy-filter}
-use Rattle.std.proofs.lemmas.List.MinMax.{ranks_by}
-use Rattle.std.proofs.lemmas.List.Sorted.{IsPermutation-cons, IsPermutation-insert, IsPermutation-keeps, IsPermutation-refl}
-use Rattle.std.proofs.lemmas.List.Sorted.{All-permutation, IsPermutation-push_more, IsPermutation-swap, IsPermutation-trans}
-use Rattle.std.proofs.lemmas.List.Sorted.{sorted_far}
-use Rattle.symres_table.specs.State.{Forgets, IsListing, IsNamed, State, entries_of}
-use Rattle.symres_decisions.specs.NameText.{AreInOrder, BelongsAt, IsInByteOrder, comes_before, compared_number}
-use Rattle.symres_decisions.specs.NameText.{is_known}
+use Rattle.std.proofs.lemmas.List.Sorted.{IsPermutation-cons, IsPermutation-insert, IsPermutation-keeps}
+use Rattle.std.proofs.lemmas.List.Sorted.{IsPermutation-refl, All-permutation, IsPermutation-push_more}
+use Rattle.std.proofs.lemmas.List.Sorted.{IsPermutation-swap, IsPermutation-trans, sorted_far}
+use Rattle.symres_decisions.specs.NameText.{BelongsAt, IsInByteOrder, comes_before}
 use Rattle.symres_decisions.proofs.Listed.{Listed}
-use Rattle.symres_decisions.specs.declared.sorted_names.ComparedName.{ComparedName}
 
 -- ---- what a test leaves of a list whose members change places
 

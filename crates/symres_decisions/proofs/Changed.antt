@@ -1,26 +1,13 @@
 -- A change of one object, from its first step to its last.
-use Rattle.std.proofs.Common.{◌≡◌, ◌∙◌, ◌+◌, ℕ, Bool, true, false, cond, List, [], ◌++◌, Option, Some, None, length, ap}
-use Rattle.std.proofs.Common.{sym}
-use Rattle.std.proofs.Common.{refl, subst, arith}
-use Rattle.elfobj.specs.Counts.{Counts}
-use Rattle.elfobj.specs.Raised.{raised}
+use Rattle.symres_decisions.proofs.Common.{AreCases, AreDone, AreFound, AreOpen, AreThere, AreUsedBelow, Bool, Case}
+use Rattle.symres_decisions.proofs.Common.{Counts, CountsNames, DecidedFor, Fits, HasCase, HasName, HasPlaces}
+use Rattle.symres_decisions.proofs.Common.{HaveEntries, IsCleared, IsNamed, IsReadyFor, IsTextOf, IsWhole, List, None}
+use Rattle.symres_decisions.proofs.Common.{ObjectAt, ObjectChange, ObjectKey, Option, PutsIn, Some, State, Statement}
+use Rattle.symres_decisions.proofs.Common.{Table, TakesOut, [], ap, arith, case_at, changed_tables, cond, declared_by}
+use Rattle.symres_decisions.proofs.Common.{declares, distinct, entries_of, false, length, put_in, raised, refl}
+use Rattle.symres_decisions.proofs.Common.{reversed, slot, subst, sym, symbols_at, symbols_or, taken_out, touches, true}
+use Rattle.symres_decisions.proofs.Common.{ℕ, ◌++◌, ◌+◌, ◌∙◌, ◌≡◌}
 use Rattle.elfobj.specs.declared.meter.Count.TheVariants as counts
-use Rattle.ldscript.specs.statements.declared.statement.Statement.{Statement}
-use Rattle.ldmodel.specs.Names.{distinct}
-use Rattle.ldmodel.specs.declared.names.Case.{Case}
-use Rattle.ldmodel.specs.declared.names.ObjectKey.{ObjectKey}
-use Rattle.symres_table.specs.State.{HasName, IsNamed, State, entries_of, slot}
-use Rattle.symres_decisions.specs.Change.{AreThere, Fits, IsReadyFor, PutsIn, Table, TakesOut, changed_tables}
-use Rattle.symres_decisions.specs.Change.{declared_by}
-use Rattle.symres_decisions.specs.Change.{reversed}
-use Rattle.symres_decisions.specs.Change.{put_in, symbols_at, symbols_or, taken_out}
-use Rattle.symres_decisions.specs.Counted.{CountsNames}
-use Rattle.symres_decisions.specs.Decided.{AreCases, HasCase, case_at}
-use Rattle.symres_decisions.specs.Decisions.{AreUsedBelow, IsTextOf, IsWhole}
-use Rattle.symres_decisions.specs.Texts.{AreDone, AreFound, AreOpen, DecidedFor, HasPlaces, IsCleared, declares}
-use Rattle.symres_decisions.specs.Texts.{touches}
-use Rattle.symres_decisions.specs.declared.change.ObjectAt.{ObjectAt}
-use Rattle.symres_decisions.specs.declared.change.ObjectChange.{ObjectChange}
 use Rattle.symres_decisions.specs.declared.texts.KeySource.TheVariants as sources
 use Rattle.symres_decisions.proofs.Clearing.{none_cleared}
 use Rattle.symres_decisions.proofs.Exchanging.{Law, in_names, in_objects, in_order, out_names, out_objects, out_order}
@@ -29,7 +16,6 @@ use Rattle.symres_decisions.proofs.Listed.{Listed}
 use Rattle.symres_decisions.proofs.MakingRoom.{text_same}
 use Rattle.symres_decisions.proofs.OneName.{raised_twice}
 use Rattle.symres_decisions.proofs.Tables.{fits_back}
-use Rattle.symres_decisions.specs.Room.{HaveEntries}
 use Rattle.symres_decisions.proofs.Used.{come_used, used_changed}
 use Rattle.symres_decisions.proofs.Touched.{case_within, complete_after, entries_same, sound_after}
 

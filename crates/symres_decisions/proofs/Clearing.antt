@@ -1,24 +1,11 @@
 -- Cases of names that a symbol table declares are cleared.
-use Rattle.std.proofs.Common.{◌≡◌, ◌∙◌, ◌<◌, ◌+◌, ℕ, Bool, true, false, cond, not, List, [], ◌∷◌, ◌++◌, length, map}
-use Rattle.std.proofs.Common.{filter}
-use Rattle.std.proofs.Common.{Option, Some, None, get_or, set, take, refl, ap, sym, arith, append-nil, ⊎_elim, suc}
-use Rattle.std.proofs.Common.{zero}
-use Rattle.std.proofs.Common.{get_or-set_other, get_or-set_same}
-use Rattle.std.specs.Prelude.{bytes_eq, ◌||◌}
-use Rattle.std.specs.Set.{is_member}
-use Rattle.std.proofs.Math.Seq.{take-suc}
-use Rattle.std.proofs.lemmas.Bool.{cases_eq}
-use Rattle.std.proofs.lemmas.List.{length-set, map-append}
-use Rattle.std.proofs.lemmas.List.Elements.{filter-append}
-use Rattle.std.proofs.lemmas.Slice.Eq.{bytes_eq-Decides}
-use Rattle.elfobj.specs.Symbols.{NamedSymbol}
-use Rattle.ldmodel.specs.Names.{is_local}
-use Rattle.ldmodel.specs.declared.names.Case.{Case}
-use Rattle.ldmodel.specs.declared.names.ObjectKey.{ObjectKey}
-use Rattle.symres_table.specs.State.{AreDistinct, IsListing, IsNamed, slot}
-use Rattle.symres_decisions.specs.Counted.{declared_in}
-use Rattle.symres_decisions.specs.Decided.{case_at}
-use Rattle.symres_decisions.specs.Texts.{IsCleared, declares, touches}
+use Rattle.symres_decisions.proofs.Common.{AreDistinct, Bool, Case, IsCleared, IsListing, IsNamed, List, NamedSymbol}
+use Rattle.symres_decisions.proofs.Common.{None, ObjectKey, Option, Some, [], ap, append-nil, arith, bytes_eq}
+use Rattle.symres_decisions.proofs.Common.{bytes_eq-Decides, case_at, cases_eq, cond, declared_in, declares, false}
+use Rattle.symres_decisions.proofs.Common.{filter, filter-append, get_or, get_or-set_other, get_or-set_same, is_local}
+use Rattle.symres_decisions.proofs.Common.{is_member, length, length-set, map, map-append, not, refl, set, slot, suc}
+use Rattle.symres_decisions.proofs.Common.{sym, take, take-suc, touches, true, zero, ℕ, ⊎_elim, ◌++◌, ◌+◌, ◌<◌, ◌||◌}
+use Rattle.symres_decisions.proofs.Common.{◌∙◌, ◌∷◌, ◌≡◌}
 use Rattle.symres_decisions.proofs.Distinct.{member_pushed}
 
 abbrev pub Slots : Type 0

@@ -1,17 +1,10 @@
 -- Each declared name is in use and listed, so that the listed names in use are as many as the declared ones, each once.
-use Rattle.std.proofs.Common.{◌≡◌, ◌∙◌, ◌<◌, ◌≤◌, ℕ, zero, suc, Bool, true, false, cond, not, List, [], ◌∷◌, length}
-use Rattle.std.proofs.Common.{map}
-use Rattle.std.proofs.Common.{filter, get_or, refl, ap, sym, subst, arith, ⊎_elim}
-use Rattle.std.specs.Prelude.{Option, bytes_eq, nat_lt, ◌||◌}
-use Rattle.std.specs.List.{AllByRecursion, IsDistinct, list_any}
-use Rattle.std.specs.Set.{is_member}
-use Rattle.std.proofs.lemmas.Bool.{lt-ltb, true≢false}
-use Rattle.std.proofs.lemmas.Map.Made.{length-le_from_is_member}
-use Rattle.std.proofs.lemmas.Map.Views.{Contains-from_lookup}
-use Rattle.std.proofs.lemmas.Slice.Eq.{bytes_eq-Decides}
-use Rattle.ldmodel.specs.Names.{Declaration, declarations_of, distinct, is_of_name}
-use Rattle.symres_table.specs.State.{IsListing, IsNamed, entries_of}
-use Rattle.symres_decisions.specs.Counted.{all_uses, declared_names, is_used}
+use Rattle.symres_decisions.proofs.Common.{AllByRecursion, Bool, Contains-from_lookup, Declaration, IsDistinct}
+use Rattle.symres_decisions.proofs.Common.{IsListing, IsNamed, List, Option, [], all_uses, ap, arith, bytes_eq}
+use Rattle.symres_decisions.proofs.Common.{bytes_eq-Decides, cond, declarations_of, declared_names, distinct}
+use Rattle.symres_decisions.proofs.Common.{entries_of, false, filter, get_or, is_member, is_of_name, is_used, length}
+use Rattle.symres_decisions.proofs.Common.{length-le_from_is_member, list_any, lt-ltb, map, nat_lt, not, refl, subst}
+use Rattle.symres_decisions.proofs.Common.{suc, sym, true, true≢false, zero, ℕ, ⊎_elim, ◌<◌, ◌||◌, ◌∙◌, ◌∷◌, ◌≡◌, ◌≤◌}
 use Rattle.symres_decisions.proofs.Declared.{Table, distinct_filtered, names_declared, used_count, used_names, uses_few}
 use Rattle.symres_decisions.proofs.Distinct.{bytes_laws}
 use Rattle.symres_decisions.proofs.KnownNames.{known_or_not}

@@ -1,20 +1,11 @@
 -- All known names are decided, one after the other.
-use Rattle.std.proofs.Common.{◌≡◌, ◌∙◌, ◌<◌, ◌≤◌, ◌+◌, ℕ, Bool, true, false, cond, List, [], Option, Some, None}
-use Rattle.std.proofs.Common.{length, get_or, set, take, refl, ap, sym, subst, arith, ⊎_elim, get_or-set_same}
-use Rattle.std.proofs.Common.{get_or-set_other, ◌^◌}
-use Rattle.std.proofs.lemmas.Bool.{cases_eq, cases_lt}
-use Rattle.std.proofs.lemmas.List.{length-set, take_all}
-use Rattle.std.proofs.lemmas.List.Sums.{count_by_more_no, count_by_more_yes}
-use Rattle.elfobj.specs.Symbols.{NamedSymbol}
-use Rattle.elfobj.specs.Counts.{Counts}
-use Rattle.elfobj.specs.Raised.{raised}
+use Rattle.symres_decisions.proofs.Common.{AreCases, Bool, Case, Counts, HasCase, HasName, IsCase, IsListing, List}
+use Rattle.symres_decisions.proofs.Common.{NamedSymbol, None, ObjectKey, Option, Some, State, Statement, [], all_uses}
+use Rattle.symres_decisions.proofs.Common.{ap, arith, case_at, cases_eq, cases_lt, cond, count_by_more_no}
+use Rattle.symres_decisions.proofs.Common.{count_by_more_yes, false, get_or, get_or-set_other, get_or-set_same, is_used}
+use Rattle.symres_decisions.proofs.Common.{length, length-set, raised, refl, set, subst, sym, take, take_all, true}
+use Rattle.symres_decisions.proofs.Common.{uses, ℕ, ⊎_elim, ◌+◌, ◌<◌, ◌^◌, ◌∙◌, ◌≡◌, ◌≤◌}
 use Rattle.elfobj.specs.declared.meter.Count.TheVariants as counts
-use Rattle.ldscript.specs.statements.declared.statement.Statement.{Statement}
-use Rattle.ldmodel.specs.declared.names.Case.{Case}
-use Rattle.ldmodel.specs.declared.names.ObjectKey.{ObjectKey}
-use Rattle.symres_table.specs.State.{HasName, IsListing, State}
-use Rattle.symres_decisions.specs.Counted.{all_uses, is_used, uses}
-use Rattle.symres_decisions.specs.Decided.{AreCases, HasCase, IsCase, case_at}
 use Rattle.symres_decisions.proofs.Listed.{Listed, StandsIn, stands_in}
 use Rattle.symres_decisions.proofs.OneName.{raised_none, raised_twice}
 

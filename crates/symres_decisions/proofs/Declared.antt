@@ -1,18 +1,10 @@
 -- The names that symbol tables declare.
-use Rattle.std.proofs.Common.{◌≡◌, ◌∙◌, ◌≤◌, ◌+◌, ℕ, Bool, true, false, cond, not, List, [], ◌∷◌, ◌++◌, length, map}
-use Rattle.std.proofs.Common.{filter}
-use Rattle.std.proofs.Common.{refl, ap, sym, subst}
-use Rattle.std.specs.Prelude.{Option, bytes_eq, nat_lt, ◌||◌}
-use Rattle.std.specs.List.{AllByRecursion, IsDistinct, enumerate_from}
-use Rattle.std.specs.Set.{is_member}
-use Rattle.std.proofs.lemmas.List.{length-map, map-append}
-use Rattle.std.proofs.lemmas.List.Sums.{length-filter}
-use Rattle.std.proofs.lemmas.Slice.Eq.{bytes_eq-Decides}
-use Rattle.elfobj.specs.Symbols.{NamedSymbol}
-use Rattle.ldmodel.specs.Names.{Declaration, declaration, declarations_in, declarations_of, distinct, is_local}
-use Rattle.ldmodel.specs.Names.{is_of_name}
-use Rattle.symres_table.specs.State.{IsListing}
-use Rattle.symres_decisions.specs.Counted.{all_uses, declared_in, declared_names, is_used}
+use Rattle.symres_decisions.proofs.Common.{AllByRecursion, Bool, Declaration, IsDistinct, IsListing, List, NamedSymbol}
+use Rattle.symres_decisions.proofs.Common.{Option, [], all_uses, ap, bytes_eq, bytes_eq-Decides, cond, declaration}
+use Rattle.symres_decisions.proofs.Common.{declarations_in, declarations_of, declared_in, declared_names, distinct}
+use Rattle.symres_decisions.proofs.Common.{enumerate_from, false, filter, is_local, is_member, is_of_name, is_used}
+use Rattle.symres_decisions.proofs.Common.{length, length-filter, length-map, map, map-append, nat_lt, not, refl, subst}
+use Rattle.symres_decisions.proofs.Common.{sym, true, ℕ, ◌++◌, ◌+◌, ◌||◌, ◌∙◌, ◌∷◌, ◌≡◌, ◌≤◌}
 use Rattle.symres_decisions.proofs.Distinct.{at_most}
 use Rattle.symres_decisions.proofs.Listed.{Listed}
 

@@ -1,16 +1,10 @@
 -- How many names a list has, each counted once.
-use Rattle.std.proofs.Common.{◌≡◌, ◌∙◌, ◌≤◌, ◌+◌, ℕ, Bool, true, false, cond, not, List, [], ◌∷◌, ◌++◌, length, filter}
-use Rattle.std.proofs.Common.{refl, ap, sym, arith, append-nil, append_assoc, length-append}
-use Rattle.std.proofs.lemmas.List.Elements.{filter-append}
+use Rattle.symres_decisions.proofs.Common.{Bool, IsDistinct, List, [], any-filter_same, ap, append-nil, append_assoc}
+use Rattle.symres_decisions.proofs.Common.{arith, bytes_eq, bytes_eq-Decides, cond, distinct, false, filter}
+use Rattle.symres_decisions.proofs.Common.{filter-append, is_member, length, length-append, length-le_from_is_member}
+use Rattle.symres_decisions.proofs.Common.{list_any, not, refl, sym, true, ℕ, ◌++◌, ◌+◌, ◌||◌, ◌∙◌, ◌∷◌, ◌≡◌, ◌≤◌}
 use Rattle.std.proofs.lemmas.Bool.Decides.{same_from_decides}
-use Rattle.std.specs.Prelude.{bytes_eq, ◌||◌}
 use Rattle.std.specs.Cmp.{IsEquivalence}
-use Rattle.std.specs.List.{IsDistinct, list_any}
-use Rattle.std.specs.Set.{is_member}
-use Rattle.std.proofs.lemmas.Map.Made.{length-le_from_is_member}
-use Rattle.std.proofs.lemmas.Map.Views.{any-filter_same}
-use Rattle.std.proofs.lemmas.Slice.Eq.{bytes_eq-Decides}
-use Rattle.ldmodel.specs.Names.{distinct}
 
 symmetric : (x y : List ℕ) → bytes_eq x y ≡ bytes_eq y x
 symmetric x y =

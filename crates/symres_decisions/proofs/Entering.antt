@@ -1,15 +1,9 @@
 -- The first objects of a list are entered.
-use Rattle.std.proofs.Common.{◌≡◌, ◌∙◌, ◌<◌, ◌≤◌, ◌+◌, ℕ, suc, false, List, [], ◌∷◌, ◌++◌, length, take, get_or, ap}
-use Rattle.std.proofs.Common.{sym}
-use Rattle.std.proofs.Common.{arith}
-use Rattle.std.specs.List.{insert}
-use Rattle.std.specs.Prelude.{◌==◌}
-use Rattle.std.proofs.Math.Seq.{take-suc}
-use Rattle.std.proofs.lemmas.Bool.{ne_eqb}
-use Rattle.std.proofs.lemmas.List.{get_or-map, get_or-take, length-map, length-take-le}
+use Rattle.symres_decisions.proofs.Common.{List, NamedSymbol, [], ap, arith, false, get_or, get_or-map, get_or-take}
+use Rattle.symres_decisions.proofs.Common.{insert, length, length-map, length-take-le, ne_eqb, suc, sym, table_of}
+use Rattle.symres_decisions.proofs.Common.{tables_of, take, take-suc, ℕ, ◌++◌, ◌+◌, ◌<◌, ◌==◌, ◌∙◌, ◌∷◌, ◌≡◌, ◌≤◌}
 use Rattle.std.proofs.lemmas.List.Edits.{insert_end}
-use Rattle.elfobj.specs.Symbols.{NamedSymbol}
-use Rattle.symres_decisions.specs.Keyed.{AreApart, table_of, tables_of}
+use Rattle.symres_decisions.specs.Keyed.{AreApart}
 use Rattle.symres_decisions.specs.declared.keyed_object.KeyedObject.{KeyedObject}
 
 abbrev pub Table : Type 0

@@ -1,16 +1,9 @@
 -- An object is taken out of a table of names, and another one entered.
-use Rattle.std.proofs.Common.{◌≡◌, ◌∙◌, ◌≤◌, ℕ, List, Option, Some, None, length, get_or}
-use Rattle.std.proofs.Common.{ap, sym, subst}
-use Rattle.std.proofs.lemmas.Bool.{eq-eqb}
-use Rattle.std.proofs.lemmas.List.Elements.{All-nil}
-use Rattle.elfobj.specs.Symbols.{NamedSymbol}
+use Rattle.symres_decisions.proofs.Common.{All-nil, AreKnown, CanCome, CanGo, HasObject, List, MayCome, MayEnter}
+use Rattle.symres_decisions.proofs.Common.{MayFollow, NamedSymbol, None, ObjectAt, Option, PutsIn, Some, StandsAt}
+use Rattle.symres_decisions.proofs.Common.{State, Table, TakesOut, ap, eq-eqb, get_or, length, put_in, slot, subst, sym}
+use Rattle.symres_decisions.proofs.Common.{symbols_at, symbols_or, taken_out, ℕ, ◌∙◌, ◌≡◌, ◌≤◌}
 use Rattle.symres_table.specs.Changes.{Enters, Withdraws}
-use Rattle.symres_table.specs.State.{HasObject, MayEnter, State, slot}
-use Rattle.symres_decisions.specs.Change.{CanCome, CanGo, MayCome, MayFollow, PutsIn, StandsAt, Table, TakesOut}
-use Rattle.symres_decisions.specs.Change.{put_in}
-use Rattle.symres_decisions.specs.Change.{symbols_at, symbols_or, taken_out}
-use Rattle.symres_decisions.specs.Texts.{AreKnown}
-use Rattle.symres_decisions.specs.declared.change.ObjectAt.{ObjectAt}
 
 -- ---- what goes
 

@@ -1,21 +1,16 @@
 -- The keys of the names of symbols.
-use Rattle.std.proofs.Common.{◌≡◌, ◌∙◌, ◌<◌, ℕ, Bool, true, false, not, List, [], Option, Some, None, length, map}
-use Rattle.std.proofs.Common.{get_or, ap, sym}
-use Rattle.std.proofs.Common.{subst, slice_get, refl, arith, ⊎_elim, ◌++◌, ◌∷◌}
-use Rattle.std.specs.Prelude.{IfNone, IfSome}
+use Rattle.symres_decisions.proofs.Common.{AreFound, AreKnown, AreNoted, Bool, HasName, IfNone, IfSome, IsKeyOf}
+use Rattle.symres_decisions.proofs.Common.{IsNameAt, IsNamed, IsNotedFor, IsSeenAt, List, NamedSymbol, None, Option}
+use Rattle.symres_decisions.proofs.Common.{Some, State, [], ap, arith, cases_lt, false, get_or, get_or-map}
+use Rattle.symres_decisions.proofs.Common.{get_or_append_left, get_or_push, is_local, length, length_push, map, not}
+use Rattle.symres_decisions.proofs.Common.{refl, slice_get, subst, sym, true, ℕ, ⊎_elim, ◌++◌, ◌<◌, ◌∙◌, ◌∷◌, ◌≡◌}
 use Rattle.std.specs.Option.{option_map}
-use Rattle.std.proofs.lemmas.Bool.{cases_lt}
-use Rattle.std.proofs.lemmas.List.{get_or-map, get_or_append_left, get_or_push, length_push}
 use Rattle.std.proofs.lemmas.Option.{slice_get-get_or, slice_get-map}
-use Rattle.elfobj.specs.Symbols.{NamedSymbol}
 use Rattle.elfobj.specs.declared.symbol.Symbol.{Symbol}
-use Rattle.ldmodel.specs.Names.{is_local}
 use Rattle.ldmodel.specs.declared.names.NameKey.{NameKey}
 use Rattle.ldmodel.specs.declared.names.ObjectPlace.{ObjectPlace}
-use Rattle.symres_table.specs.State.{HasName, IsNameAt, IsNamed, IsSeenAt, State}
 use Rattle.symres_decisions.specs.declared.texts.KeySource.{KeySource}
 use Rattle.symres_decisions.specs.declared.texts.KeySource.TheVariants as sources
-use Rattle.symres_decisions.specs.Texts.{AreFound, AreKnown, AreNoted, IsKeyOf, IsNotedFor}
 
 abbrev Table : Type 0
 Table = ℕ × List NamedSymbol

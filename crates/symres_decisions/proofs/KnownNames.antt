@@ -1,17 +1,12 @@
 -- Names that entered objects declare are known.
-use Rattle.std.proofs.Common.{◌≡◌, ◌∙◌, ◌<◌, ℕ, zero, suc, Bool, true, false, cond, not, List, [], ◌∷◌}
-use Rattle.std.proofs.Common.{length, map, filter, get_or, refl, ap, sym, subst, arith, ◌⊎◌, inl, inr, ⊎_elim}
-use Rattle.std.specs.Prelude.{Contains, None, Option, Some, bytes_eq, nat_lt}
+use Rattle.symres_decisions.proofs.Common.{Bool, Contains, Contains-append_left, Contains-append_right}
+use Rattle.symres_decisions.proofs.Common.{Contains-from_lookup, Declaration, IsListing, IsNameAt, IsNamed, IsSeenAt}
+use Rattle.symres_decisions.proofs.Common.{List, NamedSymbol, None, Option, Some, [], ap, arith, bytes_eq}
+use Rattle.symres_decisions.proofs.Common.{bytes_eq-Decides, cond, declarations_of, declared_in, declared_names}
+use Rattle.symres_decisions.proofs.Common.{entries_of, false, filter, get_or, get_or_default, inl, inr, is_local}
+use Rattle.symres_decisions.proofs.Common.{is_of_name, is_used, length, lt-ltb, map, nat_lt, not, null_symbol, refl}
+use Rattle.symres_decisions.proofs.Common.{subst, suc, sym, true, zero, ℕ, ⊎_elim, ◌<◌, ◌∙◌, ◌∷◌, ◌≡◌, ◌⊎◌}
 use Rattle.std.specs.Map.{lookup}
-use Rattle.std.proofs.lemmas.Bool.{lt-ltb}
-use Rattle.std.proofs.lemmas.List.{get_or_default}
-use Rattle.std.proofs.lemmas.List.Elements.{Contains-append_left, Contains-append_right}
-use Rattle.std.proofs.lemmas.Map.Views.{Contains-from_lookup}
-use Rattle.std.proofs.lemmas.Slice.Eq.{bytes_eq-Decides}
-use Rattle.elfobj.specs.Symbols.{NamedSymbol, null_symbol}
-use Rattle.ldmodel.specs.Names.{Declaration, declarations_of, is_local, is_of_name}
-use Rattle.symres_table.specs.State.{IsListing, IsNameAt, IsNamed, IsSeenAt, entries_of}
-use Rattle.symres_decisions.specs.Counted.{declared_in, declared_names, is_used}
 use Rattle.symres_decisions.proofs.Declared.{Table, names_declared}
 use Rattle.symres_decisions.proofs.Listed.{Listed}
 

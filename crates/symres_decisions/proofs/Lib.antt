@@ -1,3 +1,4 @@
+pub mod Common
 pub mod OneName
 pub mod Listed
 pub mod Deciding

@@ -1,10 +1,7 @@
 -- The list of known names.
-use Rattle.std.proofs.Common.{◌≡◌, ◌∙◌, ◌<◌, ℕ, true, List, Option, Some, None, length, get_or, ap, refl, subst}
-use Rattle.std.specs.Prelude.{IsSome, MatchOption, bytes_eq}
-use Rattle.std.proofs.lemmas.List.{get_or_default}
-use Rattle.std.proofs.lemmas.Map.Views.{Contains-from_lookup}
-use Rattle.std.proofs.lemmas.Slice.Eq.{bytes_eq-Decides}
-use Rattle.symres_table.specs.State.{HasName, IsListing, IsNamed}
+use Rattle.symres_decisions.proofs.Common.{Contains-from_lookup, HasName, IsListing, IsNamed, IsSome, List, MatchOption}
+use Rattle.symres_decisions.proofs.Common.{None, Option, Some, ap, bytes_eq, bytes_eq-Decides, get_or, get_or_default}
+use Rattle.symres_decisions.proofs.Common.{length, refl, subst, true, ℕ, ◌<◌, ◌∙◌, ◌≡◌}
 
 abbrev pub Listed : Type 0
 Listed = List ℕ × ℕ

@@ -1,31 +1,16 @@
 -- Names become known, and are forgotten again.
-use Rattle.std.proofs.Common.{◌≡◌, ◌∙◌, ◌<◌, ◌≤◌, ◌+◌, ◌-◌, ℕ, Bool, true, false, cond, eqb, List, [], ◌∷◌, ◌++◌}
-use Rattle.std.proofs.Common.{length}
-use Rattle.std.proofs.Common.{Option, Some, None, Result, Ok, Err, OnOk, get_or, set, drop, take, refl, ap, sym, subst, arith}
-use Rattle.std.proofs.Common.{⊎_elim, ◌⊎◌, inl, inr, get_or-set_other, get_or-set_same}
-use Rattle.std.specs.Prelude.{IfSome, nat_lt}
-use Rattle.std.specs.List.{All}
-use Rattle.std.proofs.Math.Seq.{take-append_seam}
-use Rattle.std.proofs.lemmas.Bool.{cases_eq, cases_lt, eq-eqb, ne_eqb}
-use Rattle.std.proofs.lemmas.List.{get_or_append_left, get_or-drop, get_or_past, length-drop}
-use Rattle.elfobj.specs.Symbols.{NamedSymbol}
-use Rattle.ldscript.specs.statements.declared.statement.Statement.{Statement}
-use Rattle.ldmodel.specs.Names.{Declaration, decided}
-use Rattle.ldmodel.specs.ScriptNames.{is_assigned, is_provided}
-use Rattle.ldmodel.specs.declared.names.Case.{Case}
-use Rattle.ldmodel.specs.declared.names.ObjectKey.{ObjectKey}
-use Rattle.symres_table.specs.State.{Forgets, HasName, IsListing, IsNamed, KeepsNames, MayEnter}
-use Rattle.symres_table.specs.State.{State, entries_of, slot}
-use Rattle.symres_decisions.specs.Change.{Fits, IsReadyFor, MayFollow, symbols_at}
-use Rattle.symres_decisions.specs.Counted.{is_used}
-use Rattle.symres_decisions.specs.Decided.{AreCases, HasCase, IsCase, case_at}
-use Rattle.symres_decisions.specs.Decisions.{IsTextOf, IsWhole}
-use Rattle.symres_decisions.specs.NameText.{AreInOrder}
+use Rattle.symres_decisions.proofs.Common.{All, AreCases, AreInOrder, Bool, Case, Declaration, Err, Fits, Forgets}
+use Rattle.symres_decisions.proofs.Common.{HasCase, HasName, IfSome, IsCase, IsListing, IsNamed, IsReadyFor, IsTextOf}
+use Rattle.symres_decisions.proofs.Common.{IsWhole, KeepsNames, List, MayEnter, MayFollow, NamedSymbol, None, ObjectAt}
+use Rattle.symres_decisions.proofs.Common.{ObjectChange, ObjectKey, Ok, OnOk, Option, Result, Some, State, Statement}
+use Rattle.symres_decisions.proofs.Common.{[], ap, arith, case_at, cases_eq, cases_lt, cond, decided, drop, entries_of}
+use Rattle.symres_decisions.proofs.Common.{eq-eqb, eqb, false, get_or, get_or-drop, get_or-set_other, get_or-set_same}
+use Rattle.symres_decisions.proofs.Common.{get_or_append_left, get_or_past, inl, inr, is_assigned, is_provided, is_used}
+use Rattle.symres_decisions.proofs.Common.{length, length-drop, nat_lt, ne_eqb, refl, set, slot, subst, sym, symbols_at}
+use Rattle.symres_decisions.proofs.Common.{take, take-append_seam, true, ℕ, ⊎_elim, ◌++◌, ◌+◌, ◌-◌, ◌<◌, ◌∙◌, ◌∷◌, ◌≡◌}
+use Rattle.symres_decisions.proofs.Common.{◌≤◌, ◌⊎◌}
 use Rattle.symres_decisions.specs.Room.{AreKeptWhere, AreUnused, HaveCasesBelow, HaveCasesFrom, KeepsUsed, OnlyDrops}
-use Rattle.symres_decisions.specs.Room.{kept_where}
-use Rattle.symres_decisions.specs.Room.{AreOldOrNew, StandsFrom}
-use Rattle.symres_decisions.specs.declared.change.ObjectAt.{ObjectAt}
-use Rattle.symres_decisions.specs.declared.change.ObjectChange.{ObjectChange}
+use Rattle.symres_decisions.specs.Room.{kept_where, AreOldOrNew, StandsFrom}
 use Rattle.symres_decisions.proofs.Listed.{Listed, StandsIn, named_listed, stands_in}
 use Rattle.symres_decisions.proofs.OneName.{one_name}
 

@@ -1,24 +1,12 @@
 -- Names that a symbol table declares are decided, each once.
-use Rattle.std.proofs.Common.{◌≡◌, ◌∙◌, ◌<◌, ◌+◌, ◌^◌, ℕ, Bool, true, false, List, [], ◌∷◌, ◌++◌, length}
-use Rattle.std.proofs.Common.{Option, Some, None, set, refl, ap, sym, subst, arith, append-nil, append_assoc, ⊎_elim}
-use Rattle.std.proofs.Common.{get_or-set_other, get_or-set_same, inl, inr}
-use Rattle.std.specs.Prelude.{bytes_eq, ◌||◌}
-use Rattle.std.specs.Set.{is_member}
-use Rattle.std.proofs.lemmas.Bool.{cases_eq, true≢false}
-use Rattle.std.proofs.lemmas.List.{length-set}
-use Rattle.std.proofs.lemmas.Slice.Eq.{bytes_eq-Decides}
-use Rattle.elfobj.specs.Symbols.{NamedSymbol}
-use Rattle.elfobj.specs.Counts.{Counts}
-use Rattle.elfobj.specs.Raised.{raised}
+use Rattle.symres_decisions.proofs.Common.{AreCases, AreDistinct, AreDone, AreOpen, Bool, Case, Counts, DecidedFor}
+use Rattle.symres_decisions.proofs.Common.{DecidesOnce, HasCase, IsCase, IsNamed, KeepsCases, List, NamedSymbol, None}
+use Rattle.symres_decisions.proofs.Common.{ObjectKey, Option, Some, State, Statement, [], ap, append-nil, append_assoc}
+use Rattle.symres_decisions.proofs.Common.{arith, bytes_eq, bytes_eq-Decides, case_at, cases_eq, declared_in, distinct}
+use Rattle.symres_decisions.proofs.Common.{false, get_or-set_other, get_or-set_same, inl, inr, is_local, is_member}
+use Rattle.symres_decisions.proofs.Common.{length, length-set, raised, refl, set, subst, sym, true, true≢false, ℕ}
+use Rattle.symres_decisions.proofs.Common.{⊎_elim, ◌++◌, ◌+◌, ◌<◌, ◌^◌, ◌||◌, ◌∙◌, ◌∷◌, ◌≡◌}
 use Rattle.elfobj.specs.declared.meter.Count.TheVariants as counts
-use Rattle.ldscript.specs.statements.declared.statement.Statement.{Statement}
-use Rattle.ldmodel.specs.Names.{distinct, is_local}
-use Rattle.ldmodel.specs.declared.names.Case.{Case}
-use Rattle.ldmodel.specs.declared.names.ObjectKey.{ObjectKey}
-use Rattle.symres_table.specs.State.{AreDistinct, IsNamed, State}
-use Rattle.symres_decisions.specs.Counted.{declared_in}
-use Rattle.symres_decisions.specs.Decided.{AreCases, HasCase, IsCase, KeepsCases, case_at}
-use Rattle.symres_decisions.specs.Texts.{AreDone, AreOpen, DecidedFor, DecidesOnce}
 use Rattle.symres_decisions.proofs.Clearing.{declared_local, declared_seen}
 use Rattle.symres_decisions.proofs.Distinct.{member_append, member_pushed, old_pushed, pushed_new}
 use Rattle.symres_decisions.proofs.OneName.{one_name, raised_none, raised_twice}

@@ -1,20 +1,12 @@
 -- What one name stands for.
-use Rattle.std.proofs.Common.{◌≡◌, ◌∙◌, ◌<◌, ◌≤◌, ◌+◌, ◌-◌, ◌^◌, ℕ, Bool, true, false, min, List, []}
-use Rattle.std.proofs.Common.{Option, Some}
-use Rattle.std.proofs.Common.{get_or, refl, ap, sym, subst, arith}
-use Rattle.std.specs.Prelude.{IsSome}
-use Rattle.elfobj.specs.Symbols.{NamedSymbol, null_symbol}
-use Rattle.elfobj.specs.Counts.{Counts}
-use Rattle.elfobj.specs.Raised.{raised}
+use Rattle.symres_decisions.proofs.Common.{Bool, Case, Counts, HasCase, HasName, IsCase, IsNameAt, IsNamed, IsSome}
+use Rattle.symres_decisions.proofs.Common.{List, NamedSymbol, ObjectKey, Option, Some, State, Statement, [], ap, arith}
+use Rattle.symres_decisions.proofs.Common.{case_at, decided, decision_in, entries_of, false, get_or, is_assigned}
+use Rattle.symres_decisions.proofs.Common.{is_provided, min, null_symbol, raised, refl, subst, sym, true, ℕ, ◌+◌, ◌-◌}
+use Rattle.symres_decisions.proofs.Common.{◌<◌, ◌^◌, ◌∙◌, ◌≡◌, ◌≤◌}
 use Rattle.elfobj.specs.declared.meter.Count.TheVariants as counts
-use Rattle.ldscript.specs.statements.declared.statement.Statement.{Statement}
-use Rattle.ldmodel.specs.HandedOver.{decision_under_keys}
-use Rattle.ldmodel.specs.Names.{Script, Undefined, decided}
-use Rattle.ldmodel.specs.ScriptNames.{is_assigned, is_provided}
-use Rattle.ldmodel.specs.declared.names.Case.{Case}
-use Rattle.ldmodel.specs.declared.names.ObjectKey.{ObjectKey}
-use Rattle.symres_table.specs.State.{HasName, IsNameAt, IsNamed, State, entries_of}
-use Rattle.symres_decisions.specs.Decided.{HasCase, IsCase, case_at, decision_in}
+use Rattle.ldmodel.specs.CodeValues.{decision_under_keys}
+use Rattle.ldmodel.specs.Names.{Script, Undefined}
 
 -- ---- by the script alone
 

@@ -1,11 +1,8 @@
 -- The names that the objects of a project declare.
-use Rattle.std.proofs.Common.{◌≡◌, ◌∙◌, ◌+◌, ℕ, List, [], ◌∷◌, ◌++◌, map, refl, ap, sym, append-nil}
-use Rattle.std.specs.Prelude.{flat_map}
-use Rattle.std.specs.List.{enumerate_from}
-use Rattle.elfobj.specs.Symbols.{NamedSymbol}
+use Rattle.symres_decisions.proofs.Common.{List, NamedSymbol, [], ap, append-nil, declared_in, declared_names}
+use Rattle.symres_decisions.proofs.Common.{enumerate_from, flat_map, map, refl, sym, ℕ, ◌++◌, ◌+◌, ◌∙◌, ◌∷◌, ◌≡◌}
 use Rattle.ldmodel.specs.Names.{names_in_objects, symbol_tables}
 use Rattle.ldmodel.specs.Project.{NamedObject}
-use Rattle.symres_decisions.specs.Counted.{declared_in, declared_names}
 use Rattle.symres_decisions.proofs.Declared.{Table, names_declared}
 
 of_tables : (tables : List Table)

@@ -1,21 +1,12 @@
 -- Symbol tables of entered objects, where one goes and one comes.
-use Rattle.std.proofs.Common.{◌≡◌, ◌∙◌, ◌<◌, ◌≤◌, ◌+◌, ◌-◌, ℕ, zero, suc, Bool, true, false, cond, eqb, not, List, []}
-use Rattle.std.proofs.Common.{◌∷◌, ◌++◌}
-use Rattle.std.proofs.Common.{length, filter, get_or, take, drop, refl, ap, sym, subst, arith, ⊎_elim, Option, Some}
-use Rattle.std.proofs.Common.{None}
-use Rattle.std.specs.List.{All, insert, remove}
-use Rattle.std.proofs.lemmas.Bool.{cases_lt, eq-eqb}
-use Rattle.std.proofs.lemmas.List.{take-append-drop}
-use Rattle.std.proofs.lemmas.List.Edits.{get_or-insert_at, get_or-remove_above, get_or-remove_below, length-insert}
-use Rattle.std.proofs.lemmas.List.Edits.{length-remove}
-use Rattle.std.proofs.lemmas.List.Elements.{All-head, All-tail, filter-append, filter_passes}
-use Rattle.elfobj.specs.Symbols.{NamedSymbol}
-use Rattle.symres_table.specs.State.{IsFresh, without}
-use Rattle.symres_decisions.specs.Change.{CanCome, CanGo, Fits, StandsAt, Table, changed_tables, put_in, reversed}
-use Rattle.symres_decisions.specs.Change.{symbols_at}
-use Rattle.symres_decisions.specs.Change.{taken_out}
-use Rattle.symres_decisions.specs.declared.change.ObjectAt.{ObjectAt}
-use Rattle.symres_decisions.specs.declared.change.ObjectChange.{ObjectChange}
+use Rattle.symres_decisions.proofs.Common.{All, All-head, All-tail, Bool, CanCome, CanGo, Fits, IsFresh, List}
+use Rattle.symres_decisions.proofs.Common.{NamedSymbol, None, ObjectAt, ObjectChange, Option, Some, StandsAt, Table, []}
+use Rattle.symres_decisions.proofs.Common.{ap, arith, cases_lt, changed_tables, cond, drop, eq-eqb, eqb, false, filter}
+use Rattle.symres_decisions.proofs.Common.{filter-append, filter_passes, get_or, get_or-insert_at, insert, length}
+use Rattle.symres_decisions.proofs.Common.{length-insert, not, put_in, refl, remove, reversed, subst, suc, sym}
+use Rattle.symres_decisions.proofs.Common.{symbols_at, take, take-append-drop, taken_out, true, without, zero, ℕ}
+use Rattle.symres_decisions.proofs.Common.{⊎_elim, ◌++◌, ◌+◌, ◌-◌, ◌<◌, ◌∙◌, ◌∷◌, ◌≡◌, ◌≤◌}
+use Rattle.std.proofs.lemmas.List.Edits.{get_or-remove_above, get_or-remove_below, length-remove}
 
 -- ---- lists
 

@@ -1,29 +1,14 @@
 -- The entries of names that a change does not touch, and the cases after it.
-use Rattle.std.proofs.Common.{◌≡◌, ◌∙◌, ◌<◌, ◌+◌, ℕ, Bool, true, false, cond, eqb, not, List, [], ◌∷◌, ◌++◌, length}
-use Rattle.std.proofs.Common.{map}
-use Rattle.std.proofs.Common.{filter, take, drop, refl, ap, sym, Option, Some, None}
-use Rattle.std.specs.Prelude.{bytes_eq, ◌||◌}
-use Rattle.std.specs.List.{All, enumerate_from, insert}
-use Rattle.std.specs.Set.{is_member}
-use Rattle.std.proofs.lemmas.List.{take-append-drop}
+use Rattle.symres_decisions.proofs.Common.{All, All-head, All-tail, AreCases, AreDone, Bool, CanGo, Case, Declaration}
+use Rattle.symres_decisions.proofs.Common.{HasCase, HasName, IsCase, IsCleared, KeepsCases, List, NamedSymbol, None}
+use Rattle.symres_decisions.proofs.Common.{ObjectAt, ObjectKey, Option, Some, State, Statement, Table, [], ap, bytes_eq}
+use Rattle.symres_decisions.proofs.Common.{case_at, cases_lt, cond, decided, declaration, declarations_in}
+use Rattle.symres_decisions.proofs.Common.{declarations_of, declared_in, declares, drop, entries_of, enumerate_from}
+use Rattle.symres_decisions.proofs.Common.{eqb, false, filter, filter-append, get_or_past, insert, is_assigned}
+use Rattle.symres_decisions.proofs.Common.{is_local, is_member, is_of_name, is_provided, length, map, not, put_in, refl}
+use Rattle.symres_decisions.proofs.Common.{slot, sym, symbols_at, symbols_or, take, take-append-drop, taken_out}
+use Rattle.symres_decisions.proofs.Common.{touches, true, without, ℕ, ⊎_elim, ◌++◌, ◌+◌, ◌<◌, ◌||◌, ◌∙◌, ◌∷◌, ◌≡◌}
 use Rattle.std.proofs.lemmas.List.Concat.{flat_map-append}
-use Rattle.std.proofs.lemmas.List.Elements.{All-head, All-tail, filter-append}
-use Rattle.std.proofs.lemmas.List.{get_or_past}
-use Rattle.std.proofs.lemmas.Bool.{cases_lt}
-use Rattle.std.proofs.Common.{⊎_elim}
-use Rattle.elfobj.specs.Symbols.{NamedSymbol}
-use Rattle.ldscript.specs.statements.declared.statement.Statement.{Statement}
-use Rattle.ldmodel.specs.Names.{Declaration, decided, declaration, declarations_in, declarations_of, is_local}
-use Rattle.ldmodel.specs.Names.{is_of_name}
-use Rattle.ldmodel.specs.ScriptNames.{is_assigned, is_provided}
-use Rattle.ldmodel.specs.declared.names.Case.{Case}
-use Rattle.ldmodel.specs.declared.names.ObjectKey.{ObjectKey}
-use Rattle.symres_table.specs.State.{HasName, State, entries_of, slot, without}
-use Rattle.symres_decisions.specs.Change.{CanGo, Table, put_in, symbols_at, symbols_or, taken_out}
-use Rattle.symres_decisions.specs.Counted.{declared_in}
-use Rattle.symres_decisions.specs.Decided.{AreCases, HasCase, IsCase, KeepsCases, case_at}
-use Rattle.symres_decisions.specs.Texts.{AreDone, IsCleared, declares, touches}
-use Rattle.symres_decisions.specs.declared.change.ObjectAt.{ObjectAt}
 use Rattle.symres_decisions.proofs.Distinct.{member_append}
 use Rattle.symres_decisions.proofs.Tables.{only_there}
 

@@ -1,25 +1,13 @@
 -- Names that have entries, and what a change leaves of that.
-use Rattle.std.proofs.Common.{◌≡◌, ◌∙◌, ◌+◌, ◌<◌, ⊎_elim, ℕ, zero, suc, Bool, true, false, cond}
-use Rattle.std.proofs.Common.{List, [], ◌∷◌, ◌++◌}
-use Rattle.std.proofs.Common.{Option, Some, None, get_or, length, length-append, filter, map, ap, arith, refl, subst, sym}
-use Rattle.std.specs.Prelude.{◌==◌, bytes_eq, Contains, nat_lt, not, ◌||◌}
-use Rattle.std.specs.List.{All, insert}
-use Rattle.std.specs.Set.{is_member}
-use Rattle.std.proofs.lemmas.Bool.{cases_lt, lt-ltb, true≢false}
-use Rattle.std.proofs.lemmas.List.{get_or_append_left, length-map}
-use Rattle.std.proofs.lemmas.List.Edits.{get_or-insert_at, length-insert}
-use Rattle.std.proofs.lemmas.List.Elements.{All-head, All-tail}
+use Rattle.symres_decisions.proofs.Common.{All, All-head, All-tail, AreUsed, AreUsedBelow, Bool, CanCome, Contains}
+use Rattle.symres_decisions.proofs.Common.{Declaration, Forgets, HaveEntries, IsListing, IsNamed, List, NamedSymbol}
+use Rattle.symres_decisions.proofs.Common.{None, ObjectAt, Option, Some, State, Table, [], ap, arith, bytes_eq}
+use Rattle.symres_decisions.proofs.Common.{bytes_eq-Decides, cases_lt, cond, declared_in, declares, entries_of, false}
+use Rattle.symres_decisions.proofs.Common.{filter, get_or, get_or-insert_at, get_or_append_left, insert, is_local}
+use Rattle.symres_decisions.proofs.Common.{is_member, is_used, length, length-append, length-insert, length-map, lt-ltb}
+use Rattle.symres_decisions.proofs.Common.{map, nat_lt, not, put_in, refl, subst, suc, sym, symbols_at, symbols_or}
+use Rattle.symres_decisions.proofs.Common.{true, true≢false, zero, ℕ, ⊎_elim, ◌++◌, ◌+◌, ◌<◌, ◌==◌, ◌||◌, ◌∙◌, ◌∷◌, ◌≡◌}
 use Rattle.std.proofs.lemmas.Map.Made.{is_member-Decides}
-use Rattle.std.proofs.lemmas.Slice.Eq.{bytes_eq-Decides}
-use Rattle.elfobj.specs.Symbols.{NamedSymbol}
-use Rattle.ldmodel.specs.Names.{Declaration, is_local}
-use Rattle.symres_table.specs.State.{Forgets, IsListing, IsNamed, State, entries_of}
-use Rattle.symres_decisions.specs.Change.{CanCome, Table, put_in, symbols_at, symbols_or}
-use Rattle.symres_decisions.specs.Counted.{declared_in, is_used}
-use Rattle.symres_decisions.specs.Decisions.{AreUsed, AreUsedBelow}
-use Rattle.symres_decisions.specs.Room.{HaveEntries}
-use Rattle.symres_decisions.specs.Texts.{declares}
-use Rattle.symres_decisions.specs.declared.change.ObjectAt.{ObjectAt}
 use Rattle.symres_decisions.proofs.Clearing.{declared_local, declares_seen}
 use Rattle.symres_decisions.proofs.KnownNames.{declared_used, in_tables}
 use Rattle.symres_decisions.proofs.Listed.{Listed, StandsIn, stands_in}

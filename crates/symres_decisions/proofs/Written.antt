@@ -1,14 +1,11 @@
 -- Names one after the other in memory.
-use Rattle.std.proofs.Common.{◌≡◌, ◌∙◌, ◌-◌, ◌≤◌, ℕ, List, [], ◌∷◌, ◌++◌, length, map, take, drop, ap, refl, sym}
-use Rattle.std.proofs.Common.{arith, Bool, true, false, cond, filter}
-use Rattle.std.specs.List.{All, insert, slice_range}
-use Rattle.std.proofs.Math.Seq.{drop-append_seam}
-use Rattle.std.proofs.lemmas.List.{drop-append-le, drop-map, length-append, length-drop, map-append, take-append-le}
-use Rattle.std.proofs.lemmas.List.{take-map, take_all}
-use Rattle.std.proofs.lemmas.List.Elements.{All-append, All-cons, All-head, All-nil, All-tail, All-weaker}
+use Rattle.symres_decisions.proofs.Common.{All, All-append, All-cons, All-head, All-nil, All-tail, All-weaker, Bool}
+use Rattle.symres_decisions.proofs.Common.{IsInside, List, WrittenName, [], ap, arith, cond, drop, drop-append-le}
+use Rattle.symres_decisions.proofs.Common.{drop-append_seam, drop-map, false, filter, insert, length, length-append}
+use Rattle.symres_decisions.proofs.Common.{length-drop, map, map-append, refl, slice_range, sym, take, take-append-le}
+use Rattle.symres_decisions.proofs.Common.{take-map, take_all, true, written, ℕ, ◌++◌, ◌-◌, ◌∙◌, ◌∷◌, ◌≡◌, ◌≤◌}
 use Rattle.std.proofs.lemmas.List.Sorted.{All-permutation, IsPermutation-insert}
-use Rattle.symres_decisions.specs.NameText.{IsInside, IsWritten, written}
-use Rattle.symres_decisions.specs.declared.name_text.WrittenName.{WrittenName}
+use Rattle.symres_decisions.specs.NameText.{IsWritten}
 
 -- a part of a list, where more comes after the list
 range_more : (bytes more : List ℕ) (start end : ℕ) → start ≤ end → end ≤ length bytes

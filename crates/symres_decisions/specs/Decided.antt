@@ -1,7 +1,7 @@
 -- What names stand for, over a table of names.
 use Rattle.std.specs.Prelude.{ℕ, ◌≡◌, Bool, true, false, List, Option, Some, None, slice_index_or}
 use Rattle.ldscript.specs.statements.declared.statement.Statement.{Statement}
-use Rattle.ldmodel.specs.HandedOver.{decision_under_keys}
+use Rattle.ldmodel.specs.CodeValues.{decision_under_keys}
 use Rattle.ldmodel.specs.Names.{Decision, decided}
 use Rattle.ldmodel.specs.ScriptNames.{is_assigned, is_provided}
 use Rattle.ldmodel.specs.declared.names.Case.{Case}

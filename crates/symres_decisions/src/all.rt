@@ -8,7 +8,7 @@ ghost use Rattle.symres_table.specs.State.{HasName};
 use crate::cases::Cases;
 use crate::single::case_for;
 use elfobj::Meter;
-use elfobj::memory::NoMemory;
+use growth::NoMemory;
 use ldscript::Script;
 use std::alloc::Global;
 use symres_table::names::Names;

@@ -3,7 +3,7 @@
 ghost use Rattle.std.specs.Prelude.{◌≡◌, ◌<◌, ◌≤◌, ℕ, [], length, OnOk, slice_set, count_by, if◌then◌else◌};
 ghost use Rattle.symres_decisions.specs.Decided.{case_at, is_doubled};
 
-use elfobj::memory::NoMemory;
+use growth::{NoMemory, vec};
 use ldmodel::names::{Case, NameKey, ObjectKey};
 use std::alloc::Global;
 use std::marker::Model;
@@ -93,7 +93,7 @@ impl Cases {
     pub fn reserve(&mut self, count: usize) -> Result<(), NoMemory>
         ensures { self.new ≡ self.old }
     {
-        self.list.reserve_exact(count)
+        vec::reserve_exact(&mut self.list, count)
     }
 
     /// Makes places for cases up to a key.
@@ -103,7 +103,7 @@ impl Cases {
         ensures ok { OnOk result (key.0 < length self.new) }
     {
         while self.list.len() <= key.0 {
-            self.list.push(None)?;
+            vec::push(&mut self.list, None)?;
         }
         Ok(())
     }

@@ -4,7 +4,7 @@ ghost use Rattle.std.specs.Prelude.{◌≡◌, ◌<◌, ℕ, List, [], Contains,
 ghost use Rattle.std.specs.Prelude.{length, count_by};
 ghost use Rattle.std.specs.Prelude.{slice_get, true};
 ghost use Rattle.std.specs.Option.{option_map};
-ghost use Rattle.ldmodel.specs.HandedOver.{decision_under_keys};
+ghost use Rattle.ldmodel.specs.CodeValues.{decision_under_keys};
 ghost use Rattle.ldscript.specs.statements.declared.statement.Statement.{Statement};
 ghost use Rattle.symres_decisions.specs.Counted.{CountsNames, declared_names};
 ghost use Rattle.symres_decisions.specs.Decided.{case_at, decision_in, HasCase, is_doubled};
@@ -24,8 +24,8 @@ use crate::name_text::NameText;
 use crate::single::given_case;
 use crate::sorted_names::{ComparedName, sorted_names};
 use elfobj::Meter;
-use elfobj::memory::NoMemory;
 use elfobj::relocation::SymbolIndex;
+use growth::NoMemory;
 use indexmap::map::Iter;
 use ldmodel::names::{Case, NameKey, ObjectKey, ObjectPlace};
 use ldscript::Script;

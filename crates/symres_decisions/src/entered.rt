@@ -5,8 +5,8 @@ ghost use Rattle.symres_decisions.specs.Keyed.{AreApart, tables_of};
 
 use crate::keyed_object::KeyedObject;
 use elfobj::Object;
-use elfobj::memory::NoMemory;
 use elfobj::symbol::SymbolPlace;
+use growth::NoMemory;
 use std::alloc::Global;
 use std::hash::RandomState;
 use symres_table::names::Names;

@@ -1,5 +1,5 @@
-//! A text of the known names, kept while names become known and are forgotten. If it is not worth keeping it is dropped,
-//! and the names are sorted when the next link lists them.
+//! A text of the known names, kept while names become known and are forgotten. If it is not worth keeping it is
+//! dropped, and the names are sorted when the next link lists them.
 
 ghost use Rattle.std.specs.Prelude.{◌<◌, ◌≤◌, ◌+◌, IfSome, length, take};
 ghost use Rattle.symres_decisions.specs.Decisions.{IsTextOf};

@@ -12,8 +12,8 @@ use std::alloc::Global;
 use std::marker::Model;
 use symres_table::names::Names;
 
-/// Where a name begins and ends in the bytes of all names, and the number of its key: in 12 bytes, since each pass reads
-/// all of them, and a name that is put among the others moves those after it.
+/// Where a name begins and ends in the bytes of all names, and the number of its key: in 12 bytes, since each pass
+/// reads all of them, and a name that is put among the others moves those after it.
 #[derive(Clone, Copy)]
 struct WrittenName {
     start: u32,

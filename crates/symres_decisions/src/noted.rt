@@ -8,7 +8,7 @@ ghost use Rattle.symres_decisions.specs.Texts.{AreFound, AreNoted, IsNotedFor};
 use crate::change::{ObjectAt, ObjectChange};
 use crate::texts::{KeySource, key_of};
 use elfobj::Object;
-use elfobj::memory::NoMemory;
+use growth::{NoMemory, vec};
 use ldmodel::names::{NameKey, ObjectPlace};
 use symres_table::names::Names;
 
@@ -22,7 +22,10 @@ fn symbol_count(at: Option<ObjectAt<'_>>) -> usize {
 /// Makes room for the keys of what goes; and for those of what comes, which goes if the change is undone.
 pub fn reserve_keys(keys: &mut Vec<NameKey>, change: &ObjectChange<'_>) -> Result<(), NoMemory> {
     keys.clear();
-    keys.reserve(symbol_count(change.out).max(symbol_count(change.into)))?;
+    vec::reserve(
+        keys,
+        symbol_count(change.out).max(symbol_count(change.into)),
+    )?;
     Ok(())
 }
 

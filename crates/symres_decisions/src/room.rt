@@ -20,7 +20,7 @@ use crate::noted::reserve_keys;
 use crate::single::given_case;
 use crate::used_names::{all_or_none, are_all_used};
 use elfobj::Object;
-use elfobj::memory::NoMemory;
+use growth::NoMemory;
 use ldmodel::names::NameKey;
 use ldscript::Script;
 use symres_table::names::Names;
@@ -156,11 +156,11 @@ fn make_room(
             *text = with_new_names(names, from, text.take());
             Ok(())
         }
-        Err(refused) => {
+        Err(no_memory) => {
             *text = None;
             drop_unused(names, cases);
             *used = 0;
-            Err(refused)
+            Err(no_memory)
         }
     }
 }

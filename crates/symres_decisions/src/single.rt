@@ -3,7 +3,7 @@
 ghost use Rattle.std.specs.Prelude.{◌≡◌, ℕ, List, []};
 ghost use Rattle.elfobj.specs.Raised.{raised};
 ghost use Rattle.elfobj.specs.declared.meter.Count.TheVariants as counts;
-ghost use Rattle.ldmodel.specs.HandedOver.{decision_under_keys};
+ghost use Rattle.ldmodel.specs.CodeValues.{decision_under_keys};
 ghost use Rattle.ldmodel.specs.Names.{decided};
 ghost use Rattle.ldmodel.specs.ScriptNames.{is_assigned, is_provided};
 ghost use Rattle.symres_decisions.specs.Decided.{IsCase};

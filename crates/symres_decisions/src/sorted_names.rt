@@ -3,7 +3,7 @@
 ghost use Rattle.std.specs.Prelude.{◌≡◌, IfOk, map};
 ghost use Rattle.symres_decisions.specs.NameText.{AreInOrder, compared_number};
 
-use elfobj::memory::NoMemory;
+use growth::{NoMemory, vec};
 use ldmodel::names::NameKey;
 use std::alloc::Global;
 use symres_table::names::Names;
@@ -22,12 +22,15 @@ pub struct ComparedName<'a> {
 fn listed_names(alloc: Global, names: &Names) -> Result<Vec<ComparedName<'_>>, NoMemory>
     ensures { IfOk result (λ list. map compared_number list.items ≡ names.now.order) }
 {
-    let mut list = Vec::with_capacity(alloc, names.known())?;
+    let mut list = vec::with_capacity(alloc, names.known())?;
     for (name, key) in names.listed() {
-        list.push(ComparedName {
-            name: KeyedName::new(name.as_slice()),
-            key: NameKey(*key),
-        })?;
+        vec::push(
+            &mut list,
+            ComparedName {
+                name: KeyedName::new(name.as_slice()),
+                key: NameKey(*key),
+            },
+        )?;
     }
     Ok(list)
 }
@@ -41,6 +44,6 @@ pub fn sorted_names(alloc: Global, names: &Names) -> Result<Vec<ComparedName<'_>
     ensures { IfOk result (λ list. AreInOrder names.now.order (map compared_number list.items)) }
 {
     let mut list = listed_names(alloc, names)?;
-    list.sort_by(|x, y| x.name.cmp(&y.name))?;
+    vec::sort_by(&mut list, |x, y| x.name.cmp(&y.name))?;
     Ok(list)
 }

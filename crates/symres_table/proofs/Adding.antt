@@ -1,18 +1,12 @@
 -- The entries of a name are those of the objects in front, then those of the objects behind: where a declaration goes.
-use Rattle.std.proofs.Common.{◌≡◌, ◌<◌, ◌+◌, ◌-◌, ℕ, Bool, true, false, eqb, ◌||◌, length, get_or, take, drop, Vec}
-use Rattle.std.proofs.Common.{Global, List, [], ◌∷◌, ◌++◌, map, refl, ap, sym, ◌∙◌, ⊎_elim, arith, append_assoc}
-use Rattle.std.proofs.Common.{append-nil, length-append}
-use Rattle.std.specs.List.{All}
-use Rattle.std.specs.Vec.{vec_len, vec_capacity}
-use Rattle.std.proofs.lemmas.Bool.{cases_lt, false≢true}
-use Rattle.std.proofs.lemmas.List.{take-append-drop, get_or_append_left, get_or-append_right, take_more}
-use Rattle.std.proofs.lemmas.List.Elements.{filter-append, All-map, All-append, All-nil, All-head, All-tail}
-use Rattle.symres_table.specs.declared.symbol.Declared.{Declared}
-use Rattle.symres_table.specs.declared.symbol.Numbered.{Numbered}
-use Rattle.ldmodel.specs.Names.{is_local}
-use Rattle.symres_table.specs.declared.places.PlacedKey.{PlacedKey}
-use Rattle.symres_table.specs.Numbers.{Entered, declared, own, entries, before, is_named, IsPlace, IsSplit, named}
-use Rattle.symres_table.specs.Numbers.{HasRoom, Grows}
+use Rattle.symres_table.proofs.Common.{All, All-append, All-head, All-map, All-nil, All-tail, Bool, Declared, Entered}
+use Rattle.symres_table.proofs.Common.{Grows, HasRoom, IsPlace, IsSplit, List, Numbered, PlacedKey, Vec, [], ap}
+use Rattle.symres_table.proofs.Common.{append-nil, append_assoc, arith, before, cases_lt, declared, drop, entries, eqb}
+use Rattle.symres_table.proofs.Common.{false, false≢true, filter-append, get_or, get_or-append_right}
+use Rattle.symres_table.proofs.Common.{get_or_append_left, is_local, is_named, length, length-append, map, named, own}
+use Rattle.symres_table.proofs.Common.{refl, sym, take, take-append-drop, take_more, true, vec_capacity, vec_len, ℕ}
+use Rattle.symres_table.proofs.Common.{⊎_elim, ◌++◌, ◌+◌, ◌-◌, ◌<◌, ◌||◌, ◌∙◌, ◌∷◌, ◌≡◌}
+use Rattle.std.proofs.Common.{Global}
 use Rattle.symres_table.proofs.Naming.{named_yes, named_push}
 
 pub entries-append : (k : ℕ) (xs ys : List Entered) → entries k (xs ++ ys) ≡ entries k xs ++ entries k ys

@@ -1,17 +1,10 @@
 -- Objects by their places.
-use Rattle.std.proofs.Common.{◌≡◌, ◌<◌, ◌∙◌, ℕ, List, length, get_or, map, Option, Some, None, slice_get, refl, ap, sym}
-use Rattle.std.proofs.Common.{subst, arith, false, []}
-use Rattle.std.specs.Option.{option_map}
-use Rattle.std.proofs.lemmas.Option.{slice_get-map}
-use Rattle.std.proofs.lemmas.List.{get_or-map, length-map}
-use Rattle.elfobj.specs.Symbols.{NamedSymbol}
-use Rattle.ldmodel.specs.Names.{is_local}
-use Rattle.ldmodel.specs.declared.names.ObjectKey.{ObjectKey}
-use Rattle.symres_table.specs.declared.symbol.Numbered.{Numbered}
-use Rattle.symres_table.specs.Numbers.{Entered}
-use Rattle.symres_table.specs.Spelled.{spell, spell_symbol}
+use Rattle.symres_table.proofs.Common.{Entered, IsNamed, List, NamedSymbol, None, Numbered, ObjectKey, Option, Some, []}
+use Rattle.symres_table.proofs.Common.{ap, arith, false, get_or, is_local, length, length-map, map, option_map, refl}
+use Rattle.symres_table.proofs.Common.{slice_get, slice_get-map, spell, spell_symbol, subst, sym, ℕ, ◌<◌, ◌∙◌, ◌≡◌}
+use Rattle.std.proofs.lemmas.List.{get_or-map}
 use Rattle.symres_table.specs.Objects.{key_of}
-use Rattle.symres_table.specs.State.{IsNameAt, IsNamed, IsSeenAt, object_key}
+use Rattle.symres_table.specs.State.{IsNameAt, IsSeenAt, object_key}
 use Rattle.symres_table.proofs.Joined.{named_so}
 use Rattle.symres_table.proofs.Naming.{nothing}
 use Rattle.symres_table.proofs.Spelling.{AllSpellable}

@@ -1,21 +1,14 @@
 -- Without its object a name has the entries of the others, in their order: rows that are marked and then cleared.
-use Rattle.std.proofs.Common.{◌≡◌, ◌≢◌, ◌<◌, ◌-◌, ℕ, Bool, true, false, cond, eqb, not, ◌||◌, length, get_or, set, Vec}
-use Rattle.std.proofs.Common.{Global, List, [], ◌∷◌, ◌++◌, map, refl, ap, sym, ◌∙◌, subst, ⊎_elim, inl, inr, arith}
-use Rattle.std.proofs.Common.{Some, get_or-set_same, get_or-set_other, append-nil, length-append}
-use Rattle.std.specs.Vec.{vec_capacity}
-use Rattle.std.proofs.Math.ListN.{length-set}
-use Rattle.std.proofs.lemmas.Bool.{cases_eq, eq-eqb, false≢true}
-use Rattle.std.proofs.lemmas.List.{get_or_default, get_or-append_right}
-use Rattle.std.proofs.lemmas.List.Elements.{filter-append, All-head, All-tail}
-use Rattle.std.proofs.lemmas.Option.{slice_get-get_or}
-use Rattle.symres_table.specs.declared.symbol.Declared.{Declared}
-use Rattle.symres_table.specs.declared.symbol.Numbered.{Numbered}
-use Rattle.ldmodel.specs.Names.{is_local}
-use Rattle.symres_table.specs.Numbers.{Entered, declared, own, entries, IsTable, KeepsRoom, is_named, named, others}
+use Rattle.symres_table.proofs.Common.{All-head, All-tail, AllMarkedLast, Bool, ClearedWhere, Declared, Entered}
+use Rattle.symres_table.proofs.Common.{HasSymbols, IsTable, KeepsRoom, List, Numbered, Some, Vec, [], ap, append-nil}
+use Rattle.symres_table.proofs.Common.{arith, cases_eq, cond, declared, ends_in, entries, eq-eqb, eqb, false}
+use Rattle.symres_table.proofs.Common.{false≢true, filter-append, get_or, get_or-append_right, get_or-set_other}
+use Rattle.symres_table.proofs.Common.{get_or_default, inl, inr, is_local, is_named, length, length-append, length-set}
+use Rattle.symres_table.proofs.Common.{map, named, not, others, own, refl, set, slice_get-get_or, subst, sym, true}
+use Rattle.symres_table.proofs.Common.{vec_capacity, ℕ, ⊎_elim, ◌++◌, ◌-◌, ◌<◌, ◌||◌, ◌∙◌, ◌∷◌, ◌≡◌, ◌≢◌}
+use Rattle.std.proofs.Common.{Global, get_or-set_same}
 use Rattle.symres_table.specs.Numbers.{without}
-use Rattle.symres_table.specs.Numbers.{HasSymbols}
-use Rattle.symres_table.specs.Steps.{AllMarkedLast, cleared, has_name, Cleared, ClearedWhere, ends_in, MarksLast, is_of}
-use Rattle.symres_table.specs.Steps.{IsMarkedLast}
+use Rattle.symres_table.specs.Steps.{cleared, has_name, Cleared, MarksLast, is_of, IsMarkedLast}
 use Rattle.symres_table.proofs.Naming.{named_yes, named_no, named_local}
 
 abbrev pub Row : Type 0

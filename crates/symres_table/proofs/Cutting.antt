@@ -1,10 +1,8 @@
 -- Names that are taken back: those after the first ones are dropped.
-use Rattle.std.proofs.Common.{◌≡◌, ◌<◌, ◌+◌, ℕ, zero, suc, Bool, true, false, cond, length, get_or, take, Vec}
-use Rattle.std.proofs.Common.{Global, List, [], ◌∷◌, ◌++◌, map, refl, ap, ◌∙◌, subst, arith, Option, Some, None}
-use Rattle.std.specs.Map.{lookup}
-use Rattle.std.specs.Borrow.{MutBor}
-use Rattle.slab.specs.Slab.{RetainsFrom, CalledAt}
-use Rattle.symres_table.specs.Known.{entry_spelled, kept_if}
+use Rattle.symres_table.proofs.Common.{Bool, CalledAt, List, MutBor, None, Option, RetainsFrom, Some, Vec, [], ap}
+use Rattle.symres_table.proofs.Common.{arith, cond, entry_spelled, false, get_or, kept_if, length, lookup, map, refl}
+use Rattle.symres_table.proofs.Common.{subst, suc, take, true, zero, ℕ, ◌++◌, ◌+◌, ◌<◌, ◌∙◌, ◌∷◌, ◌≡◌}
+use Rattle.std.proofs.Common.{Global}
 
 abbrev Name : Type 0
 Name = Vec ℕ Global

@@ -1,10 +1,7 @@
 -- The place of a key in a sorted list of places.
-use Rattle.std.proofs.Common.{◌≡◌, ◌≢◌, ◌<◌, ◌≤◌, ◌+◌, ℕ, zero, suc, cond, length, get_or, List, [], ◌∷◌, refl, ap, sym}
-use Rattle.std.proofs.Common.{◌∙◌, subst, ⊎_elim, arith, Some, None}
-use Rattle.std.proofs.lemmas.Bool.{cases_lt, cases_eq, eq-eqb, ne_eqb}
-use Rattle.std.proofs.lemmas.List.{get_or_default}
-use Rattle.symres_table.specs.declared.places.PlacedKey.{PlacedKey}
-use Rattle.symres_table.specs.Places.{place_of, AreSorted, IsBelow}
+use Rattle.symres_table.proofs.Common.{AreSorted, IsBelow, List, None, PlacedKey, Some, [], ap, arith, cases_eq}
+use Rattle.symres_table.proofs.Common.{cases_lt, cond, eq-eqb, get_or, get_or_default, length, ne_eqb, place_of, refl}
+use Rattle.symres_table.proofs.Common.{subst, suc, sym, zero, ℕ, ⊎_elim, ◌+◌, ◌<◌, ◌∙◌, ◌∷◌, ◌≡◌, ◌≢◌, ◌≤◌}
 
 -- a key that none has
 pub place_none : (ps : List PlacedKey) (key : ℕ) → ((k : ℕ) (d : PlacedKey) → k < length ps

@@ -1,21 +1,12 @@
 -- The two tables of names agree after names without entries are dropped, and the others keep their numbers.
-use Rattle.std.proofs.Common.{◌≡◌, ◌<◌, ◌+◌, ℕ, zero, suc, Bool, true, false, cond, nat_lt, length, get_or, Vec, Global}
-use Rattle.std.proofs.Common.{List, [], ◌∷◌, map, filter, refl, ap, sym, ◌∙◌, subst, arith, Option, Some, None}
-use Rattle.std.proofs.Common.{length-append}
-use Rattle.std.specs.Prelude.{is_some, bytes_eq}
-use Rattle.std.specs.List.{All}
-use Rattle.std.specs.Map.{lookup}
-use Rattle.std.specs.Borrow.{MutBor}
-use Rattle.std.proofs.lemmas.Bool.{true≢false, lt-ltb}
-use Rattle.std.proofs.lemmas.List.{length-map}
-use Rattle.std.proofs.lemmas.List.Elements.{All-cons, All-nil, All-head, All-tail}
-use Rattle.symres_table.specs.declared.symbol.Declared.{Declared}
-use Rattle.slab.specs.Slab.{RetainsFrom, CalledAt}
-use Rattle.symres_table.specs.declared.symbol.Numbered.{Numbered}
-use Rattle.symres_table.specs.Known.{spelled, entry_spelled, IsSpelled, IsPaired, IsKeptWhere}
-use Rattle.symres_table.specs.State.{IsNamed, KeepsNames}
-use Rattle.symres_table.specs.Numbers.{Entered, declared, own, is_named, named, entries, is_used}
-use Rattle.symres_table.specs.Spelled.{IsSpellable}
+use Rattle.symres_table.proofs.Common.{All, All-cons, All-head, All-nil, All-tail, Bool, CalledAt, Declared, Entered}
+use Rattle.symres_table.proofs.Common.{IsKeptWhere, IsNamed, IsPaired, IsSpellable, IsSpelled, KeepsNames, List, MutBor}
+use Rattle.symres_table.proofs.Common.{None, Numbered, Option, RetainsFrom, Some, Vec, [], ap, arith, bytes_eq, cond}
+use Rattle.symres_table.proofs.Common.{declared, entries, entry_spelled, false, filter, get_or, is_named, is_some}
+use Rattle.symres_table.proofs.Common.{is_used, length, length-append, length-map, lookup, lt-ltb, map, named, nat_lt}
+use Rattle.symres_table.proofs.Common.{own, refl, spelled, subst, suc, sym, true, true≢false, zero, ℕ, ◌+◌, ◌<◌, ◌∙◌}
+use Rattle.symres_table.proofs.Common.{◌∷◌, ◌≡◌}
+use Rattle.std.proofs.Common.{Global}
 use Rattle.symres_table.proofs.Pairs.{slot_spelled}
 use Rattle.symres_table.proofs.Naming.{named_yes}
 

@@ -1,16 +1,9 @@
 -- Names that became known have no entries.
-use Rattle.std.proofs.Common.{◌≡◌, ◌≢◌, ◌<◌, ◌+◌, ◌∙◌, ℕ, List, [], Some, length, get_or, drop, map, ap, sym}
-use Rattle.std.proofs.Common.{arith, true, false}
-use Rattle.std.specs.Prelude.{bytes_eq}
-use Rattle.std.specs.List.{All}
-use Rattle.std.proofs.lemmas.Slice.Eq.{bytes_eq-Decides}
-use Rattle.std.proofs.lemmas.List.{get_or-drop, get_or_append_left, get_or_default, length-drop}
-use Rattle.std.proofs.lemmas.Map.Keys.{apart_from_distinct}
+use Rattle.symres_table.proofs.Common.{AddsNames, All, Entered, IsListing, KnownNames, List, Some, [], ap}
+use Rattle.symres_table.proofs.Common.{apart_from_distinct, arith, bytes_eq, bytes_eq-Decides, drop, entries_of, false}
+use Rattle.symres_table.proofs.Common.{get_or, get_or-drop, get_or_append_left, get_or_default, length, length-drop}
+use Rattle.symres_table.proofs.Common.{map, slot, spell, sym, true, ℕ, ◌+◌, ◌<◌, ◌∙◌, ◌≡◌, ◌≢◌}
 use Rattle.std.proofs.lemmas.Map.Views.{Contains-from_lookup}
-use Rattle.symres_table.specs.Known.{KnownNames, AddsNames}
-use Rattle.symres_table.specs.Numbers.{Entered}
-use Rattle.symres_table.specs.Spelled.{spell}
-use Rattle.symres_table.specs.State.{IsListing, slot, entries_of}
 use Rattle.symres_table.proofs.Spelling.{AllSpellable, entries_unknown}
 
 abbrev Listed : Type 0

@@ -1,17 +1,12 @@
 -- A pass over the entries of a name, one entry more.
-use Rattle.std.proofs.Common.{◌≡◌, ℕ, List, [], ◌∷◌, ◌++◌, append-nil, arith, refl, ap, sym, ◌∙◌, Bool, true, false}
-use Rattle.std.proofs.Common.{cond, ◌||◌, ◌&&◌, length, nat_lt, filter, Option, Some, None, length-append}
-use Rattle.std.specs.Prelude.{max, is_none, is_some}
-use Rattle.std.specs.List.{list_any}
-use Rattle.std.proofs.lemmas.Bool.{false≢true, lt-ltb}
-use Rattle.std.proofs.lemmas.List.Elements.{filter-append}
-use Rattle.elfobj.specs.declared.symbol.SymbolPlace.TheVariants.{Common}
+use Rattle.symres_table.proofs.Common.{Bool, Common, List, None, ObjectKey, Option, Some, [], ap, append-nil, arith}
+use Rattle.symres_table.proofs.Common.{cond, false, false≢true, filter, filter-append, first, is_none, is_some, length}
+use Rattle.symres_table.proofs.Common.{length-append, list_any, lt-ltb, max, nat_lt, refl, sym, tally_of, true, ℕ, ◌&&◌}
+use Rattle.symres_table.proofs.Common.{◌++◌, ◌||◌, ◌∙◌, ◌∷◌, ◌≡◌}
 use Rattle.ldmodel.specs.Names.{Declaration, is_strong, is_common, is_weak, is_undefined, greatest, common_size}
 use Rattle.ldmodel.specs.Names.{common_alignment, is_global, is_weak_binding, is_placed, is_common_place}
 use Rattle.ldmodel.specs.Names.{is_undefined_place}
 use Rattle.ldmodel.specs.declared.names.Entry.{Entry}
-use Rattle.ldmodel.specs.declared.names.ObjectKey.{ObjectKey}
-use Rattle.symres_table.specs.Tally.{first, tally_of}
 use Rattle.symres_table.specs.declared.tally.Tally.{Tally}
 
 pub greatest_push : (of : Declaration → ℕ) (ds : List Declaration) (d : Declaration) → greatest of (ds ++ d ∷ [])

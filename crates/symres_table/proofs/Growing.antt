@@ -1,18 +1,11 @@
 -- New rows are empty: the rows are still those of the objects, and there is no less room.
-use Rattle.std.proofs.Common.{◌≡◌, ◌<◌, ◌≤◌, ◌+◌, ℕ, zero, suc, false, cond, length, get_or}
-use Rattle.std.proofs.Common.{Vec, Global, List, [], ◌∷◌, ◌++◌, map, refl, ap, sym, ◌∙◌, subst, ⊎_elim}
-use Rattle.std.proofs.Common.{arith, Result, Ok, Err, OnOk}
-use Rattle.std.specs.List.{All, remove}
-use Rattle.std.specs.Vec.{vec_len, vec_capacity}
-use Rattle.std.proofs.Common.{length-append}
-use Rattle.std.proofs.lemmas.Bool.{cases_lt}
-use Rattle.std.proofs.lemmas.List.{get_or_append_left, get_or-map, length-map}
-use Rattle.std.proofs.lemmas.List.Elements.{All-head, All-tail}
-use Rattle.symres_table.specs.declared.symbol.Declared.{Declared}
-use Rattle.symres_table.specs.declared.symbol.Numbered.{Numbered}
-use Rattle.symres_table.specs.Numbers.{Entered, declared, own, is_named, named, entries, HasRoom, HasRow, RowsGrow}
-use Rattle.symres_table.specs.declared.places.PlacedKey.{PlacedKey}
-use Rattle.symres_table.specs.Objects.{IsObjectTable, CanEnter}
+use Rattle.symres_table.proofs.Common.{All, All-head, All-tail, CanEnter, Declared, Entered, HasRoom, HasRow}
+use Rattle.symres_table.proofs.Common.{IsObjectTable, List, Numbered, PlacedKey, RowsGrow, Vec, [], ap, arith, cases_lt}
+use Rattle.symres_table.proofs.Common.{cond, declared, entries, false, get_or, get_or_append_left, is_named, length}
+use Rattle.symres_table.proofs.Common.{length-append, length-map, map, named, own, refl, remove, subst, suc, sym}
+use Rattle.symres_table.proofs.Common.{vec_capacity, vec_len, zero, ℕ, ⊎_elim, ◌++◌, ◌+◌, ◌<◌, ◌∙◌, ◌∷◌, ◌≡◌, ◌≤◌}
+use Rattle.std.proofs.Common.{Global, Result, Ok, Err, OnOk}
+use Rattle.std.proofs.lemmas.List.{get_or-map}
 use Rattle.symres_table.proofs.Naming.{named_past}
 
 -- a name that no symbol has

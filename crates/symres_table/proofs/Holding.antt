@@ -1,16 +1,10 @@
 -- Rows that hold room for symbols by an entry for each.
-use Rattle.std.proofs.Common.{◌≡◌, ◌≢◌, ◌<◌, ◌≤◌, ◌+◌, ◌-◌, ℕ, false, cond, length, get_or, set, take}
-use Rattle.std.proofs.Common.{List, [], ◌∷◌, ◌++◌, refl, ap, sym, ◌∙◌, subst, ⊎_elim, arith}
-use Rattle.std.proofs.Common.{get_or-set_other, length-append}
-use Rattle.std.specs.Vec.{vec_len, vec_capacity}
-use Rattle.std.proofs.Math.ListN.{length-set}
-use Rattle.std.proofs.lemmas.Bool.{cases_eq}
-use Rattle.std.proofs.lemmas.List.{take_all, take-take, take-append-le, length-take-le}
-use Rattle.ldmodel.specs.Names.{is_local}
-use Rattle.symres_table.specs.declared.symbol.Declared.{Declared}
-use Rattle.symres_table.specs.declared.symbol.Numbered.{Numbered}
-use Rattle.symres_table.specs.Numbers.{HasRoom, KeepsRoom, named, RowsGrow}
-use Rattle.symres_table.specs.Steps.{Holds, HoldsMore}
+use Rattle.symres_table.proofs.Common.{Declared, HasRoom, Holds, KeepsRoom, List, Numbered, RowsGrow, [], ap, arith}
+use Rattle.symres_table.proofs.Common.{cases_eq, cond, false, get_or, get_or-set_other, is_local, length, length-append}
+use Rattle.symres_table.proofs.Common.{length-set, length-take-le, named, refl, set, subst, sym, take, take-append-le}
+use Rattle.symres_table.proofs.Common.{take-take, take_all, vec_capacity, vec_len, ℕ, ⊎_elim, ◌++◌, ◌+◌, ◌-◌, ◌<◌, ◌∙◌}
+use Rattle.symres_table.proofs.Common.{◌∷◌, ◌≡◌, ◌≢◌, ◌≤◌}
+use Rattle.symres_table.specs.Steps.{HoldsMore}
 use Rattle.symres_table.proofs.Cleared.{Row, set_here, was_here}
 use Rattle.symres_table.proofs.Naming.{named_yes, named_no, named_push}
 

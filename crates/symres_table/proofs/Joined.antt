@@ -1,27 +1,19 @@
 -- What holds of names, objects and lists together.
-use Rattle.std.proofs.Common.{◌≡◌, ◌<◌, ◌≤◌, ◌+◌, ℕ, Bool, true, false, cond, eqb, not, ◌&&◌, length, get_or, take}
-use Rattle.std.proofs.Common.{List, [], ◌∷◌, ◌++◌, map, filter, refl, ap, sym, ◌∙◌, subst, arith, Option, Some, None}
-use Rattle.std.proofs.Common.{slice_get, drop, inl, inr, nat_lt, suc, length-append}
-use Rattle.std.specs.Prelude.{bytes_eq}
-use Rattle.std.proofs.lemmas.Bool.{eq-eqb}
-use Rattle.std.specs.List.{All, insert}
-use Rattle.std.specs.Option.{option_map}
-use Rattle.std.proofs.lemmas.Option.{slice_get-map, slice_get_cases}
-use Rattle.std.proofs.lemmas.List.{get_or-map, length-map, get_or_append_left}
-use Rattle.std.proofs.lemmas.List.Elements.{filter-append, All-append, All-cons, All-nil, All-head, All-tail, All-take}
-use Rattle.std.proofs.lemmas.List.Elements.{All-drop, All-map}
-use Rattle.elfobj.specs.Symbols.{NamedSymbol}
-use Rattle.ldmodel.specs.Names.{declarations_in, declarations_of, is_local, is_of_name}
-use Rattle.symres_table.specs.declared.symbol.Numbered.{Numbered}
-use Rattle.symres_table.specs.Known.{KnownNames, IsConsistent, IsKeptWhere}
-use Rattle.symres_table.specs.Numbers.{Entered, HasRow, is_named, named, entries, is_used}
+use Rattle.symres_table.proofs.Common.{All, All-append, All-cons, All-drop, All-head, All-map, All-nil, All-tail}
+use Rattle.symres_table.proofs.Common.{All-take, AreDistinct, Bool, CanEnter, Entered, HasKey, HasList, HasName, HasRow}
+use Rattle.symres_table.proofs.Common.{IsConsistent, IsKeptWhere, IsNamed, IsReady, IsSpellable, KnownNames, List}
+use Rattle.symres_table.proofs.Common.{NamedSymbol, None, Numbered, ObjectsState, Option, Some, Spells, SpellsSeen}
+use Rattle.symres_table.proofs.Common.{State, [], ap, arith, bytes_eq, cond, declaration_of, drop, entries, entries_of}
+use Rattle.symres_table.proofs.Common.{eq-eqb, eqb, false, filter, filter-append, get_or, get_or_append_left, inl, inr}
+use Rattle.symres_table.proofs.Common.{insert, is_local, is_named, is_seen, is_used, length, length-append, length-map}
+use Rattle.symres_table.proofs.Common.{map, named, nat_lt, not, option_map, refl, slice_get, slice_get-map}
+use Rattle.symres_table.proofs.Common.{slice_get_cases, slot, spell, spell_symbol, subst, suc, sym, take, text, true, ℕ}
+use Rattle.symres_table.proofs.Common.{◌&&◌, ◌++◌, ◌+◌, ◌<◌, ◌∙◌, ◌∷◌, ◌≡◌, ◌≤◌}
+use Rattle.std.proofs.lemmas.List.{get_or-map}
+use Rattle.ldmodel.specs.Names.{declarations_in, declarations_of, is_of_name}
 use Rattle.symres_table.specs.Numbers as numbers
-use Rattle.symres_table.specs.Objects.{ObjectsState, CanEnter, HasKey}
-use Rattle.symres_table.specs.Spelled.{text, spell_symbol, spell, HasName, is_seen, IsSpellable, Spells, SpellsSeen}
-use Rattle.symres_table.specs.Spelled.{IsReady}
-use Rattle.symres_table.specs.State.{State, slot, IsNamed, AreDistinct, entries_of, naming, without, HasObject, HasList}
-use Rattle.symres_table.specs.State.{IsFresh, MayEnter, Forgets, IsSeenOr, IsNamedOr, HasSymbol, IsNameOfSymbol}
-use Rattle.symres_table.specs.Tally.{declaration_of}
+use Rattle.symres_table.specs.State.{naming, without, HasObject, IsFresh, MayEnter, Forgets, IsSeenOr, IsNamedOr}
+use Rattle.symres_table.specs.State.{HasSymbol, IsNameOfSymbol}
 use Rattle.symres_table.proofs.Forgetting.{names_were, named_used}
 use Rattle.symres_table.proofs.Growing.{named_none, entries_none}
 use Rattle.symres_table.proofs.Naming.{named_local, named_no, visible_is}

@@ -1,3 +1,4 @@
+pub mod Common
 pub mod Greatest
 pub mod Finding
 pub mod Naming
@@ -10,12 +11,12 @@ pub mod Placing
 pub mod Pairs
 pub mod Forgetting
 pub mod Cutting
-pub mod Filed
-pub mod Parked
+pub mod PlacesByNumber
+pub mod ListSetAside
 pub mod Spelling
 pub mod Repeating
-pub mod Seen
-pub mod Ready
+pub mod VisibleSymbols
+pub mod RowsOnlyGrow
 pub mod Joined
 pub mod Listing
 pub mod ByPlace

@@ -1,9 +1,7 @@
 -- The list of known names.
-use Rattle.std.proofs.Common.{◌≡◌, ℕ, false, Vec, Global, List, [], ◌∷◌, map}
-use Rattle.std.specs.Prelude.{bytes_eq}
-use Rattle.std.specs.List.{IsDistinct, AllByRecursion}
-use Rattle.symres_table.specs.Known.{KnownNames, entry_spelled, IsConsistent}
-use Rattle.symres_table.specs.State.{IsListing}
+use Rattle.symres_table.proofs.Common.{AllByRecursion, IsConsistent, IsDistinct, IsListing, KnownNames, List, Vec, []}
+use Rattle.symres_table.proofs.Common.{bytes_eq, entry_spelled, false, map, ℕ, ◌∷◌, ◌≡◌}
+use Rattle.std.proofs.Common.{Global}
 
 abbrev Name : Type 0
 Name = Vec ℕ Global

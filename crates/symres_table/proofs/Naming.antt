@@ -1,14 +1,9 @@
 -- Whether a symbol has the name of a number.
-use Rattle.std.proofs.Common.{◌≡◌, ◌≢◌, ◌≤◌, ℕ, Bool, true, false, cond, eqb, not, ◌&&◌, List, [], ◌∷◌, ◌++◌, refl, ap}
-use Rattle.std.proofs.Common.{◌∙◌, arith, append-nil}
-use Rattle.std.proofs.lemmas.Bool.{eq-eqb, ne_eqb}
-use Rattle.std.proofs.lemmas.List.Elements.{filter-append}
+use Rattle.symres_table.proofs.Common.{Bool, HasRow, List, Numbered, Undefined, [], ap, append-nil, arith, cond, eq-eqb}
+use Rattle.symres_table.proofs.Common.{eqb, false, filter-append, is_local, is_named, named, ne_eqb, not, refl, true, ℕ}
+use Rattle.symres_table.proofs.Common.{◌&&◌, ◌++◌, ◌∙◌, ◌∷◌, ◌≡◌, ◌≢◌, ◌≤◌}
 use Rattle.elfobj.specs.declared.symbol.Binding.TheVariants.{Local}
 use Rattle.elfobj.specs.declared.symbol.SymbolKind.TheVariants.{NoType}
-use Rattle.elfobj.specs.declared.symbol.SymbolPlace.TheVariants.{Undefined}
-use Rattle.ldmodel.specs.Names.{is_local}
-use Rattle.symres_table.specs.declared.symbol.Numbered.{Numbered}
-use Rattle.symres_table.specs.Numbers.{is_named, named, HasRow}
 
 -- a symbol to stand past the end of a list
 abbrev pub nothing : Numbered

@@ -1,16 +1,13 @@
 -- Two tables that say the same find each name under its number, and no two numbers have one name.
-use Rattle.std.proofs.Common.{◌≡◌, ◌≢◌, ℕ, Bool, true, false, cond, get_or, Vec, Global, List, [], ◌∷◌, ◌++◌, map, refl}
-use Rattle.std.proofs.Common.{ap, sym, ◌∙◌, subst, ⊎_elim, Option, Some, None}
-use Rattle.std.specs.Prelude.{bytes_eq, MatchOption, slice_get}
-use Rattle.std.specs.List.{All}
-use Rattle.std.specs.Map.{lookup}
+use Rattle.symres_table.proofs.Common.{All, All-append, All-cons, All-head, All-nil, All-tail, AreDistinct, Bool}
+use Rattle.symres_table.proofs.Common.{IsConsistent, IsNamed, IsPaired, IsSpelled, KnownNames, List, MatchOption, None}
+use Rattle.symres_table.proofs.Common.{Option, Some, Vec, [], ap, bytes_eq, bytes_eq-Decides, cases_eq, cond}
+use Rattle.symres_table.proofs.Common.{entry_spelled, false, get_or, lookup, map, number_in, refl, slice_get, slot}
+use Rattle.symres_table.proofs.Common.{spelled, subst, sym, true, ℕ, ⊎_elim, ◌++◌, ◌∙◌, ◌∷◌, ◌≡◌, ◌≢◌}
+use Rattle.std.proofs.Common.{Global}
 use Rattle.std.proofs.Math.ListN.{get_or-map}
-use Rattle.std.proofs.lemmas.Bool.{cases_eq}
 use Rattle.std.proofs.lemmas.Option.{get_or_from_slice_get, slice_get_within}
-use Rattle.std.proofs.lemmas.Slice.Eq.{bytes_eq-Decides}
-use Rattle.std.proofs.lemmas.List.Elements.{All-append, All-cons, All-nil, All-head, All-tail}
-use Rattle.symres_table.specs.Known.{KnownNames, spelled, entry_spelled, IsSpelled, number_in, IsPaired, IsConsistent}
-use Rattle.symres_table.specs.State.{slot, IsNamed, AreDistinct, SameNames}
+use Rattle.symres_table.specs.State.{SameNames}
 
 pub slot_spelled : (slots : List (Option (Vec ℕ Global))) (n : ℕ) → slot (map spelled slots) n
     ≡ spelled (get_or slots n None)

@@ -1,23 +1,17 @@
 -- Places of keys, where an object comes or goes.
-use Rattle.std.proofs.Common.{◌≡◌, ◌≢◌, ◌<◌, ◌≤◌, ◌+◌, ◌-◌, ℕ, zero, suc, Bool, true, false, not, cond, eqb, length}
-use Rattle.std.proofs.Common.{get_or, take, drop, Vec, Global, List, [], ◌∷◌, ◌++◌, map, refl, ap, sym, ◌∙◌, subst}
-use Rattle.std.proofs.Common.{⊎_elim, arith, append-nil, Option, Some, None}
-use Rattle.std.specs.List.{All, insert, remove, filter}
-use Rattle.std.specs.Option.{option_map}
-use Rattle.std.specs.Prelude.{IsSome}
-use Rattle.std.proofs.lemmas.List.{take_all}
-use Rattle.std.specs.Vec.{vec_capacity}
-use Rattle.std.proofs.lemmas.Bool.{cases_eq, cases_lt, lt-ltb, le-ltb, eqb-false, eqb-true, eq-eqb, ne_eqb}
-use Rattle.std.proofs.lemmas.List.{get_or-take, get_or-drop, length-drop, length-take-le, get_or_default}
-use Rattle.std.proofs.lemmas.List.{take-append-drop}
-use Rattle.std.proofs.lemmas.List.Edits.{length-remove, get_or-remove_below, get_or-remove_above, length-insert}
-use Rattle.std.proofs.lemmas.List.Edits.{get_or-insert_below, get_or-insert_at, get_or-insert_above}
-use Rattle.std.proofs.lemmas.List.Elements.{All-append, All-cons, All-take, All-drop}
-use Rattle.symres_table.specs.declared.places.PlacedKey.{PlacedKey}
-use Rattle.symres_table.specs.declared.symbol.Declared.{Declared}
-use Rattle.symres_table.specs.Places.{place_of, AreSorted, IsBelow, is_below, up, down, AreMoved}
-use Rattle.symres_table.specs.Numbers.{Entered, HasRow, IsSplit, IsTable, HasSymbols, without}
-use Rattle.symres_table.specs.Objects.{IsNumbered, IsObjectTable, HasKey}
+use Rattle.symres_table.proofs.Common.{All, All-append, All-cons, All-drop, All-take, AreMoved, AreSorted, Bool}
+use Rattle.symres_table.proofs.Common.{Declared, Entered, HasKey, HasRow, HasSymbols, IsBelow, IsNumbered}
+use Rattle.symres_table.proofs.Common.{IsObjectTable, IsSome, IsSplit, IsTable, List, None, Option, PlacedKey, Some}
+use Rattle.symres_table.proofs.Common.{Vec, [], ap, append-nil, arith, cases_eq, cases_lt, cond, down, drop, eq-eqb}
+use Rattle.symres_table.proofs.Common.{eqb, eqb-false, eqb-true, false, filter, get_or, get_or-drop, get_or-take}
+use Rattle.symres_table.proofs.Common.{get_or_default, insert, is_below, le-ltb, length, length-drop, length-insert}
+use Rattle.symres_table.proofs.Common.{length-remove, length-take-le, lt-ltb, map, ne_eqb, not, option_map, place_of}
+use Rattle.symres_table.proofs.Common.{refl, remove, subst, suc, sym, take, take-append-drop, take_all, true, up}
+use Rattle.symres_table.proofs.Common.{vec_capacity, zero, ℕ, ⊎_elim, ◌++◌, ◌+◌, ◌-◌, ◌<◌, ◌∙◌, ◌∷◌, ◌≡◌, ◌≢◌, ◌≤◌}
+use Rattle.std.proofs.Common.{Global}
+use Rattle.std.proofs.lemmas.List.Edits.{get_or-remove_below, get_or-remove_above, get_or-insert_below}
+use Rattle.std.proofs.lemmas.List.Edits.{get_or-insert_at, get_or-insert_above}
+use Rattle.symres_table.specs.Numbers.{without}
 use Rattle.symres_table.proofs.Finding.{place_none, place_at, found_here, found_other, found_past}
 
 -- a place found in the first part, or else in the second

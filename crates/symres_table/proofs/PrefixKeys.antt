@@ -1,14 +1,13 @@
 -- Keys compare as the names do.
-use Rattle.std.proofs.Common.{◌≡◌, ◌≢◌, ◌<◌, ◌+◌, ◌*◌, ◌-◌, ◌^◌, ℕ, zero, suc, List, [], ◌∷◌, ap, sym, refl}
-use Rattle.std.proofs.Common.{◌∙◌, arith, get_or}
+use Rattle.symres_table.proofs.Common.{List, [], ap, arith, get_or, nat_list_cmp_total, refl, slice_cmp, suc, sym, zero}
+use Rattle.symres_table.proofs.Common.{ℕ, ◌+◌, ◌-◌, ◌<◌, ◌^◌, ◌∙◌, ◌∷◌, ◌≡◌, ◌≢◌}
+use Rattle.std.proofs.Common.{◌*◌}
 use Rattle.std.proofs.Math.Nat.{pow-suc, mul-le-mul_left}
 use Rattle.std.proofs.lemmas.Cmp.{by_ranked, ranked}
-use Rattle.std.specs.Cmp.Lexicographic.{nat_list_cmp_total}
 use Rattle.std.specs.Int.{byte_worth, from_be_bytes, sum_through, w128}
 use Rattle.std.specs.Ordering.{nat_cmp, ordering_then, ordering_reverse}
 use Rattle.std.specs.declared.cmp.Ordering.{Ordering}
 use Rattle.std.specs.declared.cmp.Ordering.TheVariants.{Less}
-use Rattle.std.specs.Cmp.Lexicographic.{slice_cmp}
 use Rattle.symres_table.specs.PrefixKeys.{IsPrefixKey, prefix_number}
 
 -- each member of the list is a byte

@@ -1,18 +1,14 @@
 -- An object that comes and goes leaves the room that it found.
-use Rattle.std.proofs.Common.{◌≡◌, ◌∙◌, ◌<◌, ◌≤◌, ◌+◌, ◌-◌, ℕ, suc, Bool, true, false, cond, eqb, not, List, [], ◌∷◌}
-use Rattle.std.proofs.Common.{◌++◌}
-use Rattle.std.proofs.Common.{length, filter, get_or, take, drop, refl, ap, sym, subst, arith, ⊎_elim}
-use Rattle.std.proofs.Common.{length-append, length-drop, Option}
-use Rattle.std.proofs.lemmas.List.{length-take}
-use Rattle.std.specs.List.{All, insert, remove}
-use Rattle.std.proofs.lemmas.Bool.{cases_eq, cases_lt, eq-eqb}
-use Rattle.std.proofs.lemmas.List.{get_or_append_left, get_or_past, get_or_push, take-append-drop}
+use Rattle.symres_table.proofs.Common.{All, All-head, All-tail, Bool, HasList, List, NamedSymbol, Option, State, [], ap}
+use Rattle.symres_table.proofs.Common.{arith, cases_eq, cases_lt, cond, drop, entries_of, eq-eqb, eqb, false, filter}
+use Rattle.symres_table.proofs.Common.{filter-append, filter_passes, get_or, get_or_append_left, get_or_past}
+use Rattle.symres_table.proofs.Common.{get_or_push, insert, length, length-append, length-drop, length-remove}
+use Rattle.symres_table.proofs.Common.{length-take, not, refl, remove, slot, subst, suc, sym, take, take-append-drop}
+use Rattle.symres_table.proofs.Common.{true, ℕ, ⊎_elim, ◌++◌, ◌+◌, ◌-◌, ◌<◌, ◌∙◌, ◌∷◌, ◌≡◌, ◌≤◌}
 use Rattle.std.proofs.lemmas.List.Edits.{get_or-insert_above, get_or-insert_at, get_or-insert_below}
-use Rattle.std.proofs.lemmas.List.Edits.{get_or-remove_above, get_or-remove_below, length-remove}
-use Rattle.std.proofs.lemmas.List.Elements.{All-head, All-tail, filter-append, filter_passes}
-use Rattle.elfobj.specs.Symbols.{NamedSymbol}
+use Rattle.std.proofs.lemmas.List.Edits.{get_or-remove_above, get_or-remove_below}
 use Rattle.symres_table.specs.Changes.{Enters, Withdraws}
-use Rattle.symres_table.specs.State.{HasList, MayEnter, State, entries_of, slot, without}
+use Rattle.symres_table.specs.State.{MayEnter, without}
 
 abbrev Table : Type 0
 Table = ℕ × List NamedSymbol

@@ -1,11 +1,7 @@
 -- Lists of an object's symbols with the numbers of their names.
-use Rattle.std.proofs.Common.{◌≡◌, ◌<◌, ℕ, false, length, get_or, List, [], ◌∷◌, ◌++◌, ap, sym, ◌∙◌, Some, Option}
-use Rattle.std.proofs.lemmas.List.Elements.{All-append, All-cons, All-nil}
-use Rattle.elfobj.specs.Symbols.{NamedSymbol}
-use Rattle.ldmodel.specs.Names.{is_local}
-use Rattle.symres_table.specs.declared.symbol.Numbered.{Numbered}
-use Rattle.symres_table.specs.Spelled.{AreOf, HasName, spell_symbol, text}
-use Rattle.symres_table.specs.State.{IsNamed}
+use Rattle.symres_table.proofs.Common.{All-append, All-cons, All-nil, AreOf, HasName, IsNamed, List, NamedSymbol}
+use Rattle.symres_table.proofs.Common.{Numbered, Option, Some, [], ap, false, get_or, is_local, length, spell_symbol}
+use Rattle.symres_table.proofs.Common.{sym, text, ℕ, ◌++◌, ◌<◌, ◌∙◌, ◌∷◌, ◌≡◌}
 use Rattle.symres_table.proofs.Spelling.{seen_name}
 
 -- a symbol that isn't local has the name that its number stands for

@@ -1,26 +1,15 @@
 -- Rows to whose ends an object's declarations were put, and their rotation into place.
-use Rattle.std.proofs.Common.{◌≡◌, ◌<◌, ◌≤◌, ◌+◌, ◌-◌, ℕ, Bool, true, false, eqb, ◌||◌, ◌&&◌, length, get_or, set, take}
-use Rattle.std.proofs.Common.{drop, List, [], ◌∷◌, ◌++◌, map, refl, ap, sym, ◌∙◌, subst, ⊎_elim, ◌⊎◌, inl}
-use Rattle.std.proofs.Common.{inr, cond, arith, append_assoc, append-nil, length-append, Some}
-use Rattle.std.proofs.Common.{get_or-set_other}
-use Rattle.std.specs.Prelude.{slice_get}
-use Rattle.std.specs.List.{All, insert_slice}
-use Rattle.std.specs.Vec.{vec_len, vec_capacity}
-use Rattle.std.proofs.Math.ListN.{length-set}
+use Rattle.symres_table.proofs.Common.{All, All-map, All-nil, All-take, Appended, Bool, Declared, Entered, Grows}
+use Rattle.symres_table.proofs.Common.{IsPlace, IsSplit, IsTable, List, Numbered, PlacedKey, Settling, Some, [], ap}
+use Rattle.symres_table.proofs.Common.{append-nil, append_assoc, arith, before, cases_eq, cases_lt, cond, declared}
+use Rattle.symres_table.proofs.Common.{drop, drop_all, entries, eq-eqb, eqb, false, false≢true, filter-append, get_or}
+use Rattle.symres_table.proofs.Common.{get_or-append_right, get_or-set_other, get_or_append_left, inl, inr}
+use Rattle.symres_table.proofs.Common.{insert_slice, is_local, is_named, length, length-append, length-set, map, named}
+use Rattle.symres_table.proofs.Common.{own, refl, set, slice_get, slice_get-get_or, subst, sym, take, take-append-drop}
+use Rattle.symres_table.proofs.Common.{take-append-le, take_all, true, vec_capacity, vec_len, ℕ, ⊎_elim, ◌&&◌, ◌++◌}
+use Rattle.symres_table.proofs.Common.{◌+◌, ◌-◌, ◌<◌, ◌||◌, ◌∙◌, ◌∷◌, ◌≡◌, ◌≤◌, ◌⊎◌}
 use Rattle.std.proofs.Math.Seq.{take-append_seam, drop-append_seam}
-use Rattle.std.proofs.lemmas.Bool.{cases_eq, cases_lt, eq-eqb, false≢true}
-use Rattle.std.proofs.lemmas.List.{get_or_append_left, get_or-append_right, take_all, drop_all}
-use Rattle.std.proofs.lemmas.List.{take-append-le, take-append-drop}
-use Rattle.std.proofs.lemmas.List.Elements.{filter-append, All-map, All-nil, All-take}
-use Rattle.std.proofs.lemmas.Option.{slice_get-get_or}
-use Rattle.symres_table.specs.declared.symbol.Declared.{Declared}
-use Rattle.symres_table.specs.declared.symbol.Numbered.{Numbered}
-use Rattle.ldmodel.specs.Names.{is_local}
-use Rattle.symres_table.specs.declared.places.PlacedKey.{PlacedKey}
-use Rattle.symres_table.specs.Numbers.{Entered, declared, own, entries, before, is_named, IsPlace, IsTable, IsSplit}
-use Rattle.symres_table.specs.Numbers.{named}
-use Rattle.symres_table.specs.Numbers.{Grows}
-use Rattle.symres_table.specs.Steps.{Appended, AreParts, ends_with, is_entry, IsOwnStart, IsSettling, Settling}
+use Rattle.symres_table.specs.Steps.{AreParts, ends_with, is_entry, IsOwnStart, IsSettling}
 use Rattle.symres_table.proofs.Adding.{place_is, front_before, behind_not_before, map_push, entries-append}
 use Rattle.symres_table.proofs.Cleared.{Row, set_here, was_here}
 use Rattle.symres_table.proofs.Naming.{nothing, named_yes, named_no, named_local, named_push}

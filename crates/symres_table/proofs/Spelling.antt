@@ -1,27 +1,19 @@
 -- Symbol tables as numbers of names spell them.
-use Rattle.std.proofs.Common.{◌≡◌, ◌≢◌, ◌<◌, ◌+◌, ℕ, Bool, true, false, not, ◌&&◌, cond, eqb, length, get_or, List, []}
-use Rattle.std.proofs.Common.{◌∷◌, ◌++◌, map, filter, refl, ap, sym, ◌∙◌, subst, ⊎_elim, arith, append-nil}
-use Rattle.std.proofs.Common.{append_assoc, Option, Some, slice_get, inl, inr}
-use Rattle.std.specs.Prelude.{bytes_eq}
-use Rattle.std.specs.List.{All, enumerate_from}
-use Rattle.std.proofs.lemmas.Bool.{cases_eq, eq-eqb, ne_eqb, true≢false}
-use Rattle.std.proofs.lemmas.Slice.Eq.{bytes_eq-Decides}
-use Rattle.std.proofs.lemmas.Option.{slice_get_cases}
-use Rattle.std.proofs.lemmas.List.{length-map, map-append, get_or_default, get_or-map}
-use Rattle.std.proofs.lemmas.List.Elements.{filter-append, All-append, All-cons, All-nil, All-head, All-tail}
+use Rattle.symres_table.proofs.Common.{AddsNames, All, All-append, All-cons, All-head, All-nil, All-tail, AreCounted}
+use Rattle.symres_table.proofs.Common.{AreDistinct, Bool, Entered, HasName, IsNamed, IsSpellable, KeepsNames}
+use Rattle.symres_table.proofs.Common.{KnownNames, List, NamedSymbol, Numbered, Option, Some, Spells, SpellsSeen}
+use Rattle.symres_table.proofs.Common.{Symbol, [], ap, append-nil, append_assoc, arith, bytes_eq, bytes_eq-Decides}
+use Rattle.symres_table.proofs.Common.{cases_eq, cond, declaration_of, declared, entries, entries_of, enumerate_from}
+use Rattle.symres_table.proofs.Common.{eq-eqb, eqb, false, filter, filter-append, get_or, get_or_default, inl, inr}
+use Rattle.symres_table.proofs.Common.{is_local, is_named, is_seen, length, length-map, map, map-append, named, ne_eqb}
+use Rattle.symres_table.proofs.Common.{not, own, refl, slice_get, slice_get_cases, slot, spell, spell_symbol, subst}
+use Rattle.symres_table.proofs.Common.{sym, text, true, true≢false, ℕ, ⊎_elim, ◌&&◌, ◌++◌, ◌+◌, ◌<◌, ◌∙◌, ◌∷◌, ◌≡◌, ◌≢◌}
+use Rattle.std.proofs.lemmas.List.{get_or-map}
 use Rattle.elfobj.specs.Profile.{IsNameOf}
-use Rattle.elfobj.specs.Symbols.{NamedSymbol}
 use Rattle.elfobj.specs.declared.symbol.Binding.{Binding}
 use Rattle.elfobj.specs.declared.symbol.Binding.TheVariants.{Local, Global, Weak}
-use Rattle.elfobj.specs.declared.symbol.Symbol.{Symbol}
-use Rattle.ldmodel.specs.Names.{Declaration, declaration, declarations_of, is_local, is_of_name}
-use Rattle.symres_table.specs.declared.symbol.Numbered.{Numbered}
-use Rattle.symres_table.specs.Known.{KnownNames, AddsNames}
-use Rattle.symres_table.specs.Numbers.{Entered, declared, own, is_named, named, entries}
-use Rattle.symres_table.specs.Spelled.{text, spell_symbol, spell, HasName, AreCounted, IsSpellable, is_seen, Spells}
-use Rattle.symres_table.specs.Spelled.{SpellsSeen}
-use Rattle.symres_table.specs.State.{slot, IsNamed, KeepsNames, AreDistinct, entries_of, naming}
-use Rattle.symres_table.specs.Tally.{declaration_of}
+use Rattle.ldmodel.specs.Names.{Declaration, declaration, declarations_of, is_of_name}
+use Rattle.symres_table.specs.State.{naming}
 use Rattle.symres_table.proofs.Naming.{nothing, named_local}
 
 abbrev Names : Type 0

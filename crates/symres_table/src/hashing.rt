@@ -35,10 +35,11 @@ pub struct WordState {
     offset: u64,
 }
 
-/// The bytes of a name, seven to a word, are the coefficients of a polynomial over the numbers modulo 2^61 - 1. Its value
-/// at a random argument is the same for two names with a chance of at most their number of words in 2^61. This value is
-/// multiplied and moved by two further random numbers, after which each bit of the hashes of two values that differ is
-/// independent. A table hands a name on byte by byte, for which the hasher of `std` takes several times longer.
+/// The bytes of a name, seven to a word, are the coefficients of a polynomial over the numbers modulo 2^61 - 1. Its
+/// value at a random argument is the same for two names with a chance of at most their number of words in 2^61. This
+/// value is multiplied and moved by two further random numbers, after which each bit of the hashes of two values that
+/// differ is independent. A table hands a name on byte by byte, for which the hasher of `std` takes several times
+/// longer.
 #[derive(Clone, Copy)]
 pub struct WordHasher {
     numbers: WordState,

@@ -7,7 +7,8 @@ use crate::name_table::NameTable;
 use crate::symbol::is_visible;
 use elfobj::Object;
 use elfobj::relocation::SymbolIndex;
-use std::alloc::{AllocError, Global};
+use growth::{NoMemory, vec};
+use std::alloc::Global;
 
 /// The hash of a name, and one more than its place in the list of names; 0 if no place is known.
 #[derive(Clone, Copy)]
@@ -162,9 +163,9 @@ fn put_in(lines: &mut [Line], hint: Hint) {
 }
 
 /// This number of lines with the same hints.
-fn spread(alloc: Global, lines: &[Line], count: usize) -> Result<Vec<Line>, AllocError> {
-    let mut more = Vec::with_capacity(alloc, count)?;
-    more.resize(count, [NO_HINT; 8])?;
+fn spread(alloc: Global, lines: &[Line], count: usize) -> Result<Vec<Line>, NoMemory> {
+    let mut more = vec::with_capacity(alloc, count)?;
+    vec::resize(&mut more, count, [NO_HINT; 8])?;
     for line in lines {
         for hint in line.iter() {
             put_in(&mut more, *hint);
@@ -214,14 +215,14 @@ impl Hints {
     }
 
     /// Looks up the names of all symbols of an object that others see.
-    pub fn look_up(&mut self, object: &Object) -> Result<(), AllocError> {
+    pub fn look_up(&mut self, object: &Object) -> Result<(), NoMemory> {
         self.is_told = self.count > 0;
         self.found.clear();
-        self.found.reserve(object.symbols().len())?;
+        vec::reserve(&mut self.found, object.symbols().len())?;
         for number in 0..object.symbols().len() {
             if is_visible(&object.symbols()[number]) {
                 let hash = hash_of(object.name_of(SymbolIndex(number as u32)));
-                self.found.push(Hint { hash, place: 0 })?;
+                vec::push(&mut self.found, Hint { hash, place: 0 })?;
             }
         }
         for hint in self.found.iter_mut() {

@@ -20,7 +20,7 @@ use crate::symbol::{Numbered, is_visible};
 use elfobj::relocation::SymbolIndex;
 use elfobj::span::Span;
 use elfobj::{Object, Symbol};
-use std::alloc::AllocError;
+use growth::{NoMemory, vec};
 
 /// The index of a spare list with memory for this many symbols.
 fn find(spare: &[Vec<Numbered>], count: usize) -> usize
@@ -53,7 +53,7 @@ pub fn take_list(spare: &mut Vec<Vec<Numbered>>, count: usize) -> Vec<Numbered>
 
 /// Keeps a list as a spare one, unless there is one with memory for this many symbols. `entered` objects are entered:
 /// when all are withdrawn, their lists become spare ones too.
-pub fn park(spare: &mut Vec<Vec<Numbered>>, count: usize, entered: usize) -> Result<(), AllocError>
+pub fn park(spare: &mut Vec<Vec<Numbered>>, count: usize, entered: usize) -> Result<(), NoMemory>
     requires { vec_len spare.old + entered ≤ vec_capacity spare.old }
     ensures lists { vec_len spare.new + entered ≤ vec_capacity spare.new }
     ensures same { Adds (rooms spare.old.items) (rooms spare.new.items) }
@@ -64,8 +64,8 @@ pub fn park(spare: &mut Vec<Vec<Numbered>>, count: usize, entered: usize) -> Res
             return Ok(());
         }
     }
-    let list = Vec::with_capacity(*spare.allocator(), count)?;
-    spare.reserve(entered + 1)?;
+    let list = vec::with_capacity(*spare.allocator(), count)?;
+    vec::reserve(spare, entered + 1)?;
     spare.push_reserved(list);
     Ok(())
 }
@@ -313,7 +313,7 @@ fn add_hinted(
     hints: &Hints,
     symbol: usize,
     name: &[u8],
-) -> Result<usize, AllocError>
+) -> Result<usize, NoMemory>
     ensures ok { IfOk result (λ n. IsNamed known.new.slots n name.now) }
     ensures kept { KeepsNames known.old.slots known.new.slots }
     ensures added { AddsNames known.old known.new }
@@ -336,7 +336,7 @@ fn add_name(
     list: &[Numbered],
     repeats: &mut Repeats,
     hints: &mut Hints,
-) -> Result<usize, AllocError>
+) -> Result<usize, NoMemory>
     requires within { number < length object.now.symbols }
     requires told { IfSome told (λ n. (d : NamedSymbol)
         → IsNamed known.old.slots n (slice_index_or object.now.symbols number d).name) }
@@ -378,7 +378,7 @@ fn add_seen(
     list: &mut Vec<Numbered>,
     repeats: &mut Repeats,
     hints: &mut Hints,
-) -> Result<(), AllocError>
+) -> Result<(), NoMemory>
     requires within { number < length object.now.symbols }
     requires told { IfSome told (λ n. (d : NamedSymbol)
         → IsNamed known.old.slots n (slice_index_or object.now.symbols number d).name) }
@@ -394,11 +394,14 @@ fn add_seen(
         return Ok(());
     }
     let name = add_name(known, object, number, told, list, repeats, hints)?;
-    list.push(Numbered {
-        name,
-        number,
-        symbol,
-    })?;
+    vec::push(
+        list,
+        Numbered {
+            name,
+            number,
+            symbol,
+        },
+    )?;
     Ok(())
 }
 
@@ -438,10 +441,10 @@ fn number_hinted(
     known: &NameTable,
     object: &Object,
     hints: &Hints,
-) -> Result<Vec<Numbered>, AllocError>
+) -> Result<Vec<Numbered>, NoMemory>
     ensures { IfOk result (λ list. AreOf known.now.slots object.now.symbols list.items) }
 {
-    let mut list = Vec::with_capacity(known.allocator(), hints.found(known))?;
+    let mut list = vec::with_capacity(known.allocator(), hints.found(known))?;
     let mut seen: usize = 0;
     for number in 0..object.symbols().len() {
         if is_visible(&object.symbols()[number]) {
@@ -476,7 +479,7 @@ pub fn number_new(
     list: &mut Vec<Numbered>,
     repeats: &mut Repeats,
     hints: &mut Hints,
-) -> Result<(), AllocError>
+) -> Result<(), NoMemory>
     requires { list.old.items ≡ [] }
     ensures spelled { OnOk result (SpellsSeen known.new.slots list.new.items object.now.symbols) }
     ensures kept { KeepsNames known.old.slots known.new.slots }

@@ -13,10 +13,11 @@ ghost use Rattle.symres_table.specs.State.{slot, AreDistinct, IsListing, IsNamed
 
 use crate::hashing::WordState;
 use crate::objects::Objects;
+use growth::{NoMemory, index_map, slabs, vec};
 use indexmap::IndexMap;
-use indexmap::map::{Entry, Iter};
+use indexmap::map::Iter;
 use slab::Slab;
-use std::alloc::{AllocError, Global};
+use std::alloc::Global;
 use std::hash::RandomState;
 use std::marker::Model;
 
@@ -85,20 +86,14 @@ fn put_new(
     numbers: &mut IndexMap<Vec<u8>, usize, WordState>,
     key: Vec<u8>,
     number: usize,
-) -> Result<Option<usize>, AllocError>
+) -> Result<Option<usize>, NoMemory>
     ensures same { IfOk result (λ o. IfSome o (λ n. numbers.new.entries ≡ numbers.old.entries)) }
     ensures known { IfOk result (λ o. IfSome o (λ n. number_in key.items numbers.old.entries ≡ Some n)) }
     ensures absent { IfOk result (λ o. IfNone o (number_in key.items numbers.old.entries ≡ None)) }
     ensures put { IfOk result (λ o. IfNone o (numbers.new.entries ≡ numbers.old.entries ++ (key, number) ∷ [])) }
     ensures refused { OnErr result (numbers.new.entries ≡ numbers.old.entries) }
 {
-    match numbers.entry(key)? {
-        Entry::Occupied(entry) => Ok(Some(*entry.get())),
-        Entry::Vacant(entry) => {
-            entry.insert(number);
-            Ok(None)
-        }
-    }
+    index_map::insert_new(numbers, key, number)
 }
 
 /// Writes the places of all names, which have moved.
@@ -185,7 +180,7 @@ impl NameTable {
 
     /// The number of a name, which is new if the name was not known.
     #[inline(never)]
-    pub fn add(&mut self, name: &[u8]) -> Result<usize, AllocError>
+    pub fn add(&mut self, name: &[u8]) -> Result<usize, NoMemory>
         ensures ok { IfOk result (λ n. IsNamed self.new.slots n name.now) }
         ensures kept { KeepsNames self.old.slots self.new.slots }
         ensures added { AddsNames self.old self.new }
@@ -198,13 +193,13 @@ impl NameTable {
 
     /// The same as `add`, for a name that is likely to be new: it is hashed once.
     #[inline(never)]
-    pub fn add_new(&mut self, name: &[u8]) -> Result<usize, AllocError>
+    pub fn add_new(&mut self, name: &[u8]) -> Result<usize, NoMemory>
         ensures ok { IfOk result (λ n. IsNamed self.new.slots n name.now) }
         ensures kept { KeepsNames self.old.slots self.new.slots }
         ensures added { AddsNames self.old self.new }
     {
-        let key = Vec::from_slice(*self.numbers.allocator(), name)?;
-        self.places.reserve(1)?;
+        let key = vec::from_slice(*self.numbers.allocator(), name)?;
+        slabs::reserve(&mut self.places, 1)?;
         let place = self.numbers.len();
         match put_new(&mut self.numbers, key, self.places.vacant_key())? {
             Some(number) => Ok(number),
@@ -241,7 +236,7 @@ impl NameTable {
     /// The number of a name, which is new if the name was not known. It is not hashed if it is at this index of the
     /// list of names.
     #[inline(always)]
-    pub fn add_at(&mut self, place: Option<usize>, name: &[u8]) -> Result<usize, AllocError>
+    pub fn add_at(&mut self, place: Option<usize>, name: &[u8]) -> Result<usize, NoMemory>
         ensures ok { IfOk result (λ n. IsNamed self.new.slots n name.now) }
         ensures kept { KeepsNames self.old.slots self.new.slots }
         ensures added { AddsNames self.old self.new }
@@ -292,16 +287,16 @@ impl NameTable {
         drop_from(&mut self.places, count);
     }
 
-    fn insert(&mut self, name: &[u8]) -> Result<usize, AllocError>
+    fn insert(&mut self, name: &[u8]) -> Result<usize, NoMemory>
         requires { (n : ℕ) → slot self.old.slots n ≢ Some name.now }
         ensures ok { IfOk result (λ n. IsNamed self.new.slots n name.now) }
         ensures kept { KeepsNames self.old.slots self.new.slots }
         ensures added { AddsNames self.old self.new }
     {
-        let key = Vec::from_slice(*self.numbers.allocator(), name)?;
-        self.places.reserve(1)?;
+        let key = vec::from_slice(*self.numbers.allocator(), name)?;
+        slabs::reserve(&mut self.places, 1)?;
         let place = self.numbers.len();
-        self.numbers.insert(key, self.places.vacant_key())?;
+        index_map::insert(&mut self.numbers, key, self.places.vacant_key())?;
         Ok(self.places.insert_reserved(place))
     }
 }

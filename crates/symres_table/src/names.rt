@@ -8,7 +8,7 @@ ghost use Rattle.std.specs.Option.{option_map};
 ghost use Rattle.elfobj.specs.Raised.{raised};
 ghost use Rattle.elfobj.specs.declared.meter.Count.TheVariants as counts;
 ghost use Rattle.elfobj.specs.Symbols.{NamedSymbol};
-ghost use Rattle.ldmodel.specs.HandedOver.{decision_under_keys};
+ghost use Rattle.ldmodel.specs.CodeValues.{decision_under_keys};
 ghost use Rattle.ldmodel.specs.Names.{decided, is_local};
 ghost use Rattle.ldmodel.specs.ScriptNames.{is_assigned, is_provided};
 ghost use Rattle.symres_table.specs.Changes.{IsRefused, Joins};
@@ -31,9 +31,9 @@ use crate::objects::Objects;
 use crate::repeats::Repeats;
 use crate::symbol::{Declared, Numbered};
 use crate::tally::decide;
-use elfobj::memory::NoMemory;
 use elfobj::relocation::SymbolIndex;
 use elfobj::{Count, Meter, Object};
+use growth::{NoMemory, vec};
 use indexmap::map::Iter;
 use ldmodel::names::{Case, NameKey, ObjectKey, ObjectPlace};
 use ldscript::Script;
@@ -104,7 +104,7 @@ impl Model for Names {
 
 /// Makes a row for the name of a symbol, with room for the entries that it is likely to get. `symbol` is the number of
 /// non-local symbols of its object before it.
-#[tactic(auto, using(crate::proofs::Ready::grows_refl, crate::proofs::Ready::grows_trans))]
+#[tactic(auto, using(crate::proofs::RowsOnlyGrow::grows_refl, crate::proofs::RowsOnlyGrow::grows_trans))]
 fn grow_row(
     objects: &mut Objects,
     name: usize,
@@ -122,7 +122,7 @@ fn grow_row(
 }
 
 /// Makes rows for the names of these symbols.
-#[tactic(auto, using(crate::proofs::Ready::grows_refl, crate::proofs::Ready::grows_trans))]
+#[tactic(auto, using(crate::proofs::RowsOnlyGrow::grows_refl, crate::proofs::RowsOnlyGrow::grows_trans))]
 fn grow_rows(objects: &mut Objects, symbols: &[Numbered], hints: &mut Hints) -> Result<(), NoMemory>
     ensures same { GrowsRoom objects.old objects.new }
     ensures ok { OnOk result (All (λ (s : Numbered). s.name < length objects.new.room) symbols.now) }
@@ -134,7 +134,7 @@ fn grow_rows(objects: &mut Objects, symbols: &[Numbered], hints: &mut Hints) -> 
 }
 
 /// Makes the names of an object known, and room for its entries. `list` is left with its symbols that others see.
-#[tactic(auto, using(crate::proofs::Ready::grows_refl, crate::proofs::Ready::grows_trans))]
+#[tactic(auto, using(crate::proofs::RowsOnlyGrow::grows_refl, crate::proofs::RowsOnlyGrow::grows_trans))]
 fn make_ready(
     known: &mut NameTable,
     objects: &mut Objects,
@@ -150,14 +150,14 @@ fn make_ready(
     ensures seen { OnOk result (SpellsSeen known.new.slots list.new.items object.now.symbols) }
 {
     list.clear();
-    list.reserve(object.symbols().len())?;
+    vec::reserve(list, object.symbols().len())?;
     number_new(known, object, list, repeats, hints)?;
     grow_rows(objects, list, hints)?;
     objects.reserve(list)
 }
 
 /// Makes ready for an object; names that it made known are dropped again if memory is refused.
-#[tactic(auto, using(crate::proofs::Ready::grows_refl))]
+#[tactic(auto, using(crate::proofs::RowsOnlyGrow::grows_refl))]
 fn make_ready_or_not(
     known: &mut NameTable,
     objects: &mut Objects,
@@ -177,16 +177,16 @@ fn make_ready_or_not(
     let count = known.len();
     match make_ready(known, objects, object, list, repeats, hints) {
         Ok(()) => Ok(()),
-        Err(refused) => {
+        Err(no_memory) => {
             known.drop_newer(count);
             // for the prover: brings in the invariant of `known`
             let _known = known.len();
-            Err(refused)
+            Err(no_memory)
         }
     }
 }
 
-#[tactic(auto, using(crate::proofs::Ready::grows_refl))]
+#[tactic(auto, using(crate::proofs::RowsOnlyGrow::grows_refl))]
 fn reserve_fields(
     known: &mut NameTable,
     objects: &mut Objects,

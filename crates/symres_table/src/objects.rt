@@ -14,8 +14,9 @@ ghost use Rattle.symres_table.specs.declared.symbol.Numbered.{Numbered};
 use crate::places::{PlacedKey, count_below, find, make_gap, move_down};
 use crate::rows::{add_all, grow_to, remove_all, reserve_all, widen};
 use crate::symbol::{Declared, Numbered};
+use growth::{NoMemory, vec};
 use ldmodel::names::{ObjectKey, ObjectPlace};
-use std::alloc::{AllocError, Global};
+use std::alloc::Global;
 use std::marker::Model;
 
 /// An entered object: its key, and its symbols by the numbers of their names.
@@ -63,7 +64,7 @@ fn reserve_fields(
     order: &mut Vec<EnteredObject>,
     places: &mut Vec<PlacedKey>,
     symbols: &[Numbered],
-) -> Result<(), AllocError>
+) -> Result<(), NoMemory>
     requires visible { All (λ (s : Numbered). not (is_local s.symbol.binding) ≡ true) symbols.now }
     requires known { All (HasRow (length rows.old.items)) symbols.now }
     ensures rows { RowsGrow rows.old.items rows.new.items }
@@ -76,8 +77,8 @@ fn reserve_fields(
     ensures place_room { OnOk result (vec_len places.new < vec_capacity places.new) }
 {
     reserve_all(rows, symbols)?;
-    order.reserve(1)?;
-    places.reserve(1)
+    vec::reserve(order, 1)?;
+    vec::reserve(places, 1)
 }
 
 impl Objects {
@@ -169,7 +170,7 @@ impl Objects {
     }
 
     /// Makes rows for the names up to a number.
-    pub fn grow(&mut self, name: usize) -> Result<(), AllocError>
+    pub fn grow(&mut self, name: usize) -> Result<(), NoMemory>
         ensures ok { OnOk result (name < length self.new.room) }
         ensures same { GrowsRoom self.old self.new }
     {
@@ -193,7 +194,7 @@ impl Objects {
     }
 
     /// Makes room for an object with these symbols, none of them local.
-    pub fn reserve(&mut self, symbols: &[Numbered]) -> Result<(), AllocError>
+    pub fn reserve(&mut self, symbols: &[Numbered]) -> Result<(), NoMemory>
         requires visible { All (λ (s : Numbered). not (is_local s.symbol.binding) ≡ true) symbols.now }
         requires known { All (HasRow (length self.old.room)) symbols.now }
         ensures ok { OnOk result (CanEnter self.new symbols.now) }

@@ -1,7 +1,8 @@
 //! Names that symbols of an object share, by where they lie in its bytes.
 
 use elfobj::span::Span;
-use std::alloc::{AllocError, Global};
+use growth::{NoMemory, btree_map};
+use std::alloc::Global;
 use std::collections::BTreeMap;
 
 /// The length from which names are looked up by where they lie. To hash a shorter one takes no longer than to read the
@@ -48,7 +49,7 @@ impl Repeats {
 
     /// Notes the place of a symbol with this name. A short name is not noted.
     #[inline(never)]
-    pub fn note(&mut self, name: Span, at: usize) -> Result<(), AllocError> {
+    pub fn note(&mut self, name: Span, at: usize) -> Result<(), NoMemory> {
         if !is_long(name) {
             return Ok(());
         }
@@ -57,7 +58,7 @@ impl Repeats {
             self.unnoted -= length;
             return Ok(());
         }
-        self.starts.insert(name.start, at)?;
+        btree_map::insert(&mut self.starts, name.start, at)?;
         Ok(())
     }
 }

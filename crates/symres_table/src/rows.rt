@@ -18,8 +18,8 @@ use crate::places::{PlacedKey, is_in_front};
 use crate::symbol::{Declared, Numbered, is_visible};
 use elfobj::relocation::SymbolIndex;
 use elfobj::symbol::SymbolPlace;
+use growth::{NoMemory, vec};
 use ldmodel::names::{Entry, ObjectKey};
-use std::alloc::AllocError;
 
 fn is_before(places: &[PlacedKey], at: usize, key: ObjectKey, declared: &Declared) -> bool
     requires { AreSorted places.now }
@@ -305,7 +305,7 @@ const SEVERAL: usize = 2;
 /// Makes room for one more entry of a name. The first entry has room for itself alone if it defines the name, since
 /// many names have no other. Else, and once there is a second, there is room for `SEVERAL` entries, and then for twice
 /// as many each time.
-fn reserve_row(row: &mut Vec<Declared>, place: SymbolPlace) -> Result<(), AllocError>
+fn reserve_row(row: &mut Vec<Declared>, place: SymbolPlace) -> Result<(), NoMemory>
     ensures items { row.new.items ≡ row.old.items }
     ensures capacity { vec_capacity row.old ≤ vec_capacity row.new }
     ensures ok { OnOk result (vec_len row.new < vec_capacity row.new) }
@@ -314,16 +314,16 @@ fn reserve_row(row: &mut Vec<Declared>, place: SymbolPlace) -> Result<(), AllocE
         return Ok(());
     }
     if row.len() == 0 && place != SymbolPlace::Undefined {
-        return row.reserve_exact(1);
+        return vec::reserve_exact(row, 1);
     }
     if row.len() < SEVERAL {
-        return row.reserve_exact(SEVERAL - row.len());
+        return vec::reserve_exact(row, SEVERAL - row.len());
     }
-    row.reserve(1)
+    vec::reserve(row, 1)
 }
 
 /// Puts an entry at the end of a row, to hold room for a symbol that comes.
-fn hold_row(row: &mut Vec<Declared>, symbol: Numbered) -> Result<(), AllocError>
+fn hold_row(row: &mut Vec<Declared>, symbol: Numbered) -> Result<(), NoMemory>
     ensures capacity { vec_capacity row.old ≤ vec_capacity row.new }
     ensures ok { OnOk result (row.new.items ≡ row.old.items ++ declared 0 symbol ∷ []) }
     ensures refused { OnErr result (row.new.items ≡ row.old.items) }
@@ -333,7 +333,7 @@ fn hold_row(row: &mut Vec<Declared>, symbol: Numbered) -> Result<(), AllocError>
     Ok(())
 }
 
-fn hold(table: &mut Vec<Vec<Declared>>, symbol: Numbered) -> Result<(), AllocError>
+fn hold(table: &mut Vec<Vec<Declared>>, symbol: Numbered) -> Result<(), NoMemory>
     requires known { symbol.name < length table.old.items }
     requires visible { is_local symbol.symbol.binding ≡ false }
     ensures ok { OnOk result ((ss : List Numbered) (was : List (Vec Declared Global)) → Holds ss was table.old.items
@@ -344,20 +344,21 @@ fn hold(table: &mut Vec<Vec<Declared>>, symbol: Numbered) -> Result<(), AllocErr
     hold_row(&mut table[symbol.name], symbol)
 }
 
-/// Holds room for the symbols, and gives for how many of them there was memory.
-fn hold_all(table: &mut Vec<Vec<Declared>>, symbols: &[Numbered]) -> usize
+/// Holds room for the symbols, and gives for how many of them there was memory, with the growth that was refused.
+fn hold_all(table: &mut Vec<Vec<Declared>>, symbols: &[Numbered]) -> (usize, Result<(), NoMemory>)
     requires visible { All (λ (s : Numbered). not (is_local s.symbol.binding) ≡ true) symbols.now }
     requires known { All (HasRow (length table.old.items)) symbols.now }
-    ensures within { result ≤ length symbols.now }
-    ensures held { Holds (take result symbols.now) table.old.items table.new.items }
+    ensures within { result.0 ≤ length symbols.now }
+    ensures held { Holds (take result.0 symbols.now) table.old.items table.new.items }
+    ensures all { OnOk result.1 (result.0 ≡ length symbols.now) }
 {
     for (at, symbol) in symbols.iter().enumerate() {
         match hold(table, *symbol) {
             Ok(()) => {}
-            Err(_refused) => return at,
+            Err(no_memory) => return (at, Err(no_memory)),
         }
     }
-    symbols.len()
+    (symbols.len(), Ok(()))
 }
 
 /// Takes the last entry out of the row of a symbol. Its room stays.
@@ -385,18 +386,18 @@ fn release_all(table: &mut Vec<Vec<Declared>>, symbols: &[Numbered])
 
 /// Makes room in each row for those of the symbols that have its name. None of the symbols is local. No table of counts
 /// is needed: an entry for each symbol is inserted into its row, and then they are removed again.
-pub fn reserve_all(table: &mut Vec<Vec<Declared>>, symbols: &[Numbered]) -> Result<(), AllocError>
+pub fn reserve_all(table: &mut Vec<Vec<Declared>>, symbols: &[Numbered]) -> Result<(), NoMemory>
     requires visible { All (λ (s : Numbered). not (is_local s.symbol.binding) ≡ true) symbols.now }
     requires known { All (HasRow (length table.old.items)) symbols.now }
     ensures same { RowsGrow table.old.items table.new.items }
     ensures room { OnOk result (HasRoom table.new.items symbols.now) }
 {
-    let held = hold_all(table, symbols);
+    let (held, outcome) = hold_all(table, symbols);
     release_all(table, &symbols[..held]);
-    if held < symbols.len() {
-        return Err(AllocError);
+    match outcome {
+        Ok(()) => Ok(()),
+        Err(no_memory) => Err(no_memory),
     }
-    Ok(())
 }
 
 /// Makes room in a row for this many more entries, if there is memory for it.
@@ -411,13 +412,13 @@ pub fn widen(table: &mut Vec<Vec<Declared>>, name: usize, entries: usize)
 }
 
 /// Makes empty rows up to a number.
-pub fn grow_to(table: &mut Vec<Vec<Declared>>, name: usize) -> Result<(), AllocError>
+pub fn grow_to(table: &mut Vec<Vec<Declared>>, name: usize) -> Result<(), NoMemory>
     ensures same { RowsGrow table.old.items table.new.items }
     ensures ok { OnOk result (name < length table.new.items) }
 {
     while table.len() <= name {
         let row = Vec::new(*table.allocator());
-        table.push(row)?;
+        vec::push(table, row)?;
     }
     Ok(())
 }

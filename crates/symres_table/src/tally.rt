@@ -1,7 +1,7 @@
 //! How a name is resolved, by one pass over its entries.
 
 ghost use Rattle.std.specs.Prelude.{◌≡◌, ℕ, List, [], ◌∷◌, ◌++◌, map, true};
-ghost use Rattle.ldmodel.specs.HandedOver.{decision_under_keys};
+ghost use Rattle.ldmodel.specs.CodeValues.{decision_under_keys};
 ghost use Rattle.ldmodel.specs.Names.{Declaration, decided, is_placed};
 ghost use Rattle.ldmodel.specs.ScriptNames.{is_assignment, is_provision};
 ghost use Rattle.symres_table.specs.declared.symbol.Declared.{Declared};

@@ -1,14 +1,14 @@
 //! Answers to commands, as a session writes them and as they are printed here.
 
 use crate::printing::{AS_LINES, print_bytes};
-use relink::{EditRefusal, Linked};
+use relink::{EditRefusal, LinkSummary};
 use std::alloc::{AllocError, Global};
 
 /// An answer.
 #[derive(Clone, Copy)]
 pub enum Answer<'a> {
     /// An edit was made.
-    Linked(Linked),
+    Linked(LinkSummary),
     /// An edit is refused.
     Refused(EditRefusal),
     /// The image.

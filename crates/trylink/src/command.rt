@@ -1,7 +1,7 @@
 //! The commands of a stream.
 
 use crate::printing::split_line;
-use ldi_stream::head::{Aim, CommandHead, EditHead, Query, read_head};
+use ldi_stream::head::{CommandHead, EditHead, PayloadTarget, Query, read_head};
 use relink::Edit;
 use std::alloc::{AllocError, Global};
 
@@ -15,17 +15,21 @@ pub enum Command<'a> {
 }
 
 /// The edit that a payload is for.
-fn edit_of<'a>(alloc: Global, aim: Aim<'a>, payload: &'a [u8]) -> Result<Edit<'a>, AllocError> {
-    match aim {
-        Aim::Add { name, at } => {
+fn edit_of<'a>(
+    alloc: Global,
+    target: PayloadTarget<'a>,
+    payload: &'a [u8],
+) -> Result<Edit<'a>, AllocError> {
+    match target {
+        PayloadTarget::Add { name, at } => {
             let bytes = Vec::from_slice(alloc, payload)?;
             Ok(Edit::Add { name, at, bytes })
         }
-        Aim::Replace { name } => {
+        PayloadTarget::Replace { name } => {
             let bytes = Vec::from_slice(alloc, payload)?;
             Ok(Edit::Replace { name, bytes })
         }
-        Aim::Script => Ok(Edit::Script { text: payload }),
+        PayloadTarget::Script => Ok(Edit::Script { text: payload }),
     }
 }
 
@@ -46,11 +50,11 @@ pub fn split_command(
         Some(CommandHead::Edit(EditHead::Remove { name })) => {
             Ok(Some((Command::Make(Edit::Remove { name }), rest)))
         }
-        Some(CommandHead::Edit(EditHead::WithPayload { aim, count })) => {
+        Some(CommandHead::Edit(EditHead::WithPayload { target, count })) => {
             let Some((payload, rest)) = rest.split_at_checked(count) else {
                 return Ok(None);
             };
-            Ok(Some((Command::Make(edit_of(alloc, aim, payload)?), rest)))
+            Ok(Some((Command::Make(edit_of(alloc, target, payload)?), rest)))
         }
     }
 }

@@ -120,7 +120,7 @@ impl Frame<'_> {
         let args = self.command_line(alloc)?;
         match words(alloc, &args) {
             Ok(Call::Session(options)) => Ok(Some(options)),
-            Err(WordsFault::Memory) => Err(AllocError),
+            Err(WordsFault::Memory(_)) => Err(AllocError),
             _ => Ok(None),
         }
     }

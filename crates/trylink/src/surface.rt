@@ -12,7 +12,7 @@ use emit::{Canvas, Index, field, headers};
 use gather::Matcher;
 use ldmodel::names::{ObjectKey, ObjectPlace};
 use ldmodel::rows::{InputIndex, Piece};
-use ldmodel::sections::{Part, SectionKey};
+use ldmodel::sections::{Part, SectionRef};
 use ldscript::{Script, matches};
 use place::segments::segments;
 use place::{Placement, place};
@@ -112,7 +112,7 @@ fn row_of(alloc: Global, object: &Object) -> Result<Vec<Piece>, AllocError> {
     for section in object.sections() {
         row.push(Piece {
             statement: InputIndex(0),
-            section: SectionKey {
+            section: SectionRef {
                 object: ObjectPlace(0),
                 part: Part::InTable(section.number),
             },

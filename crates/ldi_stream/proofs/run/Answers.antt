@@ -1,5 +1,4 @@
-use Rattle.std.proofs.Common.{refl, arith, ◌∙◌}
-use Rattle.ldi_stream.specs.Ran.{world}
+use Rattle.ldi_stream.proofs.Common.{arith, refl, world, ◌∙◌}
 use Rattle.ldi_stream.proofs.StreamRuns.{at_start, at_start_length, one_more, one_more_length}
 use Rattle.ldi_stream.proofs.StreamEnds.{answered}
 use Rattle.ldi_stream.proofs.run.Goals as goal

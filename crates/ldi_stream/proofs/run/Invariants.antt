@@ -1,5 +1,4 @@
-use Rattle.std.proofs.Common.{◌≡◌, [], length}
-use Rattle.ldi_stream.specs.Ran.{Progress, world}
+use Rattle.ldi_stream.proofs.Common.{Progress, [], length, world, ◌≡◌}
 use Rattle.ldi_stream.proofs.run.Given as goal
 
 abbrev pub invariant-loop-turn : goal.invariant-loop-turn

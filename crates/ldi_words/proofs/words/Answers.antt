@@ -1,10 +1,6 @@
-use Rattle.std.proofs.Common.{◌∙◌, List, map, string_bytes, ap, refl, subst, sym}
-use Rattle.clap.specs.Words.{Text, subcommand_of, takes}
+use Rattle.ldi_words.proofs.Common.{HasKind, IsCallOf, List, StatesCall, Text, ap, is_simple, ldi, map, refl}
+use Rattle.ldi_words.proofs.Common.{string_bytes, subcommand_of, subst, sym, takes, ◌∙◌}
 use Rattle.clap.specs.Faults.{fault_of, is_simple_and_free}
-use Rattle.clap.specs.Kinds.{HasKind}
-use Rattle.clap.specs.Simple.{is_simple}
-use Rattle.ldi_words.specs.Call.{IsCallOf, StatesCall}
-use Rattle.ldi_words.specs.Command.{ldi}
 use Rattle.ldi_words.proofs.FaultOf.{any_choices, memory_fault, refused_fault}
 use Rattle.ldi_words.proofs.Stated.{stated}
 use Rattle.ldi_words.proofs.words.Goals as goal

@@ -11,7 +11,7 @@ use crate::keyed_objects::KeyedObjects;
 use crate::named::NamedObject;
 use crate::staged::{Places, StagedObjects, Step};
 use elfobj::Object;
-use ldmodel::memory::NoMemory;
+use growth::{NoMemory, vec};
 use std::alloc::Global;
 
 /// An order with one more key.
@@ -19,10 +19,10 @@ fn with_key(alloc: Global, order: &[usize], at: usize, key: usize) -> Result<Vec
     requires { at ≤ length order.now }
     ensures { IfOk result (λ v. v.items ≡ insert order.now at key) }
 {
-    let mut copy = Vec::with_capacity(alloc, order.len() + 1)?;
-    copy.extend_from_slice(&order[..at])?;
-    copy.push(key)?;
-    copy.extend_from_slice(&order[at..])?;
+    let mut copy = vec::with_capacity(alloc, order.len() + 1)?;
+    vec::extend_from_slice(&mut copy, &order[..at])?;
+    vec::push(&mut copy, key)?;
+    vec::extend_from_slice(&mut copy, &order[at..])?;
     Ok(copy)
 }
 
@@ -31,9 +31,9 @@ fn without_key(alloc: Global, order: &[usize], at: usize) -> Result<Vec<usize>, 
     requires { at < length order.now }
     ensures { IfOk result (λ v. v.items ≡ remove order.now at) }
 {
-    let mut copy = Vec::with_capacity(alloc, order.len())?;
-    copy.extend_from_slice(&order[..at])?;
-    copy.extend_from_slice(&order[at + 1..])?;
+    let mut copy = vec::with_capacity(alloc, order.len())?;
+    vec::extend_from_slice(&mut copy, &order[..at])?;
+    vec::extend_from_slice(&mut copy, &order[at + 1..])?;
     Ok(copy)
 }
 
@@ -49,13 +49,13 @@ fn with_key_moved(
     ensures { IfOk result (λ v. v.items ≡ insert (remove order.now from) to (slice_index order.now from)) }
 {
     let mut copy = without_key(alloc, order, from)?;
-    copy.insert(to, order[from])?;
+    vec::insert(&mut copy, to, order[from])?;
     Ok(copy)
 }
 
 impl KeyedObjects {
     /// What a new object needs: its name's copy, room in the slab, and an order with its key.
-    pub(crate) fn grow_add(
+    pub(crate) fn reserve_add(
         &mut self,
         name: &[u8],
         at: usize,
@@ -86,7 +86,7 @@ impl KeyedObjects {
     }
 
     /// What another object at a place needs: its name's copy, and a copy of the order.
-    pub(crate) fn grow_replace(
+    pub(crate) fn reserve_replace(
         &self,
         name: &[u8],
         at: usize,
@@ -100,7 +100,7 @@ impl KeyedObjects {
         ensures touching { IfOk result (IsEditing (Some at)) }
     {
         let named = NamedObject::new(self.alloc, name, object)?;
-        let order = Vec::from_slice(self.alloc, &self.order)?;
+        let order = vec::from_slice(self.alloc, &self.order)?;
         let key = self.order[at];
         Ok(StagedObjects {
             order,
@@ -113,7 +113,7 @@ impl KeyedObjects {
     }
 
     /// What a move needs: an order with the key elsewhere.
-    pub(crate) fn grow_move(&self, from: usize, to: usize) -> Result<StagedObjects, NoMemory>
+    pub(crate) fn reserve_move(&self, from: usize, to: usize) -> Result<StagedObjects, NoMemory>
         requires from { from < length self.now.entries }
         requires to { to ≤ length (remove (objects_of self.now.entries) from) }
         ensures staged { let objects = objects_of self.now.entries in
@@ -134,7 +134,7 @@ impl KeyedObjects {
     }
 
     /// What a removal needs: an order without the key.
-    pub(crate) fn grow_remove(&self, at: usize) -> Result<StagedObjects, NoMemory>
+    pub(crate) fn reserve_remove(&self, at: usize) -> Result<StagedObjects, NoMemory>
         requires { at < length self.now.entries }
         ensures staged { IfOk result (λ s. IsStaged self.now s (remove (objects_of self.now.entries) at)) }
         ensures touching { IfOk result (IsEditing (Some at)) }
@@ -152,11 +152,11 @@ impl KeyedObjects {
     }
 
     /// What an edit needs that leaves all objects: a copy of the order.
-    pub(crate) fn grow_same(&self) -> Result<StagedObjects, NoMemory>
+    pub(crate) fn reserve_same(&self) -> Result<StagedObjects, NoMemory>
         ensures staged { IfOk result (λ s. IsStaged self.now s (objects_of self.now.entries)) }
         ensures unedited { IfOk result (λ s. edited_key s.step ≡ None) }
     {
-        let order = Vec::from_slice(self.alloc, &self.order)?;
+        let order = vec::from_slice(self.alloc, &self.order)?;
         Ok(StagedObjects {
             order,
             step: Step::Stay,

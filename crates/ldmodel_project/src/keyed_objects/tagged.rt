@@ -10,9 +10,9 @@ ghost use Rattle.slab.specs.Slab.{get, HasRoomFor};
 use crate::keyed_objects::tags::Tags;
 use crate::named::NamedObject;
 use crate::staged::Step;
-use ldmodel::memory::NoMemory;
+use growth::{NoMemory, slabs};
 use slab::Slab;
-use std::alloc::{AllocError, Global};
+use std::alloc::Global;
 use std::marker::Model;
 use std::ops::Index;
 
@@ -132,7 +132,7 @@ impl TaggedObjects {
 
     /// Makes room for more objects, and marks for their names. If memory runs out for marks, there are as many as
     /// before.
-    pub(crate) fn reserve(&mut self, additional: usize) -> Result<(), AllocError>
+    pub(crate) fn reserve(&mut self, additional: usize) -> Result<(), NoMemory>
         ensures room { OnOk result (HasRoomFor self.new additional) }
         ensures capacity { self.old.capacity ≤ self.new.capacity }
         ensures rest_kept { self.new ≡ record self.old { capacity = self.new.capacity } }
@@ -142,7 +142,7 @@ impl TaggedObjects {
                 self.tags = tags;
             }
         }
-        self.slab.reserve(additional)
+        slabs::reserve(&mut self.slab, additional)
     }
 
     /// Makes a step, with no allocation.

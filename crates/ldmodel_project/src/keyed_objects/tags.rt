@@ -3,7 +3,7 @@
 ghost use Rattle.std.specs.Prelude.{◌≡◌, ◌<◌, true, length};
 ghost use Rattle.ldmodel_project.specs.Tags.{hash_of, place_in, may_have, mixed, KeepsMarks};
 
-use ldmodel::memory::NoMemory;
+use growth::{NoMemory, vec};
 use std::alloc::Global;
 use std::marker::Model;
 
@@ -66,7 +66,7 @@ impl Tags {
     pub(crate) fn with_room(alloc: Global, count: usize) -> Result<Tags, NoMemory> {
         let marks = count.saturating_add(MARKS).saturating_mul(MARKS * GROWTH);
         Ok(Tags {
-            marks: vec![in alloc; false; marks]?,
+            marks: vec::from_elem(alloc, false, marks)?,
         })
     }
 

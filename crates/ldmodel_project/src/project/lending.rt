@@ -8,7 +8,7 @@ ghost use Rattle.ldmodel_project.specs.Listing.{objects_of};
 use crate::input::InputObject;
 use crate::project::{Next, Project};
 use crate::view::ProjectView;
-use ldmodel::memory::NoMemory;
+use growth::NoMemory;
 use std::alloc::Global;
 
 impl<'a> Next<'a> {

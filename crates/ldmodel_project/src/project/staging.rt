@@ -1,4 +1,4 @@
-//! Staging an edit: all growths that it needs, before anything changes.
+//! Staging an edit: takes all memory that its commit needs, before anything changes.
 
 ghost use Rattle.std.specs.Prelude.{◌≡◌, ℕ, List, IfOk, None, OnOk, Option};
 ghost use Rattle.ldmodel.specs.EditMeaning.{change_of};
@@ -14,8 +14,8 @@ use crate::edit::{object_refused, script_refused};
 use crate::project::Project;
 use crate::staged::{Staged, StagedObjects};
 use elfobj::Object;
+use growth::NoMemory;
 use ldmodel::edit::{Edit, EditRefusal};
-use ldmodel::memory::NoMemory;
 use ldmodel::meter::Meter;
 use ldscript::Script;
 
@@ -33,7 +33,7 @@ fn staged(grown: Result<StagedObjects, NoMemory>) -> Result<Staged, EditRefusal>
             objects,
             script: None,
         }),
-        Err(_) => Err(EditRefusal::NoMemory),
+        Err(no_memory) => Err(EditRefusal::NoMemory(no_memory)),
     }
 }
 
@@ -55,7 +55,7 @@ impl Project {
         let place = self.place_to_add(name, at, &bytes)?;
         match Object::read(self.alloc, bytes, meter) {
             Err((_bytes, why)) => Err(object_refused(why)),
-            Ok(object) => staged(self.kept.grow_add(name, place, object)),
+            Ok(object) => staged(self.kept.reserve_add(name, place, object)),
         }
     }
 
@@ -74,7 +74,7 @@ impl Project {
         let place = self.place_to_replace(name, &bytes)?;
         match Object::read(self.alloc, bytes, meter) {
             Err((_bytes, why)) => Err(object_refused(why)),
-            Ok(object) => staged(self.kept.grow_replace(name, place, object)),
+            Ok(object) => staged(self.kept.reserve_replace(name, place, object)),
         }
     }
 
@@ -85,7 +85,7 @@ impl Project {
     {
         match self.place_to_move(name, to) {
             Err(refusal) => Err(refusal),
-            Ok(place) => staged(self.kept.grow_move(place, to as usize)),
+            Ok(place) => staged(self.kept.reserve_move(place, to as usize)),
         }
     }
 
@@ -96,7 +96,7 @@ impl Project {
     {
         match self.place_to_remove(name) {
             Err(refusal) => Err(refusal),
-            Ok(place) => staged(self.kept.grow_remove(place)),
+            Ok(place) => staged(self.kept.reserve_remove(place)),
         }
     }
 
@@ -105,12 +105,12 @@ impl Project {
         ensures made { MakesScript self.now script result }
         ensures unedited { IfOk result (λ s. edited_key s.objects.step ≡ None) }
     {
-        match self.kept.grow_same() {
+        match self.kept.reserve_same() {
             Ok(objects) => Ok(Staged {
                 objects,
                 script: Some(script),
             }),
-            Err(_) => Err(EditRefusal::NoMemory),
+            Err(no_memory) => Err(EditRefusal::NoMemory(no_memory)),
         }
     }
 

@@ -459,7 +459,7 @@ fn find_explanation(
             return Ok(entries(bytes, refusal));
         }
         ObjectRefusal::FieldOverlap => return overlap(alloc, bytes),
-        ObjectRefusal::NoMemory => return Ok(None),
+        ObjectRefusal::NoMemory(_) => return Ok(None),
     };
     Ok(Some(Explanation {
         subject: Subject::Header,

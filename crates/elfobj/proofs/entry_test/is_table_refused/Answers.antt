@@ -1,8 +1,5 @@
-use Rattle.std.proofs.Common.{◌≡◌, ◌+◌, ◌-◌, ◌*◌, ◌∙◌, false, ap, refl, subst, sym, arith, ⊎_elim}
-use Rattle.std.proofs.lemmas.Bool.{cases_lt}
-use Rattle.std.proofs.lemmas.List.{length-set}
-use Rattle.elfobj_file.specs.RelocationEntries.{relocation_entry_at}
-use Rattle.elfobj.specs.Runs.{is_refused_for}
+use Rattle.elfobj.proofs.Common.{ap, arith, cases_lt, false, is_refused_for, length-set, refl, relocation_entry_at}
+use Rattle.elfobj.proofs.Common.{subst, sym, ⊎_elim, ◌*◌, ◌+◌, ◌-◌, ◌∙◌, ◌≡◌}
 use Rattle.elfobj.proofs.EntryTests.{none_refused, passed_more}
 use Rattle.elfobj.proofs.RelocationReads.{found_entry}
 use Rattle.elfobj.proofs.entry_test.is_table_refused.Goals as goal

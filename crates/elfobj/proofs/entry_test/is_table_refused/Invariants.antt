@@ -1,7 +1,5 @@
-use Rattle.std.proofs.Common.{◌≡◌, ◌-◌, ℕ, ◌≤◌, ◌<◌, ◌+◌, ◌*◌, false, length}
-use Rattle.elfobj.specs.EntryTests.{HavePassed}
-use Rattle.elfobj_file.specs.RelocationEntries.{relocation_entry_at}
-use Rattle.elfobj.specs.Runs.{is_refused_for}
+use Rattle.elfobj.proofs.Common.{HavePassed, false, is_refused_for, length, relocation_entry_at, ℕ, ◌*◌, ◌+◌, ◌-◌, ◌<◌}
+use Rattle.elfobj.proofs.Common.{◌≡◌, ◌≤◌}
 use Rattle.elfobj.proofs.entry_test.is_table_refused.Given as goal
 
 abbrev pub invariant-loop-at : goal.invariant-loop-at

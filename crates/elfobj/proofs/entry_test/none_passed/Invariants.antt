@@ -1,4 +1,4 @@
-use Rattle.std.proofs.Common.{◌≡◌, ℕ, ◌<◌, get_or, length}
+use Rattle.elfobj.proofs.Common.{get_or, length, ℕ, ◌<◌, ◌≡◌}
 use Rattle.elfobj.proofs.entry_test.none_passed.Given as goal
 
 abbrev pub invariant-loop-entry : goal.invariant-loop-entry

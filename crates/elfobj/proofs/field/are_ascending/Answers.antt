@@ -1,7 +1,5 @@
-use Rattle.std.proofs.Common.{◌≤◌, ◌≡◌, length, subst, arith}
-use Rattle.std.specs.List.{AllAdjacentBelow}
+use Rattle.elfobj.proofs.Common.{AllAdjacentBelow, Relocation, arith, length, subst, ◌≡◌, ◌≤◌}
 use Rattle.std.proofs.lemmas.List.Sorted.{IsNonDecreasingBy-from_all_adjacent}
-use Rattle.elfobj_file.specs.declared.relocation.Relocation.{Relocation}
 use Rattle.elfobj.proofs.field.are_ascending.Goals as goal
 
 pub returns : goal.returns

@@ -1,6 +1,4 @@
-use Rattle.std.proofs.Common.{◌≡◌, ◌<◌, ◌≤◌, ◌-◌, get_or}
-use Rattle.std.specs.List.{AllAdjacentBelow}
-use Rattle.elfobj_file.specs.declared.relocation.Relocation.{Relocation}
+use Rattle.elfobj.proofs.Common.{AllAdjacentBelow, Relocation, get_or, ◌-◌, ◌<◌, ◌≡◌, ◌≤◌}
 use Rattle.elfobj.proofs.field.are_ascending.Given as goal
 
 abbrev pub invariant-loop-relocation : goal.invariant-loop-relocation

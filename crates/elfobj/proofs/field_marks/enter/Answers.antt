@@ -1,5 +1,4 @@
-use Rattle.std.proofs.Common.{◌≤◌, get_or, length, subst, sym, arith}
-use Rattle.elfobj_file.specs.Relocations.{field_end}
+use Rattle.elfobj.proofs.Common.{arith, field_end, get_or, length, subst, sym, ◌≤◌}
 use Rattle.elfobj.proofs.FieldMarks.{no_relocation, window_more, window_shared}
 use Rattle.elfobj.proofs.field_marks.enter.Goals as goal
 

@@ -1,5 +1,4 @@
-use Rattle.std.proofs.Common.{◌≡◌, ◌≤◌, length}
-use Rattle.elfobj.specs.FieldMarks.{IsWindow}
+use Rattle.elfobj.proofs.Common.{IsWindow, length, ◌≡◌, ◌≤◌}
 use Rattle.elfobj.proofs.field_marks.enter.Given as goal
 
 abbrev pub invariant-loop-at : goal.invariant-loop-at

@@ -1,6 +1,4 @@
-use Rattle.std.proofs.Common.{get_or, refl, sym, arith}
-use Rattle.elfobj.specs.PartSpans.{relocations_in}
-use Rattle.elfobj_file.specs.Relocations.{share_bytes}
+use Rattle.elfobj.proofs.Common.{arith, get_or, refl, relocations_in, share_bytes, sym}
 use Rattle.elfobj.proofs.FieldMarks.{no_span, none_met, starts_up, window_apart, window_from, window_none}
 use Rattle.elfobj.proofs.RelocationReads.{found_mapped, none_more}
 use Rattle.elfobj.proofs.field_marks.is_any_met.Goals as goal

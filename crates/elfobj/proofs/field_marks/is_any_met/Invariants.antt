@@ -1,9 +1,5 @@
-use Rattle.std.proofs.Common.{◌≡◌, ℕ, ◌≤◌, ◌<◌, false, get_or, length, map, take}
-use Rattle.std.specs.List.{list_any}
-use Rattle.elfobj.specs.FieldMarks.{IsWindow}
-use Rattle.elfobj.specs.PartSpans.{relocations_in}
-use Rattle.elfobj_file.specs.Relocations.{share_bytes}
-use Rattle.elfobj_file.specs.declared.span.Span.{Span}
+use Rattle.elfobj.proofs.Common.{IsWindow, Span, false, get_or, length, list_any, map, relocations_in, share_bytes}
+use Rattle.elfobj.proofs.Common.{take, ℕ, ◌<◌, ◌≡◌, ◌≤◌}
 use Rattle.elfobj.proofs.field_marks.is_any_met.Given as goal
 
 abbrev pub invariant-loop-span : goal.invariant-loop-span

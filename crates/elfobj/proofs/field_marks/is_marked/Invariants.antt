@@ -1,4 +1,4 @@
-use Rattle.std.proofs.Common.{◌≡◌, ℕ, ◌≤◌, ◌<◌, false, get_or}
+use Rattle.elfobj.proofs.Common.{false, get_or, ℕ, ◌<◌, ◌≡◌, ◌≤◌}
 use Rattle.elfobj.proofs.field_marks.is_marked.Given as goal
 
 abbrev pub invariant-loop-at : goal.invariant-loop-at

@@ -1,4 +1,4 @@
-use Rattle.std.proofs.Common.{arith}
+use Rattle.elfobj.proofs.Common.{arith}
 use Rattle.elfobj.proofs.FieldMarks.{no_relocation, window_left}
 use Rattle.elfobj.proofs.field_marks.leave.Goals as goal
 

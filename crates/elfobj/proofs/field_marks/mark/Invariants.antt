@@ -1,4 +1,4 @@
-use Rattle.std.proofs.Common.{◌≡◌, ℕ, ◌≤◌, ◌<◌, ◌⊎◌, false, get_or, length}
+use Rattle.elfobj.proofs.Common.{false, get_or, length, ℕ, ◌<◌, ◌≡◌, ◌≤◌, ◌⊎◌}
 use Rattle.elfobj.proofs.field_marks.mark.Given as goal
 
 abbrev pub invariant-loop-at : goal.invariant-loop-at

@@ -1,9 +1,5 @@
-use Rattle.std.proofs.Common.{◌≡◌, ◌<◌, sym, ◌∙◌, subst, arith, rules, get_or}
-use Rattle.elfobj_file.specs.ElfHeader.{e_shnum}
-use Rattle.elfobj.specs.PartSpans.{AreRead}
-use Rattle.elfobj_file.specs.Sections.{sections_of, sections_below}
-use Rattle.elfobj_file.specs.SectionHeaders.{null_header}
-use Rattle.elfobj_file.proofs.Headers.{header_of, count_of}
+use Rattle.elfobj.proofs.Common.{AreRead, arith, count_of, e_shnum, get_or, header_of, null_header, rules}
+use Rattle.elfobj.proofs.Common.{sections_below, sections_of, subst, sym, ◌<◌, ◌∙◌, ◌≡◌}
 use Rattle.elfobj.proofs.Steps.{linkable, read_more, read_same}
 use Rattle.elfobj.proofs.linked.linked_sections.Goals as goal
 use Rattle.elfobj.proofs.linked.linked_sections.Goals.{in-Some+in_ok-push, in_default}

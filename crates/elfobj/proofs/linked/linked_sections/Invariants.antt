@@ -1,5 +1,4 @@
-use Rattle.elfobj.specs.PartSpans.{AreRead}
-use Rattle.elfobj_file.specs.Sections.{sections_below}
+use Rattle.elfobj.proofs.Common.{AreRead, sections_below}
 use Rattle.elfobj.proofs.linked.linked_sections.Given as goal
 
 abbrev pub invariant-loop-number : goal.invariant-loop-number

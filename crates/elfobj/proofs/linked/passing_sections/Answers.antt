@@ -1,11 +1,6 @@
-use Rattle.std.proofs.Common.{◌≡◌, ◌<◌, [], sym, ◌∙◌, ap, subst, arith, false, rules, get_or, unwrap_or}
-use Rattle.elfobj_file.specs.ElfHeader.{e_shnum}
-use Rattle.elfobj_file.specs.Names.{string_at}
-use Rattle.elfobj_file.specs.Refusal.{is_outside_profile}
-use Rattle.elfobj_file.specs.SectionHeaders.{header, null_header}
-use Rattle.elfobj_file.specs.Sections.{sections_below, sections_of}
-use Rattle.elfobj_file.proofs.Headers.{count_of, header_of}
-use Rattle.elfobj.specs.PartSpans.{AreRead}
+use Rattle.elfobj.proofs.Common.{AreRead, [], ap, arith, count_of, e_shnum, false, get_or, header, header_of}
+use Rattle.elfobj.proofs.Common.{is_outside_profile, null_header, rules, sections_below, sections_of, string_at, subst}
+use Rattle.elfobj.proofs.Common.{sym, unwrap_or, ◌<◌, ◌∙◌, ◌≡◌}
 use Rattle.elfobj.proofs.PassingSections.{below_more, linked_within, names_are, not_linked, not_outside, profile_passes}
 use Rattle.elfobj.proofs.PassingSections.{right_by}
 use Rattle.elfobj.proofs.Steps.{read_more, read_same}

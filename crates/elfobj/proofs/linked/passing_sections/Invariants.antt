@@ -1,8 +1,4 @@
-use Rattle.std.proofs.Common.{◌≡◌, ℕ, ◌<◌, false}
-use Rattle.elfobj.specs.PartSpans.{AreRead}
-use Rattle.elfobj_file.specs.Refusal.{is_outside_profile}
-use Rattle.elfobj_file.specs.SectionHeaders.{header}
-use Rattle.elfobj_file.specs.Sections.{sections_below}
+use Rattle.elfobj.proofs.Common.{AreRead, false, header, is_outside_profile, sections_below, ℕ, ◌<◌, ◌≡◌}
 use Rattle.elfobj.proofs.linked.passing_sections.Given as goal
 
 abbrev pub invariant-loop-number : goal.invariant-loop-number

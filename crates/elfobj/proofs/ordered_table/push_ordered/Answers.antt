@@ -1,5 +1,4 @@
-use Rattle.std.proofs.Common.{◌∙◌, ◌++◌, ◌∷◌, [], ap, arith, refl, sym}
-use Rattle.std.proofs.lemmas.List.{append-nil, append_assoc}
+use Rattle.elfobj.proofs.Common.{[], ap, append-nil, append_assoc, arith, refl, sym, ◌++◌, ◌∙◌, ◌∷◌}
 use Rattle.elfobj.proofs.OrderedTables.{apart_more, decoded_more, ends_more, none_share, passes_more}
 use Rattle.elfobj.proofs.ordered_table.push_ordered.Goals as goal
 

@@ -1,10 +1,5 @@
-use Rattle.std.proofs.Common.{◌≡◌, ◌≤◌, ◌++◌, false, map}
-use Rattle.std.specs.List.{All, list_any}
-use Rattle.elfobj_file.specs.RelocationEntries.{relocation_entries_below}
-use Rattle.elfobj_file.specs.Relocations.{field_end, relocation_of, share_bytes}
-use Rattle.elfobj_file.specs.declared.relocation.Relocation.{Relocation}
-use Rattle.elfobj.specs.Runs.{is_refused_for}
-use Rattle.elfobj.specs.declared.relocation_fault.EntryFault.TheVariants.{Any}
+use Rattle.elfobj.proofs.Common.{All, Any, Relocation, false, field_end, is_refused_for, list_any, map}
+use Rattle.elfobj.proofs.Common.{relocation_entries_below, relocation_of, share_bytes, ◌++◌, ◌≡◌, ◌≤◌}
 use Rattle.elfobj.proofs.ordered_table.push_ordered.Given as goal
 
 abbrev pub invariant-loop-k : goal.invariant-loop-k

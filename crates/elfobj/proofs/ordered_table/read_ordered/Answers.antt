@@ -1,9 +1,5 @@
-use Rattle.std.proofs.Common.{◌≡◌, false, arith, map}
-use Rattle.std.specs.List.{list_any}
-use Rattle.std.proofs.lemmas.List.Elements.{All-more}
-use Rattle.elfobj_file.specs.Relocations.{relocation_of, share_bytes}
-use Rattle.elfobj.specs.Runs.{is_refused_for, table_entries}
-use Rattle.elfobj.specs.declared.relocation_fault.EntryFault.TheVariants.{Any}
+use Rattle.elfobj.proofs.Common.{All-more, Any, arith, false, is_refused_for, list_any, map, relocation_of, share_bytes}
+use Rattle.elfobj.proofs.Common.{table_entries, ◌≡◌}
 use Rattle.elfobj.specs.declared.relocation_run.SectionTable.{SectionTable}
 use Rattle.elfobj.proofs.OrderedTables.{apart_all, passed_all, tables_more}
 use Rattle.elfobj.proofs.Runs.{no_table, relocated_by, spans_all}
@@ -14,7 +10,7 @@ loop-table-preserved c =
     let i = c.loop-table.table-index in
     record {
       read = tables_more c.args.bytes.now c.loop-table.all.items c.push_ordered.new.all.items c.args.tables.now i
-          no_table c.loop-table.spans.items c.push.new.self.items _ c.loop-table-test.true
+          no_table c.loop-table.spans.items c.push.new.list.items _ c.loop-table-test.true
           (c.in_ok-push_ordered.ensures.read c.if-not-branch.false)
           (omega (arith, c.len-start.ensures, c.loop-table.all.ok.0))
           (omega (arith, c.len-end.ensures, c.push_ordered.new.all.ok.0)) c.in_ok-push.ensures.items

@@ -1,9 +1,5 @@
-use Rattle.std.proofs.Common.{◌≡◌, false, map, take}
-use Rattle.std.specs.List.{All, list_any}
-use Rattle.elfobj_file.specs.Relocations.{relocation_of, share_bytes}
-use Rattle.elfobj.specs.PartSpans.{AreRelocated}
-use Rattle.elfobj.specs.Runs.{is_refused_for, table_entries}
-use Rattle.elfobj.specs.declared.relocation_fault.EntryFault.TheVariants.{Any}
+use Rattle.elfobj.proofs.Common.{All, Any, AreRelocated, false, is_refused_for, list_any, map, relocation_of}
+use Rattle.elfobj.proofs.Common.{share_bytes, table_entries, take, ◌≡◌}
 use Rattle.elfobj.specs.declared.relocation_run.SectionTable.{SectionTable}
 use Rattle.elfobj.proofs.ordered_table.read_ordered.Given as goal
 

@@ -1,7 +1,4 @@
-use Rattle.std.proofs.Common.{◌≡◌, ◌<◌, ap, arith, length, refl, sym, ◌∙◌}
-use Rattle.std.proofs.lemmas.List.{length-map}
-use Rattle.elfobj_file.specs.declared.span.Span.{Span}
-use Rattle.elfobj.specs.declared.part_spans.PartSpans.{PartSpans}
+use Rattle.elfobj.proofs.Common.{PartSpans, Span, ap, arith, length, length-map, refl, sym, ◌<◌, ◌∙◌, ◌≡◌}
 use Rattle.elfobj.proofs.Placed.{part_kept, part_more}
 use Rattle.elfobj.proofs.part_spans.set_relocation_ranges.Goals as goal
 

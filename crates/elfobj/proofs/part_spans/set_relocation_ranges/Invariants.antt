@@ -1,5 +1,4 @@
-use Rattle.std.proofs.Common.{◌≡◌, map, take}
-use Rattle.elfobj.specs.declared.part_spans.PartSpans.{PartSpans}
+use Rattle.elfobj.proofs.Common.{PartSpans, map, take, ◌≡◌}
 use Rattle.elfobj.proofs.part_spans.set_relocation_ranges.Given as goal
 
 abbrev pub invariant-loop-at : goal.invariant-loop-at

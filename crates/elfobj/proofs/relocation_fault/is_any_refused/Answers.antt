@@ -1,4 +1,4 @@
-use Rattle.std.proofs.Common.{arith}
+use Rattle.elfobj.proofs.Common.{arith}
 use Rattle.elfobj.proofs.EntryTests.{none_of_classes}
 use Rattle.elfobj.proofs.relocation_fault.is_any_refused.Goals as goal
 

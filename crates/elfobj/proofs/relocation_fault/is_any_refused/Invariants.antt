@@ -1,6 +1,4 @@
-use Rattle.std.proofs.Common.{ℕ, ◌<◌}
-use Rattle.std.specs.List.{All}
-use Rattle.elfobj.specs.EntryTests.{PassesIn}
+use Rattle.elfobj.proofs.Common.{All, PassesIn, ℕ, ◌<◌}
 use Rattle.elfobj.proofs.relocation_fault.is_any_refused.Given as goal
 
 abbrev pub invariant-loop-class : goal.invariant-loop-class

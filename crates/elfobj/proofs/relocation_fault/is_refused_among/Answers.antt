@@ -1,8 +1,5 @@
-use Rattle.std.proofs.Common.{◌∙◌, ap, get_or, refl, sym, arith}
-use Rattle.std.specs.List.{list_any}
-use Rattle.std.proofs.lemmas.List.Elements.{All-more}
-use Rattle.elfobj.specs.EntryTests.{PassesIn}
-use Rattle.elfobj.specs.Runs.{has_refused_entry, is_refused_for}
+use Rattle.elfobj.proofs.Common.{All-more, PassesIn, ap, arith, get_or, has_refused_entry, is_refused_for, list_any}
+use Rattle.elfobj.proofs.Common.{refl, sym, ◌∙◌}
 use Rattle.elfobj.specs.declared.relocation_run.SectionTable.{SectionTable}
 use Rattle.elfobj.proofs.EntryTests.{ends_up, passed_larger, passed_none, passes_all}
 use Rattle.elfobj.proofs.RelocationReads.{found_mapped}

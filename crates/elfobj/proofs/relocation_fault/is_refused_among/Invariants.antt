@@ -1,6 +1,4 @@
-use Rattle.std.proofs.Common.{◌≡◌, ℕ, ◌≤◌, ◌<◌, get_or, length, take}
-use Rattle.std.specs.List.{All}
-use Rattle.elfobj.specs.EntryTests.{HavePassed, PassesIn}
+use Rattle.elfobj.proofs.Common.{All, HavePassed, PassesIn, get_or, length, take, ℕ, ◌<◌, ◌≡◌, ◌≤◌}
 use Rattle.elfobj.specs.declared.relocation_run.SectionTable.{SectionTable}
 use Rattle.elfobj.proofs.relocation_fault.is_refused_among.Given as goal
 

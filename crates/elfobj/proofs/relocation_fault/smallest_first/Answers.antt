@@ -1,6 +1,4 @@
-use Rattle.std.proofs.Common.{rules}
-use Rattle.std.proofs.lemmas.List.Sorted.{IsNonDecreasingBy-from_sort_by_key}
-use Rattle.elfobj.specs.EntryTests.{field_ends}
+use Rattle.elfobj.proofs.Common.{IsNonDecreasingBy-from_sort_by_key, field_ends, rules}
 use Rattle.elfobj.specs.declared.relocation_run.SectionTable.{SectionTable}
 use Rattle.elfobj.proofs.relocation_fault.smallest_first.Goals as goal
 

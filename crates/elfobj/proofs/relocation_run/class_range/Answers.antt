@@ -1,5 +1,4 @@
-use Rattle.std.proofs.Common.{get_or, arith}
-use Rattle.std.proofs.Math.Nat.{div-add-mod}
+use Rattle.elfobj.proofs.Common.{arith, div-add-mod, get_or}
 use Rattle.elfobj.proofs.Runs.{cover_all, cover_more, cover_weaker, no_table}
 use Rattle.elfobj.proofs.relocation_run.class_range.Goals as goal
 use Rattle.elfobj.proofs.relocation_run.class_range.Goals.{then-table-gt0+then-table-class, else-table-gt0}

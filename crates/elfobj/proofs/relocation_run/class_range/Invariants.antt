@@ -1,5 +1,4 @@
-use Rattle.std.proofs.Common.{◌≤◌, ◌+◌, ◌*◌, take}
-use Rattle.std.specs.List.{All}
+use Rattle.elfobj.proofs.Common.{All, take, ◌*◌, ◌+◌, ◌≤◌}
 use Rattle.elfobj.specs.Runs.{IsCovered}
 use Rattle.elfobj.proofs.relocation_run.class_range.Given as goal
 

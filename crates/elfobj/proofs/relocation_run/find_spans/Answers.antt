@@ -1,4 +1,4 @@
-use Rattle.std.proofs.Common.{ℕ, ◌%◌, get_or, mod-lt, refl, arith}
+use Rattle.elfobj.proofs.Common.{arith, get_or, mod-lt, refl, ℕ, ◌%◌}
 use Rattle.elfobj.proofs.Runs.{no_run, no_table, span_none, span_some, spans_more}
 use Rattle.elfobj.proofs.relocation_run.find_spans.Goals as goal
 use Rattle.elfobj.proofs.relocation_run.find_spans.Goals.{then-table-eq0, else-table-eq0}
@@ -6,7 +6,7 @@ use Rattle.elfobj.proofs.relocation_run.find_spans.Goals.{then-table-eq0, else-t
 pub loop-table-preserved : goal.loop-table-preserved
 loop-table-preserved c =
     spans_more c.args.bytes.now c.args.all.now c.args.tables.now c.loop-table.table-index no_table
-    c.loop-table.spans.items c.push.new.self.items c.if-table-eq0.span c.loop-table-test.true
+    c.loop-table.spans.items c.push.new.list.items c.if-table-eq0.span c.loop-table-test.true
     (elim c.if-table-eq0.branch [
       | then-table-eq0 w ↦ rw w.span-is
           (span_none c.args.bytes.now c.args.all.now

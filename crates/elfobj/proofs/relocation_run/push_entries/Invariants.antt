@@ -1,6 +1,4 @@
-use Rattle.std.proofs.Common.{◌≡◌, ◌++◌, map}
-use Rattle.elfobj_file.specs.RelocationEntries.{relocation_entries_below}
-use Rattle.elfobj_file.specs.Relocations.{relocation_of}
+use Rattle.elfobj.proofs.Common.{map, relocation_entries_below, relocation_of, ◌++◌, ◌≡◌}
 use Rattle.elfobj.proofs.relocation_run.push_entries.Given as goal
 
 abbrev pub invariant-loop-k : goal.invariant-loop-k

@@ -1,7 +1,4 @@
-use Rattle.std.proofs.Common.{map, subst}
-use Rattle.elfobj.specs.PartSpans.{AreRelocated}
-use Rattle.elfobj_file.specs.Relocations.{relocation_of}
-use Rattle.elfobj.specs.Runs.{table_entries}
+use Rattle.elfobj.proofs.Common.{AreRelocated, map, relocation_of, subst, table_entries}
 use Rattle.elfobj.specs.declared.relocation_run.SectionTable.{SectionTable}
 use Rattle.elfobj.proofs.Runs.{relocated_by}
 use Rattle.elfobj.proofs.relocation_run.read_tables.Goals as goal

@@ -1,10 +1,6 @@
-use Rattle.std.proofs.Common.{◌≡◌, ◌∙◌, sym, ap, arith, get_or, inr, refl, length, false, true}
-use Rattle.std.proofs.lemmas.List.{take_at}
-use Rattle.elfobj_file.specs.ElfHeader.{e_shnum}
+use Rattle.elfobj.proofs.Common.{ap, arith, count_of, e_shnum, false, get_or, header_of, headers, headers_length, inr}
+use Rattle.elfobj.proofs.Common.{length, null_header, refl, sym, symbol_table_number, take_at, true, ◌∙◌, ◌≡◌}
 use Rattle.elfobj.specs.Reading.{entered}
-use Rattle.elfobj_file.specs.SectionHeaders.{headers, null_header}
-use Rattle.elfobj_file.specs.Symbols.{symbol_table_number}
-use Rattle.elfobj_file.proofs.Headers.{count_of, header_of, headers_length}
 use Rattle.elfobj.proofs.RelocationTables.{after_told, changed_below, right_more, right_same, tables_all, tables_more}
 use Rattle.elfobj.proofs.RelocationTables.{tables_none, tables_same, wrong_found}
 use Rattle.elfobj.proofs.relocation_table.changing_tables.Goals as goal

@@ -1,4 +1,4 @@
-use Rattle.std.proofs.Common.{◌≡◌, false}
+use Rattle.elfobj.proofs.Common.{false, ◌≡◌}
 use Rattle.elfobj.specs.Reading.{AreTablesBelow}
 use Rattle.elfobj_file.specs.Tables.{is_wrong_below}
 use Rattle.elfobj.proofs.relocation_table.changing_tables.Given as goal

@@ -1,4 +1,4 @@
-use Rattle.std.proofs.Common.{◌∙◌, refl, sym}
+use Rattle.elfobj.proofs.Common.{refl, sym, ◌∙◌}
 use Rattle.elfobj.proofs.RelocationReads.{any_passes, any_sorted, bounds_holds, first_bounds, first_kind, first_none}
 use Rattle.elfobj.proofs.RelocationReads.{first_symbol, kind_holds, sorted_tables, symbol_holds}
 use Rattle.elfobj.proofs.relocation_table.entry_refusal.Goals as goal

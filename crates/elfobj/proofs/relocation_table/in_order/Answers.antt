@@ -1,6 +1,4 @@
-use Rattle.std.proofs.Common.{rules}
-use Rattle.std.proofs.lemmas.List.Sorted.{IsNonDecreasingBy-from_sort_by_key}
-use Rattle.elfobj_file.specs.declared.span.Span.{Span}
+use Rattle.elfobj.proofs.Common.{IsNonDecreasingBy-from_sort_by_key, Span, rules}
 use Rattle.elfobj.proofs.relocation_table.in_order.Goals as goal
 
 pub returns-clause-order : goal.returns-clause-order

@@ -1,6 +1,4 @@
-use Rattle.std.proofs.Common.{length}
-use Rattle.elfobj.specs.FieldMarks.{AreBelow}
-use Rattle.elfobj_file.specs.Spans.{IsInside}
+use Rattle.elfobj.proofs.Common.{AreBelow, IsInside, length}
 use Rattle.elfobj.proofs.FieldsBelow.{spans_sorted, told_sorted}
 use Rattle.elfobj.proofs.relocation_table.is_any_overlap.Goals as goal
 

@@ -1,5 +1,4 @@
-use Rattle.std.proofs.Common.{◌<◌, ◌≤◌, take}
-use Rattle.std.specs.List.{All}
+use Rattle.elfobj.proofs.Common.{All, take, ◌<◌, ◌≤◌}
 use Rattle.elfobj.specs.declared.relocation_run.SectionTable.{SectionTable}
 use Rattle.elfobj.proofs.relocation_table.largest_size.Given as goal
 

@@ -1,4 +1,4 @@
-use Rattle.std.proofs.Common.{◌≡◌, None, replicate}
+use Rattle.elfobj.proofs.Common.{None, replicate, ◌≡◌}
 use Rattle.elfobj.proofs.relocation_table.no_tables.Given as goal
 
 abbrev pub invariant-loop : goal.invariant-loop

@@ -1,4 +1,4 @@
-use Rattle.std.proofs.Common.{◌∙◌, refl, sym, inr}
+use Rattle.elfobj.proofs.Common.{inr, refl, sym, ◌∙◌}
 use Rattle.elfobj.proofs.FieldsBelow.{fields_below}
 use Rattle.elfobj_file.specs.Tables.{linked_sections}
 use Rattle.elfobj.proofs.RelocationReads.{none_refused, overlap_holds, overlap_refused, relocated_all, sections_same}

@@ -1,6 +1,5 @@
-use Rattle.std.proofs.Common.{arith, get_or}
+use Rattle.elfobj.proofs.Common.{Progbits, arith, get_or}
 use Rattle.elfobj_file.specs.declared.section.Section.{Section}
-use Rattle.elfobj_file.specs.declared.section.SectionKind.TheVariants.{Progbits}
 use Rattle.elfobj.proofs.RelocationReads.{number_below, table_told, tables_of_more}
 use Rattle.elfobj.proofs.relocation_table.section_tables.Goals as goal
 
@@ -26,7 +25,7 @@ section_table-requires c =
 pub loop-section-preserved : goal.loop-section-preserved
 loop-section-preserved c =
     tables_of_more c.args.bytes.now c.args.sections.now c.loop-section.section-index no_section c.loop-section.own.items
-    c.push.new.self.items c.section_table.result _ c.loop-section-test.true
+    c.push.new.list.items c.section_table.result _ c.loop-section-test.true
     c.section_table.ensures.section
     (c.requires.tables.each (get_or c.args.sections.now c.loop-section.section-index no_section).number.0
     (number_below c.args.bytes.now c.args.sections.now c.loop-section.section-index no_section c.requires.sections

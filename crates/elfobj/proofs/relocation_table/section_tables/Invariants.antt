@@ -1,5 +1,4 @@
-use Rattle.std.proofs.Common.{take}
-use Rattle.elfobj.specs.Runs.{AreTablesOf}
+use Rattle.elfobj.proofs.Common.{AreTablesOf, take}
 use Rattle.elfobj.proofs.relocation_table.section_tables.Given as goal
 
 abbrev pub invariant-loop-section : goal.invariant-loop-section

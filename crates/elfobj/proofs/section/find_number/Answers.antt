@@ -1,4 +1,4 @@
-use Rattle.std.proofs.Common.{rules}
+use Rattle.elfobj.proofs.Common.{rules}
 use Rattle.std.proofs.lemmas.List.Sorted.{answers_always}
 use Rattle.elfobj_file.specs.declared.section.Section.{Section}
 use Rattle.elfobj.proofs.Ascending.{found_at, found_none}

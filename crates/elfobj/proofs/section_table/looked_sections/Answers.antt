@@ -1,4 +1,4 @@
-use Rattle.std.proofs.Common.{◌∙◌, inr, refl, false, true}
+use Rattle.elfobj.proofs.Common.{false, inr, refl, true, ◌∙◌}
 use Rattle.elfobj.proofs.Refusals.{profile_told}
 use Rattle.elfobj.proofs.section_table.looked_sections.Goals as goal
 

@@ -1,10 +1,10 @@
-use Rattle.std.proofs.Common.{◌≡◌, ◌⊎◌, ◌++◌, ◌∙◌, sym, inr, find, Some, None}
+use Rattle.elfobj.proofs.Common.{NoMemory, None, Some, find, header_refusals, holds, inr, object_refusal}
+use Rattle.elfobj.proofs.Common.{relocation_refusals, sym, symbol_refusals, ◌++◌, ◌∙◌, ◌≡◌, ◌⊎◌}
 use Rattle.std.proofs.lemmas.Result.{IfErr-weaker, IfOk-weaker, err_from_is_err_and}
-use Rattle.elfobj_file.specs.Refusal.{header_refusals, holds, object_refusal, relocation_refusals, symbol_refusals}
-use Rattle.elfobj_file.specs.declared.refusal.ObjectRefusal.TheVariants.{NoMemory}
 use Rattle.elfobj.proofs.Refusals.{no_memory_found, bounds_refused, refused_by_header, refused_by_sections}
 use Rattle.elfobj.proofs.Refusals.{refused_by_tables, sections_told, tables_told}
 use Rattle.elfobj.proofs.section_table.read_parts.Goals as goal
+use Rattle.growth.specs.Memory.{no_memory}
 
 pub returns-in-Some-clause-refused : goal.returns-in-Some-clause-refused
 returns-in-Some-clause-refused c =
@@ -48,8 +48,8 @@ returns-clause-ok c =
 pub returns-clause-refused : goal.returns-clause-refused
 returns-clause-refused c =
     IfErr-weaker c.read_tables.result
-    (λ e. (e ≡ NoMemory) ⊎ (find (holds c.args.bytes.now) (symbol_refusals ++ relocation_refusals) ≡ Some e))
-    (λ e. (e ≡ NoMemory) ⊎ (object_refusal c.args.bytes.now ≡ Some e))
+    (λ e. (e ≡ NoMemory no_memory) ⊎ (find (holds c.args.bytes.now) (symbol_refusals ++ relocation_refusals) ≡ Some e))
+    (λ e. (e ≡ NoMemory no_memory) ⊎ (object_refusal c.args.bytes.now ≡ Some e))
     (λ e h. tables_told c.args.bytes.now e (sym c.header_refusal.ensures.value ∙ c.in_default.is)
     (record {
       bounds = sym c.has_wrong_bounds.ensures.value ∙ c.if-has_wrong_bounds.false;

@@ -1,5 +1,4 @@
-use Rattle.std.proofs.Common.{◌∙◌}
-use Rattle.std.proofs.lemmas.List.{take_at}
+use Rattle.elfobj.proofs.Common.{take_at, ◌∙◌}
 use Rattle.elfobj.proofs.Placed.{parts_placed}
 use Rattle.elfobj.proofs.section_table.read_tables.Goals as goal
 

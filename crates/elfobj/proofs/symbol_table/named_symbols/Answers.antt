@@ -1,6 +1,4 @@
-use Rattle.std.proofs.Common.{◌-◌, length, take, drop}
-use Rattle.elfobj_file.specs.TableOf.{table_of}
-use Rattle.elfobj_file.specs.declared.symbol_entry.SymbolEntry.{SymbolEntry}
+use Rattle.elfobj.proofs.Common.{SymbolEntry, drop, length, table_of, take, ◌-◌}
 use Rattle.elfobj.proofs.SymbolTables.{named_more}
 use Rattle.elfobj.proofs.symbol_table.named_symbols.Goals as goal
 

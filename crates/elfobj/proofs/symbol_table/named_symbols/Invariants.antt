@@ -1,7 +1,4 @@
-use Rattle.std.proofs.Common.{◌∷◌, map, take}
-use Rattle.elfobj.specs.PartSpans.{AreNamed}
-use Rattle.elfobj_file.specs.TableOf.{table_of}
-use Rattle.elfobj_file.specs.Symbols.{named_symbol, null_symbol}
+use Rattle.elfobj.proofs.Common.{AreNamed, map, named_symbol, null_symbol, table_of, take, ◌∷◌}
 use Rattle.elfobj.proofs.symbol_table.named_symbols.Given as goal
 
 abbrev pub invariant-loop-entry : goal.invariant-loop-entry

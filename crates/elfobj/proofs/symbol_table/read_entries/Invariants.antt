@@ -1,5 +1,4 @@
-use Rattle.std.proofs.Common.{◌≡◌}
-use Rattle.elfobj_file.specs.SymbolEntries.{symbol_entries_below}
+use Rattle.elfobj.proofs.Common.{symbol_entries_below, ◌≡◌}
 use Rattle.elfobj.proofs.symbol_table.read_entries.Given as goal
 
 abbrev pub invariant-loop-k : goal.invariant-loop-k

@@ -1,6 +1,5 @@
-use Rattle.std.proofs.Common.{◌<◌, sym, ◌∙◌, arith, rules, inr, true, false, Some, None, get_or, length, refl}
-use Rattle.elfobj_file.specs.SectionHeaders.{null_header}
-use Rattle.elfobj_file.proofs.Headers.{count_of, header_of}
+use Rattle.elfobj.proofs.Common.{None, Some, arith, count_of, false, get_or, header_of, inr, length, null_header, refl}
+use Rattle.elfobj.proofs.Common.{rules, sym, true, ◌<◌, ◌∙◌}
 use Rattle.elfobj.proofs.OrderedTables.{told}
 use Rattle.elfobj.proofs.PassingSymbols.{passing_none}
 use Rattle.elfobj.proofs.SymbolTables.{named_all, named_none, no_table, right_header, several_told, string_table_below}

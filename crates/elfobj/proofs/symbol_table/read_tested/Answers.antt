@@ -1,7 +1,5 @@
-use Rattle.std.proofs.Common.{◌<◌, sym, ◌∙◌, arith, rules, inr, true, false, get_or, length, refl}
-use Rattle.elfobj_file.specs.SectionHeaders.{null_header}
-use Rattle.elfobj_file.specs.TableOf.{table_of}
-use Rattle.elfobj_file.proofs.Headers.{count_of, header_of}
+use Rattle.elfobj.proofs.Common.{arith, count_of, false, get_or, header_of, inr, length, null_header, refl, rules, sym}
+use Rattle.elfobj.proofs.Common.{table_of, true, ◌<◌, ◌∙◌}
 use Rattle.elfobj.proofs.SymbolTables.{count_told, entry_told, named_all, named_same, names_told, right_header}
 use Rattle.elfobj.proofs.SymbolTables.{right_table, several_told, string_table_below, string_table_type}
 use Rattle.elfobj.proofs.SymbolTables.{strings_in_file, symbol_refused, symbols_pass, table_in_file, table_refused}

@@ -1,6 +1,4 @@
-use Rattle.std.proofs.Common.{◌≡◌, ◌+◌, ◌*◌, ◌∙◌, ap, arith, false, nat_lt, sym}
-use Rattle.elfobj_file.specs.SectionHeaders.{file_bytes}
-use Rattle.elfobj_file.specs.SymbolEntries.{symbol_entry_at}
+use Rattle.elfobj.proofs.Common.{ap, arith, false, file_bytes, nat_lt, sym, symbol_entry_at, ◌*◌, ◌+◌, ◌∙◌, ◌≡◌}
 use Rattle.elfobj_file.specs.Tables.{is_local_entry, is_wrong_symbol}
 use Rattle.elfobj.proofs.PassingSymbols.{each_more, placed_all, right_all, same_by, symbols_more}
 use Rattle.elfobj.proofs.symbols.read_passing.Goals as goal

@@ -1,9 +1,6 @@
-use Rattle.std.proofs.Common.{◌≡◌, ℕ, ◌+◌, ◌*◌, ◌<◌, ◌≤◌, false, nat_lt}
-use Rattle.elfobj_file.specs.SectionHeaders.{file_bytes}
-use Rattle.elfobj_file.specs.SymbolEntries.{symbol_entries_below, symbol_entry_at}
-use Rattle.elfobj_file.specs.Symbols.{symbols_from}
+use Rattle.elfobj.proofs.Common.{AreNamed, false, file_bytes, nat_lt, symbol_entries_below, symbol_entry_at}
+use Rattle.elfobj.proofs.Common.{symbols_from, ℕ, ◌*◌, ◌+◌, ◌<◌, ◌≡◌, ◌≤◌}
 use Rattle.elfobj_file.specs.Tables.{is_local_entry, is_wrong_symbol}
-use Rattle.elfobj.specs.PartSpans.{AreNamed}
 use Rattle.elfobj.proofs.symbols.read_passing.Given as goal
 
 abbrev pub invariant-loop-number : goal.invariant-loop-number

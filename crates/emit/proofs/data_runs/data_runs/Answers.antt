@@ -1,7 +1,5 @@
 -- One output section a step.
-use Rattle.std.proofs.Common.{ap, ◌∙◌, List, map}
-use Rattle.std.specs.Borrow.{Bor}
-use Rattle.std.proofs.lemmas.List.{map-append}
+use Rattle.emit.proofs.Common.{Bor, List, ap, map, map-append, ◌∙◌}
 use Rattle.ldmodel.specs.declared.placed.PlacedData.{PlacedData}
 use Rattle.emit.proofs.Running.{one_pushed}
 use Rattle.emit.proofs.data_runs.data_runs.Goals as goal

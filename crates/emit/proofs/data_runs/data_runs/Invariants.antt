@@ -1,5 +1,5 @@
 -- The output sections so far have theirs, and the others are those of the rest.
-use Rattle.std.proofs.Common.{map}
+use Rattle.emit.proofs.Common.{map}
 use Rattle.emit.proofs.Running.{Runs}
 use Rattle.emit.proofs.data_runs.data_runs.Given as goal
 

@@ -1,6 +1,5 @@
 -- Those so far stand in the output section.
-use Rattle.std.proofs.Common.{◌≡◌, ◌+◌, drop}
-use Rattle.emit.specs.DataRuns.{run_length}
+use Rattle.emit.proofs.Common.{drop, run_length, ◌+◌, ◌≡◌}
 use Rattle.emit.proofs.data_runs.run_length.Given as goal
 
 abbrev pub invariant-loop-k : goal.invariant-loop-k

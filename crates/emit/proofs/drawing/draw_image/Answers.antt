@@ -1,22 +1,15 @@
 -- The output sections are those of the layout.
-use Rattle.std.proofs.Common.{Bool, ap, sym, subst, map}
-use Rattle.std.specs.List.{AllZip}
-use Rattle.std.specs.Prelude.{Option, is_some}
-use Rattle.std.specs.Vec.{vec_items}
-use Rattle.std.proofs.lemmas.Result.{on_ok_weaker}
-use Rattle.ldmodel.specs.Layout.{Layout}
-use Rattle.ldmodel.specs.declared.sections.SectionKey.{SectionKey}
-use Rattle.symres.specs.SymbolTable.{SymbolTableState}
+use Rattle.emit.proofs.Common.{AllZip, Bool, IsJoinedRow, IsOutput, Layout, Option, SectionRef, SymbolTableState, ap}
+use Rattle.emit.proofs.Common.{is_some, map, on_ok_weaker, subst, sym, vec_items}
 use Rattle.emit_relocate.specs.declared.previous_link_info.FileRange.{FileRange}
 use Rattle.emit.proofs.Staying.{all_said, only_said}
 use Rattle.emit.proofs.drawing.draw_image.Goals as goal
 use Rattle.emit.specs.Drawable.{AreOutputs, IsDrawableAt}
-use Rattle.emit.specs.Output.{IsOutput, IsJoinedRow}
 
 pub draw_outputs-requires-clause-outputs : goal.draw_outputs-requires-clause-outputs
 draw_outputs-requires-clause-outputs g c =
-    let p = c.args.project.now in
-    let stays : SectionKey → Bool = λ k. is_some (g.E.PreviousLinkInfo.range c.args.previous.now k) in
+    let p = c.args.sources.now.project.now in
+    let stays : SectionRef → Bool = λ k. is_some (g.E.PreviousLinkInfo.range c.args.sources.now.previous.now k) in
     let r = c.requires.drawable in
     let s = r.layout in
     record {
@@ -36,12 +29,12 @@ draw_outputs-requires-clause-outputs g c =
 
 pub returns : goal.returns
 returns g c =
-    let p = c.args.project.now in
-    let range : SectionKey → Option FileRange = g.E.PreviousLinkInfo.range c.args.previous.now in
-    let stays : SectionKey → Bool = λ k. is_some (range k) in
+    let p = c.args.sources.now.project.now in
+    let range : SectionRef → Option FileRange = g.E.PreviousLinkInfo.range c.args.sources.now.previous.now in
+    let stays : SectionRef → Bool = λ k. is_some (range k) in
     let outputs : (s : Layout) (a : SymbolTableState)
-    → IsDrawableAt p s a c.args.indexed_layout.now c.args.values.now c.args.relocated.now stays
-    → AreOutputs p c.args.indexed_layout.now c.args.values.now s stays c.deref-2.result.now =
+    → IsDrawableAt p s a c.args.sources.now.indexed_layout.now c.args.values.now c.args.sources.now.relocated.now stays
+    → AreOutputs p c.args.sources.now.indexed_layout.now c.args.values.now s stays c.deref-2.result.now =
     λ s a is. record {
       names = a;
       indexed_layout = is.indexed_layout;

@@ -1,13 +1,8 @@
 -- The drawing is that of the link.
-use Rattle.std.proofs.Common.{sym, subst, ◌≤◌, ◌^◌}
-use Rattle.std.proofs.lemmas.Result.{on_ok_weaker}
-use Rattle.ldmodel.specs.Names.{provided}
-use Rattle.ldmodel.specs.Rows.{rows}
-use Rattle.ldmodel.specs.SectionHeaders.{image_length}
+use Rattle.emit.proofs.Common.{ArePartsOf, image_length, on_ok_weaker, provided, rows, subst, sym, ◌^◌, ◌≤◌}
 use Rattle.emit.proofs.Staying.{are_kept, have_stayed, none_stays}
 use Rattle.emit.proofs.Whole.{drawing_joined, drawing_of, ends_in, whole, whole_stands}
 use Rattle.emit.proofs.drawing.draw_outputs.Goals as goal
-use Rattle.emit.specs.Parts.{ArePartsOf}
 
 pub redraw-requires-clause-drawing : goal.redraw-requires-clause-drawing
 redraw-requires-clause-drawing c =

@@ -1,4 +1,4 @@
-use Rattle.ldmodel.specs.Names.{provided}
+use Rattle.emit.proofs.Common.{provided}
 use Rattle.emit.proofs.Sizes.{pieces_sized}
 use Rattle.emit.proofs.law.pieces_are_sized.Goals as goal
 

@@ -1,5 +1,4 @@
-use Rattle.ldmodel.specs.Names.{provided}
-use Rattle.ldmodel.specs.Rows.{rows}
+use Rattle.emit.proofs.Common.{provided, rows}
 use Rattle.emit.proofs.Ending.{ends_below}
 use Rattle.emit.proofs.Sizes.{end_below}
 use Rattle.emit.proofs.law.sections_end_below.Goals as goal

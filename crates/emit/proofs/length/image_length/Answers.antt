@@ -1,7 +1,5 @@
 -- The sizes are those of the link.
-use Rattle.std.proofs.Common.{sym, subst}
-use Rattle.ldmodel.specs.PlacementView.{AreSegments}
-use Rattle.ldmodel.specs.Segments.{segments}
+use Rattle.emit.proofs.Common.{AreSegments, segments, subst, sym}
 use Rattle.emit.proofs.length.image_length.Goals as goal
 
 pub returns : goal.returns

@@ -1,7 +1,6 @@
 -- The bytes so far, and those of the rest, are all.
-use Rattle.std.proofs.Common.{◌≡◌, ◌+◌, drop}
+use Rattle.emit.proofs.Common.{drop, names_size, ◌+◌, ◌≡◌}
 use Rattle.emit.proofs.Sizing.{tree_names}
-use Rattle.emit.specs.Sizes.{names_size}
 use Rattle.emit.proofs.length.section_names.Given as goal
 
 abbrev pub invariant-loop-at : goal.invariant-loop-at

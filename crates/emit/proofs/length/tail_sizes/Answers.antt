@@ -1,12 +1,7 @@
 -- The sizes are those of the link.
-use Rattle.std.proofs.Common.{refl, ap, ◌∙◌, arith}
-use Rattle.ldscript.specs.statements.Numbering.{output_sections}
-use Rattle.ldmodel.specs.Names.{provided}
-use Rattle.place.specs.declared.length.TailSizes.{TailSizes}
-use Rattle.ldmodel.specs.Rows.{rows}
+use Rattle.emit.proofs.Common.{TailSizes, ap, arith, names_size, output_sections, provided, refl, rows, ◌∙◌}
 use Rattle.emit.proofs.Sizing.{sizes_of_tail, tree_names}
 use Rattle.emit.proofs.length.tail_sizes.Goals as goal
-use Rattle.emit.specs.Sizes.{names_size}
 
 pub returns : goal.returns
 returns c s a l link_layout values =

@@ -1,8 +1,4 @@
-use Rattle.std.proofs.Common.{◌∙◌, ap, map}
-use Rattle.ldscript.specs.Numbered.{shown_sections}
-use Rattle.ldscript.specs.Numbering.{output_sections}
-use Rattle.ldmodel.specs.Names.{provided}
-use Rattle.ldmodel.specs.Rows.{rows}
+use Rattle.emit.proofs.Common.{ap, map, output_sections, provided, rows, shown_sections, ◌∙◌}
 use Rattle.emit.specs.Listed.{map_symbol}
 use Rattle.emit.proofs.Mapped.{text_is}
 use Rattle.emit.proofs.map.map_text.Goals as goal

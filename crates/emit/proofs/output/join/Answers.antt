@@ -1,17 +1,8 @@
 -- One output section a step.
-use Rattle.std.proofs.Common.{List, length, map, take, ◌+◌, ◌<◌, arith, subst, sym}
-use Rattle.std.specs.Borrow.{Bor}
-use Rattle.std.specs.List.{AllZip}
-use Rattle.std.specs.Global.{Global}
-use Rattle.std.specs.Prelude.{Vec}
-use Rattle.std.specs.Vec.{vec_items}
+use Rattle.emit.proofs.Common.{AllZip, Bor, Global, IsOutput, List, OutputDrawing, OutputSectionAt, Vec, arith, length}
+use Rattle.emit.proofs.Common.{length-map, map, shown_sections, subst, sym, take, vec_items, ◌+◌, ◌<◌}
 use Rattle.ldmodel.specs.declared.placed.PlacedData.{PlacedData}
-use Rattle.ldscript.specs.statements.Numbered.{shown_sections}
-use Rattle.ldscript.specs.statements.Numbering.{OutputSectionAt}
 use Rattle.ldscript.specs.statements.declared.numbering.OutputSectionAt as code_section
-use Rattle.std.proofs.lemmas.List.{length-map}
-use Rattle.emit.specs.Output.{IsOutput}
-use Rattle.emit.specs.declared.output.OutputDrawing.{OutputDrawing}
 use Rattle.emit.proofs.Joining.{one_joined, reached}
 use Rattle.emit.proofs.Lists.{own_member}
 use Rattle.emit.proofs.output.join.Goals as goal

@@ -1,15 +1,11 @@
 -- The members that the number has are those of the output section.
-use Rattle.std.proofs.Common.{◌∙◌, sym, ap, subst, List, length, refl}
-use Rattle.std.specs.Borrow.{Bor}
-use Rattle.std.specs.Vec.{vec_items}
+use Rattle.emit.proofs.Common.{Bor, IsJoinedRow, List, OutputSectionAt, ap, length, refl, subst, sym, vec_items, ◌∙◌}
 use Rattle.std.proofs.lemmas.Option.{slice_get_read}
 use Rattle.ldmodel.specs.Image.{fill_byte}
 use Rattle.ldmodel.specs.declared.placed.PlacedData.{PlacedData}
-use Rattle.ldscript.specs.statements.Numbering.{OutputSectionAt}
 use Rattle.ldscript.specs.statements.declared.numbering.OutputSectionAt as code_section
 use Rattle.emit.proofs.Lists.{mapped_at}
 use Rattle.emit.proofs.output.output_at.Goals as goal
-use Rattle.emit.specs.Output.{IsJoinedRow}
 
 pub returns-clause-some : goal.returns-clause-some
 returns-clause-some c p s stays q at =

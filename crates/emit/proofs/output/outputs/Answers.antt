@@ -1,19 +1,11 @@
 -- The lists are those of the layout.
-use Rattle.std.proofs.Common.{◌∙◌, sym, ap, subst, List, length, map}
-use Rattle.std.specs.Borrow.{Bor}
-use Rattle.std.specs.List.{AllZip}
-use Rattle.std.proofs.lemmas.List.{length-map}
-use Rattle.std.proofs.lemmas.Result.{IfOk-weaker}
-use Rattle.ldmodel.specs.PlacementView.{data_of, placed_of}
+use Rattle.emit.proofs.Common.{AllZip, AreDataOf, Bor, IfOk-weaker, List, OutputSectionAt, ap, data_of, length}
+use Rattle.emit.proofs.Common.{length-map, map, output_sections, placed_of, provided, rows, shown_sections, subst, sym}
+use Rattle.emit.proofs.Common.{◌∙◌}
 use Rattle.place.specs.Offsets.{IsOffset}
-use Rattle.ldmodel.specs.Names.{provided}
-use Rattle.ldmodel.specs.Rows.{rows}
 use Rattle.ldmodel.specs.declared.placed.PlacedData.{PlacedData}
-use Rattle.ldscript.specs.statements.Numbered.{shown_sections}
-use Rattle.ldscript.specs.statements.Numbering.{OutputSectionAt, output_sections}
 use Rattle.emit.proofs.Fills.{fills_are}
 use Rattle.emit.proofs.output.outputs.Goals as goal
-use Rattle.emit.specs.DataRuns.{AreDataOf}
 
 pub returns : goal.returns
 returns c =

@@ -1,6 +1,5 @@
 -- An output section with bytes in the file is drawn, any other is not.
-use Rattle.std.proofs.Common.{◌∙◌, ap, sym}
-use Rattle.ldmodel.specs.declared.placed.Placed.{Placed}
+use Rattle.emit.proofs.Common.{Placed, ap, sym, ◌∙◌}
 use Rattle.emit.proofs.Joining.{drawn_more, not_zero}
 use Rattle.emit.proofs.parts.add_section.Goals as goal
 

@@ -1,12 +1,6 @@
 -- The parts are those of the layout.
-use Rattle.std.proofs.Common.{◌∙◌, sym, ap, subst, length, arith}
-use Rattle.std.specs.List.{AllZip}
-use Rattle.std.proofs.lemmas.Slice.Zip.{AllZip-long}
-use Rattle.ldmodel.specs.PlacementView.{AreSegments}
-use Rattle.ldmodel.specs.SectionHeaders.{FilePart}
-use Rattle.ldmodel.specs.Segments.{segments}
-use Rattle.ldmodel.specs.SymbolValues.{number_or_0}
-use Rattle.emit_image.specs.Tables.{IsTableSection}
+use Rattle.emit.proofs.Common.{AllZip, AllZip-long, AreSegments, FilePart, IsTableSection, ap, arith, length}
+use Rattle.emit.proofs.Common.{number_or_0, segments, subst, sym, ◌∙◌}
 use Rattle.emit.proofs.Whole.{last_part}
 use Rattle.emit.proofs.parts.drawing_parts.Goals as goal
 

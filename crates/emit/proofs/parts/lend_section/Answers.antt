@@ -1,7 +1,5 @@
 -- The whole section has each input section.
-use Rattle.std.proofs.Common.{refl, ap, arith}
-use Rattle.emit_image.specs.declared.section.ImageSection.{ImageSection}
-use Rattle.ldmodel.specs.declared.placed.Placed.{Placed}
+use Rattle.emit.proofs.Common.{ImageSection, Placed, ap, arith, refl}
 use Rattle.emit.proofs.parts.lend_section.Goals as goal
 
 pub returns-in-Ok : goal.returns-in-Ok

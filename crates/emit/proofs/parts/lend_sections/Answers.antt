@@ -1,11 +1,8 @@
 -- One output section a step.
-use Rattle.std.proofs.Common.{sym, subst, take, arith}
-use Rattle.std.proofs.lemmas.List.{take_all}
-use Rattle.std.proofs.lemmas.Slice.Zip.{AllZip-long}
+use Rattle.emit.proofs.Common.{AllZip-long, AreDrawnOf, IsOutput, arith, subst, sym, take, take_all}
 use Rattle.emit.proofs.Joining.{drawn_all}
 use Rattle.emit.proofs.Lists.{next_zip}
 use Rattle.emit.proofs.parts.lend_sections.Goals as goal
-use Rattle.emit.specs.Output.{AreDrawnOf, IsOutput}
 
 pub loop-output-preserved : goal.loop-output-preserved
 loop-output-preserved c p s stays outputs =

@@ -1,9 +1,7 @@
 -- One output section a step.
-use Rattle.std.proofs.Common.{sym, arith}
-use Rattle.emit_image.specs.Tables.{IsTableSection}
+use Rattle.emit.proofs.Common.{IsOutput, IsTableSection, arith, sym}
 use Rattle.emit.proofs.Lists.{zip_done, zip_next}
 use Rattle.emit.proofs.parts.table_sections.Goals as goal
-use Rattle.emit.specs.Output.{IsOutput}
 
 pub loop-output-preserved : goal.loop-output-preserved
 loop-output-preserved c p s stays outputs =

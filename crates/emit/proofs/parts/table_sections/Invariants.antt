@@ -1,14 +1,8 @@
 -- Those so far are of the output sections.
-use Rattle.std.proofs.Common.{Bool, take}
-use Rattle.std.specs.List.{AllZip}
-use Rattle.ldmodel.specs.Layout.{Layout}
-use Rattle.ldmodel.specs.Project.{Project}
-use Rattle.ldmodel.specs.declared.sections.SectionKey.{SectionKey}
-use Rattle.emit_image.specs.Tables.{IsTableSection}
+use Rattle.emit.proofs.Common.{AllZip, Bool, IsOutput, IsTableSection, Layout, Project, SectionRef, take}
 use Rattle.emit.proofs.parts.table_sections.Given as goal
-use Rattle.emit.specs.Output.{IsOutput}
 
 abbrev pub invariant-loop-output : goal.invariant-loop-output
 invariant-loop-output l =
-    (p : Project) (s : Layout) (stays : SectionKey → Bool) → AllZip (IsOutput p s stays) s.sections l.outputs
+    (p : Project) (s : Layout) (stays : SectionRef → Bool) → AllZip (IsOutput p s stays) s.sections l.outputs
     → AllZip (IsTableSection s) (take l.output-index s.sections) l.sections.items

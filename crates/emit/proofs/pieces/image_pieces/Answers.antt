@@ -1,17 +1,12 @@
 -- The rows are those of the layout.
-use Rattle.std.proofs.Common.{◌∙◌, sym, refl, subst}
-use Rattle.std.proofs.lemmas.Result.{IfOk-weaker}
-use Rattle.ldmodel.specs.Each.{Each}
-use Rattle.ldmodel.specs.Names.{provided}
-use Rattle.emit_relocate.specs.LinkView.{known_link}
+use Rattle.emit.proofs.Common.{Each, IfOk-weaker, IsSized, known_link, provided, refl, subst, sym, ◌∙◌}
 use Rattle.emit.proofs.AllRows.{all_found}
 use Rattle.emit.proofs.OfSizes.{rows_sized}
 use Rattle.emit.proofs.pieces.image_pieces.Goals as goal
-use Rattle.emit.specs.Pieces.{IsSized}
 
 pub returns : goal.returns
 returns g c =
-    let p = c.args.project.now in
+    let p = c.args.sources.now.project.now in
     IfOk-weaker c.image_rows.result _ _
     (λ v h s a indexed_layout fields.
     let placed = c.placed_are_rows.ensures p (provided p) s indexed_layout.link_layout.placed in

@@ -1,23 +1,19 @@
 -- One entry a step.
-use Rattle.std.proofs.Common.{Bool, sym, subst, map, arith, []}
-use Rattle.std.specs.Prelude.{is_some}
-use Rattle.std.proofs.lemmas.List.{length-map}
-use Rattle.ldmodel.specs.declared.sections.SectionKey.{SectionKey}
-use Rattle.ldmodel_project.specs.ByPlace.{piece_in}
+use Rattle.emit.proofs.Common.{Bool, SectionRef, [], arith, is_some, length-map, map, piece_in, subst, sym}
 use Rattle.emit.proofs.Lists.{mapped_at, own_member}
 use Rattle.emit.proofs.OfRows.{AreDrawnAs, all_entries, no_entries, one_entry}
 use Rattle.emit.proofs.pieces.image_row.Goals as goal
 
 pub loop-k-init : goal.loop-k-init
 loop-k-init g c link q same sources row =
-    let stays : SectionKey → Bool = λ key. is_some (g.E.PreviousLinkInfo.range c.args.previous.now key) in
+    let stays : SectionRef → Bool = λ key. is_some (g.E.PreviousLinkInfo.range c.args.sources.now.previous.now key) in
     subst (AreDrawnAs link.project link.layout stays []) (sym c.in_ok-pieces.ensures.items)
     (no_entries link.project link.layout stays)
 
 pub loop-k-preserved : goal.loop-k-preserved
 loop-k-preserved g c link q same sources row =
-    let p = c.args.project.now in
-    let stays : SectionKey → Bool = λ key. is_some (g.E.PreviousLinkInfo.range c.args.previous.now key) in
+    let p = c.args.sources.now.project.now in
+    let stays : SectionRef → Bool = λ key. is_some (g.E.PreviousLinkInfo.range c.args.sources.now.previous.now key) in
     let rs = c.args.row.now in
     let starts = c.args.starts.now in
     let k = c.loop-k.k in
@@ -31,8 +27,8 @@ loop-k-preserved g c link q same sources row =
 
 pub returns : goal.returns
 returns g c link q same sources row =
-    let p = c.args.project.now in
-    let stays : SectionKey → Bool = λ key. is_some (g.E.PreviousLinkInfo.range c.args.previous.now key) in
+    let p = c.args.sources.now.project.now in
+    let stays : SectionRef → Bool = λ key. is_some (g.E.PreviousLinkInfo.range c.args.sources.now.previous.now key) in
     all_entries p link.project link.layout stays q (map (piece_in p) c.args.row.now) c.args.starts.now
     c.loop-k.k c.loop-k.pieces.items row (omega (arith, c.loop-k-test.false, length-map c.args.row.now (piece_in p)))
     (c.loop-k.invariant link q same sources row)

@@ -1,24 +1,16 @@
 -- One row a step.
-use Rattle.std.proofs.Common.{◌≡◌, ◌≤◌, ◌<◌, ◌-◌, ◌∙◌, sym, ap, subst, List, length, map, take, drop, slice_get}
-use Rattle.std.proofs.Common.{Bool, Some, arith, get_or}
-use Rattle.std.specs.Prelude.{is_some}
-use Rattle.std.specs.Option.{option_map}
-use Rattle.std.specs.Vec.{vec_items}
-use Rattle.std.proofs.lemmas.List.{length-drop, length-map, map-append, take_all}
-use Rattle.std.proofs.lemmas.Option.{slice_get-map}
-use Rattle.ldmodel.specs.Rows.{Piece}
-use Rattle.ldmodel.specs.declared.sections.SectionKey.{SectionKey}
-use Rattle.ldmodel_project.specs.ByPlace.{piece_in, rows_in}
+use Rattle.emit.proofs.Common.{Bool, IsRowAt, List, Piece, SectionRef, Some, ap, arith, drop, get_or, is_some, length}
+use Rattle.emit.proofs.Common.{length-drop, length-map, map, map-append, option_map, piece_in, rows_in, slice_get}
+use Rattle.emit.proofs.Common.{slice_get-map, subst, sym, take, take_all, vec_items, ◌-◌, ◌<◌, ◌∙◌, ◌≡◌, ◌≤◌}
 use Rattle.emit.proofs.AllRows.{all_rows, one_row}
 use Rattle.emit.proofs.Lists.{mapped_at}
 use Rattle.emit.proofs.pieces.image_rows.Goals as goal
-use Rattle.emit.specs.Pieces.{IsRowAt}
 
 pub loop-row-preserved : goal.loop-row-preserved
 loop-row-preserved g c =
-    let p = c.args.project.now in
-    let stays : SectionKey → Bool = λ k. is_some (g.E.PreviousLinkInfo.range c.args.previous.now k) in
-    let rs = c.args.indexed_layout.now.rows.items in
+    let p = c.args.sources.now.project.now in
+    let stays : SectionRef → Bool = λ k. is_some (g.E.PreviousLinkInfo.range c.args.sources.now.previous.now k) in
+    let rs = c.args.sources.now.indexed_layout.now.rows.items in
     let starts = c.args.starts.now in
     let k = c.loop-row.row-index in
     let same = c.deref-row-items.ensures.value in
@@ -37,7 +29,7 @@ loop-row-preserved g c =
     let left : length (drop at starts) ≡ length starts - at = length-drop at starts in
     let whole : take (length starts - at) (drop at starts) ≡ drop at starts =
     take_all (length starts - at) (drop at starts) (omega (arith, left)) in
-    one_row p stays c.args.indexed_layout.now c.args.relocated.now
+    one_row p stays c.args.sources.now.indexed_layout.now c.args.sources.now.relocated.now
     (rows_in p rs) starts k at c.taken-at.result row c.in_ok-drawn.drawn.items
     (map vec_items c.loop-row.pieces.items) _ here (omega (arith, low, many))
     (omega (arith, c.taken-at.ensures.few))
@@ -49,11 +41,11 @@ loop-row-preserved g c =
 
 pub returns : goal.returns
 returns g c l same sources placed =
-    let p = c.args.project.now in
-    let stays : SectionKey → Bool = λ k. is_some (g.E.PreviousLinkInfo.range c.args.previous.now k) in
-    let rs = c.args.indexed_layout.now.rows.items in
+    let p = c.args.sources.now.project.now in
+    let stays : SectionRef → Bool = λ k. is_some (g.E.PreviousLinkInfo.range c.args.sources.now.previous.now k) in
+    let rs = c.args.sources.now.indexed_layout.now.rows.items in
     let many : length (rows_in p rs) ≡ length rs = length-map (map vec_items rs) _ ∙ length-map rs vec_items in
-    all_rows p stays c.args.indexed_layout.now c.args.relocated.now
+    all_rows p stays c.args.sources.now.indexed_layout.now c.args.sources.now.relocated.now
     (rows_in p rs) c.args.starts.now l c.loop-row.row-index
     c.loop-row.at (map vec_items c.loop-row.pieces.items)
     (omega (arith, c.loop-row-test.false, many, ap length c.deref-row-items.ensures.value)) same sources placed

@@ -1,5 +1,5 @@
 -- The section at the likely index, where it has the number.
-use Rattle.std.proofs.Common.{rules, sym}
+use Rattle.emit.proofs.Common.{rules, sym}
 use Rattle.emit.proofs.OfRows.{numbered_near}
 use Rattle.emit.proofs.pieces.section_near.Goals as goal
 

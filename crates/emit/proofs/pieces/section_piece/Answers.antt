@@ -1,8 +1,6 @@
 -- By what the section holds.
-use Rattle.std.proofs.Common.{◌≡◌, ◌∙◌, sym, refl, ap, length, slice_get, Some}
-use Rattle.elfobj.specs.Object.{ObjectData}
-use Rattle.elfobj.specs.Profile.{HasRelocationsOfProfile, IsSectionOfProfile}
-use Rattle.elfobj.specs.declared.section.Section.{Section}
+use Rattle.emit.proofs.Common.{HasRelocationsOfProfile, IsSectionOfProfile, ObjectData, Section, Some, ap, length, refl}
+use Rattle.emit.proofs.Common.{slice_get, sym, ◌∙◌, ◌≡◌}
 use Rattle.emit.proofs.OfSections.{all_at, bytes_are, full_piece, nobits_piece}
 use Rattle.emit.proofs.pieces.section_piece.Goals as goal
 
@@ -31,7 +29,7 @@ returns-in-Some c l stays o x w sources there same here new placed at sized =
     w (λ e. c.in_default.not-Nobits (ap (λ (z : Section). z.kind) is ∙ e))
     sized placed at refl refl
     (bytes_are ob i x c.section_bytes-bytes.result.now own c.section_bytes-bytes.ensures)
-    (c.in-Some.ensures.some l stays o x sources.indexed_layout sources.runs there here c.args.key there new) refl
+    (c.in-Some.ensures.some l stays o x sources.indexed_layout sources.runs there here c.args.place there new) refl
 
 pub returns-in-None : goal.returns-in-None
 returns-in-None c l stays o x w sources there same here new placed at sized =

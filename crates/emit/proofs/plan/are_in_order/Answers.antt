@@ -1,5 +1,4 @@
-use Rattle.std.proofs.Common.{◌≡◌, ◌+◌, ap, arith, drop, length, subst, sym}
-use Rattle.emit_fields.specs.Patches.{AreInOrder, patch_end}
+use Rattle.emit.proofs.Common.{AreInOrder, ap, arith, drop, length, patch_end, subst, sym, ◌+◌, ◌≡◌}
 use Rattle.emit.proofs.Planning.{order_first, order_low, order_more}
 use Rattle.emit.proofs.plan.are_in_order.Goals as goal
 

@@ -1,5 +1,4 @@
-use Rattle.std.proofs.Common.{ℕ, drop}
-use Rattle.emit_fields.specs.Patches.{AreInOrder}
+use Rattle.emit.proofs.Common.{AreInOrder, drop, ℕ}
 use Rattle.emit.proofs.plan.are_in_order.Given as goal
 
 abbrev pub invariant-loop-patch : goal.invariant-loop-patch

@@ -1,8 +1,5 @@
 -- A spot that is refused is that of no section, or lies elsewhere.
-use Rattle.std.proofs.Common.{ap, arith, subst, sym}
-use Rattle.elfobj.specs.declared.section.Section.{Section}
-use Rattle.elfobj.specs.declared.section.SectionKind.TheVariants.{Progbits}
-use Rattle.emit.specs.Plan.{HasBytes, IsInFile}
+use Rattle.emit.proofs.Common.{HasBytes, IsInFile, Progbits, Section, ap, arith, subst, sym}
 use Rattle.emit.proofs.Planning.{at_index, bytes_at, has}
 use Rattle.emit.proofs.plan.can_stand.Goals as goal
 

@@ -1,12 +1,6 @@
-use Rattle.std.proofs.Common.{◌+◌, ◌∙◌, ap, get_or, subst, sym, take}
-use Rattle.std.specs.List.{AllZip}
+use Rattle.emit.proofs.Common.{AllZip, Counts, Fields, IsPlannedAt, ap, evaluations, fault_at, get_or, raised}
+use Rattle.emit.proofs.Common.{sites_in_all, sites_there, subst, sym, take, take_more, written_all, ◌+◌, ◌∙◌}
 use Rattle.std.proofs.lemmas.Option.{slice_get-get_or}
-use Rattle.std.proofs.lemmas.List.{take_more}
-use Rattle.ldmodel.specs.Counts.{Counts}
-use Rattle.ldmodel.specs.Raised.{raised}
-use Rattle.elfobj.specs.declared.meter.Count.TheVariants.{Fields}
-use Rattle.emit_relocate.specs.Fields.{evaluations, fault_at}
-use Rattle.emit.specs.Plan.{IsPlannedAt, sites_in_all, sites_there, written_all}
 use Rattle.emit.proofs.Planning.{both_raised, count_more, planned_more, within_more}
 use Rattle.emit.proofs.Places.{none_at}
 use Rattle.emit.proofs.plan.plan.Goals as goal

@@ -1,11 +1,5 @@
-use Rattle.std.proofs.Common.{◌≡◌, take}
-use Rattle.std.specs.List.{All, AllZip}
-use Rattle.elfobj.specs.Raised.{raised}
-use Rattle.elfobj.specs.declared.meter.Count.TheVariants.{Fields}
-use Rattle.ldmodel.specs.Project.{NamedObject}
-use Rattle.emit_relocate.specs.Fields.{evaluations}
-use Rattle.emit_relocate.specs.KnownLink.{KnownLink}
-use Rattle.emit.specs.Plan.{IsAtHand, IsPlannedAt, IsWithin, sites_in_all, written_all}
+use Rattle.emit.proofs.Common.{All, AllZip, Fields, IsAtHand, IsPlannedAt, IsWithin, KnownLink, NamedObject}
+use Rattle.emit.proofs.Common.{evaluations, raised, sites_in_all, take, written_all, ◌≡◌}
 use Rattle.emit.proofs.plan.plan.Given as goal
 
 abbrev pub invariant-loop-spot : goal.invariant-loop-spot

@@ -1,12 +1,5 @@
-use Rattle.std.proofs.Common.{◌∙◌, ap, arith, length, subst, sym}
-use Rattle.std.specs.Prelude.{slice_get}
-use Rattle.elfobj.specs.Object.{ObjectData}
-use Rattle.elfobj.specs.declared.section.Section.{Section}
-use Rattle.elfobj.specs.declared.section.SectionKind.TheVariants.{Progbits}
-use Rattle.ldmodel.specs.Raised.{raised}
-use Rattle.elfobj.specs.declared.meter.Count.TheVariants.{Fields}
-use Rattle.emit_relocate.specs.Fields.{evaluations}
-use Rattle.emit.specs.Plan.{HasBytes, IsInFile, IsRefused, written}
+use Rattle.emit.proofs.Common.{Fields, HasBytes, IsInFile, IsRefused, ObjectData, Progbits, Section, ap, arith}
+use Rattle.emit.proofs.Common.{evaluations, length, raised, slice_get, subst, sym, written, ◌∙◌}
 use Rattle.emit.proofs.Planning.{at_index, bytes_at, has, order_of, planned_at, sites_at_spot}
 use Rattle.emit.proofs.plan.plan_section.Goals as goal
 
@@ -30,15 +23,16 @@ returns-in-None-clause-none c = λ l o h.
     let low = (c.can_stand.ensures.stands c.if-not-can_stand.false).index in
     let same = ap (λ (r : ObjectData). length r.sections) h.same in
     let own = has o.object.sections c.args.spot.index.0 (omega (arith, low, same)) in
-    subst (λ ts. IsRefused l ts c.args.meter.now c.fields_of.new.meter) (sites_at_spot o c.args.spot own.section own.is)
-    ((rw c.in-None.is at c.in_ok-fields_of.ensures.none) l o own.section h own.is)
+    subst (λ ts. IsRefused l ts c.args.meter.now c.evaluate_fields.new.meter)
+    (sites_at_spot o c.args.spot own.section own.is)
+    ((rw c.in-None.is at c.in_ok-evaluate_fields.ensures.none) l o own.section h own.is)
 
 pub returns-in-Some-clause-planned : goal.returns-in-Some-clause-planned
 returns-in-Some-clause-planned c = λ l o h.
     let low = (c.can_stand.ensures.stands c.if-not-can_stand.false).index in
     let same = ap (λ (r : ObjectData). length r.sections) h.same in
     let own = has o.object.sections c.args.spot.index.0 (omega (arith, low, same)) in
-    let run = (rw c.in-Some.is at c.in_ok-fields_of.ensures.some) l o own.section h own.is in
+    let run = (rw c.in-Some.is at c.in_ok-evaluate_fields.ensures.some) l o own.section h own.is in
     let there = ap (λ (r : ObjectData). slice_get r.sections c.args.spot.index.0) (sym h.same) ∙ own.is in
     let bytes_are = bytes_at c.args.object.now.sections c.args.spot.index.0 c.section_bytes-bytes.result.now
     c.section_bytes-bytes.ensures own.section there in

@@ -1,7 +1,5 @@
-use Rattle.std.proofs.Common.{List, Some, None, ap, ◌∙◌}
+use Rattle.emit.proofs.Common.{List, None, Some, ap, faults_in, value_of, ◌∙◌}
 use Rattle.ldmodel.specs.declared.fault.Fault.{Fault}
-use Rattle.ldmodel_project.specs.ByPlace.{faults_in}
-use Rattle.emit_relocate.specs.Values.{value_of}
 use Rattle.emit.proofs.Faulting.{faults_in_front}
 use Rattle.emit.proofs.relocated.with_entry_fault.Goals as goal
 

@@ -1,16 +1,6 @@
-use Rattle.std.proofs.Common.{◌∙◌, ap, find, subst, sym, ◌==◌}
-use Rattle.std.specs.Prelude.{slice_get, sum_by}
-use Rattle.std.specs.List.{All, filter_map}
-use Rattle.elfobj.specs.Object.{ObjectData}
-use Rattle.elfobj.specs.Sections.{LinkedSection}
-use Rattle.elfobj.specs.declared.meter.Count.TheVariants.{Bytes, Fields}
-use Rattle.ldmodel.specs.Counts.{Counts}
-use Rattle.ldmodel.specs.Image.{image}
-use Rattle.ldmodel.specs.Raised.{raised}
-use Rattle.emit_relocate.specs.Fields.{evaluations, fault_at}
-use Rattle.emit.specs.Plan.{AreWritten, count_of, written_all}
-use Rattle.emit.specs.InPlaceRewrites.{IsBare}
-use Rattle.emit.specs.LocatedSections.{bytes_of}
+use Rattle.emit.proofs.Common.{All, AreWritten, Bytes, Counts, Fields, IsBare, LinkedSection, ObjectData, ap, bytes_of}
+use Rattle.emit.proofs.Common.{count_of, evaluations, fault_at, filter_map, find, image, raised, slice_get, subst}
+use Rattle.emit.proofs.Common.{sum_by, sym, written_all, ◌==◌, ◌∙◌}
 use Rattle.emit.proofs.Faults.{none_of_object, still_none}
 use Rattle.emit.proofs.Images.{new_image, no_fault}
 use Rattle.emit.proofs.Planning.{all_count}
@@ -35,14 +25,15 @@ returns-in-Some-clause-image c = λ done old l o h same row has start.
     (record { named = h.object_is; same = same; row = row }) in
     let bare : All IsBare o.object.sections =
     subst (λ (r : ObjectData). All IsBare r.sections) (sym same) c.nobits_are_bare.ensures in
-    let over : AreWritten (written_all c.in-Some.plan.items) (image old l.layout) c.commit.new.canvas.bytes =
-    subst (λ bytes. AreWritten (written_all c.in-Some.plan.items) bytes c.commit.new.canvas.bytes) start
-    (subst (λ rs. AreWritten (written_all rs) c.args.canvas.now.bytes c.commit.new.canvas.bytes) c.deref.ensures.value
-    c.commit.ensures.written) in
+    let over : AreWritten (written_all c.in-Some.plan.items) (image old l.layout) c.write_plan.new.canvas.bytes =
+    subst (λ bytes. AreWritten (written_all c.in-Some.plan.items) bytes c.write_plan.new.canvas.bytes) start
+    (subst (λ rs. AreWritten (written_all rs) c.args.canvas.now.bytes c.write_plan.new.canvas.bytes)
+    c.deref.ensures.value
+    c.write_plan.ensures.written) in
     new_image old l c.args.place o h c.args.located.now has (written_all c.in-Some.plan.items) all.0 bare
     (λ j x is. ap (λ (r : ObjectData). find (λ (y : LinkedSection). y.number.0 == x.number.0) r.sections) same
     ∙ c.numbers_differ.ensures j x (ap (λ (r : ObjectData). slice_get r.sections j) (sym same) ∙ is))
-    c.commit.new.canvas.bytes over
+    c.write_plan.new.canvas.bytes over
 
 pub returns-in-Some-clause-faultless : goal.returns-in-Some-clause-faultless
 returns-in-Some-clause-faultless c = λ done old l o h same row has none.
@@ -55,7 +46,7 @@ pub returns-in-Some-clause-counted : goal.returns-in-Some-clause-counted
 returns-in-Some-clause-counted c = λ done l o named same row has.
     let all = (rw c.in-Some.is at c.in_ok-plan.ensures.planned) l o
     (record { named = named; same = same; row = row }) in
-    c.commit.ensures.counted
+    c.write_plan.ensures.counted
     ∙ ap (λ n. raised c.plan.new.meter Bytes n)
     (ap (λ rs. sum_by count_of (written_all rs)) c.deref.ensures.value
     ∙ all_count l o c.args.located.now (written_all c.in-Some.plan.items) all.0

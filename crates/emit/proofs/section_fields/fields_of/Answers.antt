@@ -1,6 +1,6 @@
 -- The run of the section.
-use Rattle.std.proofs.Common.{◌≡◌, ◌+◌, ◌-◌, ◌∷◌, ◌∙◌, sym, ap, take, drop, slice_get, arith, length, ⊎_elim}
-use Rattle.std.proofs.lemmas.Option.{same_Some}
+use Rattle.emit.proofs.Common.{ap, arith, drop, length, same_Some, slice_get, sym, take, ⊎_elim, ◌+◌, ◌-◌, ◌∙◌, ◌∷◌}
+use Rattle.emit.proofs.Common.{◌≡◌}
 use Rattle.emit.proofs.Numbering.{run_found}
 use Rattle.emit.proofs.Present.{if_none, is_counted, not_some, run_stands}
 use Rattle.emit.proofs.section_fields.fields_of.Goals as goal

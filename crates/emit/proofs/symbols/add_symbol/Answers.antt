@@ -1,6 +1,5 @@
 -- A symbol with a value is added.
-use Rattle.std.proofs.Common.{◌∙◌, ap, refl, sym}
-use Rattle.emit_text.specs.Definer.{is_weak}
+use Rattle.emit.proofs.Common.{ap, is_weak, refl, sym, ◌∙◌}
 use Rattle.emit_relocate.specs.declared.name_row.SymbolFacts.{SymbolFacts}
 use Rattle.emit.proofs.OfSymbols.{one_symbol}
 use Rattle.emit.proofs.symbols.add_symbol.Goals as goal

@@ -1,14 +1,10 @@
 -- One symbol a step.
-use Rattle.std.proofs.Common.{◌∙◌, ◌<◌, sym, ap, subst, take, arith, length}
-use Rattle.std.specs.List.{All}
-use Rattle.std.proofs.lemmas.List.{take_all}
-use Rattle.emit_relocate.specs.LinkValues.{HasFacts}
+use Rattle.emit.proofs.Common.{All, AreTablesFor, HasFacts, ap, arith, length, subst, sym, take, take_all, valued_in}
+use Rattle.emit.proofs.Common.{◌<◌, ◌∙◌}
 use Rattle.emit.proofs.Lists.{own_member}
 use Rattle.emit.proofs.OfSymbols.{no_symbols, symbols_more}
 use Rattle.emit.proofs.Sizing.{table_is}
 use Rattle.emit.proofs.symbols.symbol_tables.Goals as goal
-use Rattle.emit.specs.Sizes.{valued_in}
-use Rattle.emit.specs.Tables.{AreTablesFor}
 
 pub loop-symbol-init : goal.loop-symbol-init
 loop-symbol-init c p s all = no_symbols p s c.in_ok-tables.tables c.in_ok-tables.ensures

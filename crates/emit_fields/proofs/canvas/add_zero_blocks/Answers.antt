@@ -1,7 +1,5 @@
-use Rattle.std.proofs.Common.{rules, ◌≡◌, ◌≤◌, ◌<◌, ◌+◌, ◌*◌, ◌-◌, ℕ, ◌⊎◌, inl, inr, ◌∙◌, length}
-use Rattle.std.proofs.Common.{slice_index_or, vec_capacity, vec_len}
-use Rattle.std.proofs.Math.Nat.{mul-le-mul_left}
-use Rattle.std.proofs.lemmas.Bool.{cases_lt}
+use Rattle.emit_fields.proofs.Common.{cases_lt, inl, inr, length, mul-le-mul_left, rules, slice_index_or, vec_capacity}
+use Rattle.emit_fields.proofs.Common.{vec_len, ℕ, ◌*◌, ◌+◌, ◌-◌, ◌<◌, ◌∙◌, ◌≡◌, ◌≤◌, ◌⊎◌}
 use Rattle.emit_fields.proofs.canvas.add_zero_blocks.Goals as goal
 
 -- src/canvas.rt:48:5

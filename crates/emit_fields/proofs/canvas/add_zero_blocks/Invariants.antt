@@ -1,4 +1,4 @@
-use Rattle.std.proofs.Common.{◌≡◌, ◌≤◌, ◌<◌, ◌+◌, ◌*◌, ℕ, slice_index_or, vec_capacity, vec_len, length}
+use Rattle.emit_fields.proofs.Common.{length, slice_index_or, vec_capacity, vec_len, ℕ, ◌*◌, ◌+◌, ◌<◌, ◌≡◌, ◌≤◌}
 use Rattle.emit_fields.proofs.canvas.add_zero_blocks.Given as goal
 
 abbrev pub invariant-loop : goal.invariant-loop

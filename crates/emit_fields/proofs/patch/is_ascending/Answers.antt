@@ -1,6 +1,5 @@
-use Rattle.std.proofs.Common.{arith}
+use Rattle.emit_fields.proofs.Common.{Patch, arith}
 use Rattle.std.proofs.lemmas.List.Sorted.{IsNonDecreasingBy-from_all_adjacent}
-use Rattle.emit_fields.specs.declared.patch.Patch.{Patch}
 use Rattle.emit_fields.proofs.patch.is_ascending.Goals as goal
 
 pub returns : goal.returns

@@ -1,6 +1,5 @@
-use Rattle.std.proofs.Common.{◌≤◌}
+use Rattle.emit_fields.proofs.Common.{Patch, ◌≤◌}
 use Rattle.std.specs.List.{AllAdjacentBelow}
-use Rattle.emit_fields.specs.declared.patch.Patch.{Patch}
 use Rattle.emit_fields.proofs.patch.is_ascending.Given as goal
 
 abbrev pub invariant-loop-k : goal.invariant-loop-k

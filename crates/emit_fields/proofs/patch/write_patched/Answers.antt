@@ -1,9 +1,5 @@
-use Rattle.std.proofs.Common.{◌≡◌, ◌∙◌, ◌+◌, ◌-◌, ◌≤◌, ℕ, length, drop, sym, ap, subst, refl, inl, inr, arith}
-use Rattle.std.proofs.lemmas.Bool.{cases_lt}
-use Rattle.elfobj.specs.Counts.{Counts}
-use Rattle.elfobj.specs.Raised.{raised}
-use Rattle.elfobj.specs.declared.meter.Count.TheVariants.{Bytes}
-use Rattle.emit_fields.specs.Patches.{AreInOrder, patch_end}
+use Rattle.emit_fields.proofs.Common.{AreInOrder, Bytes, Counts, ap, arith, cases_lt, drop, inl, inr, length, patch_end}
+use Rattle.emit_fields.proofs.Common.{raised, refl, subst, sym, ℕ, ◌+◌, ◌-◌, ◌∙◌, ◌≡◌, ◌≤◌}
 use Rattle.emit_fields.proofs.Patches.{turn_of, no_more}
 use Rattle.emit_fields.proofs.Runs.{run_reads, raised_more}
 use Rattle.emit_fields.proofs.patch.write_patched.Goals as goal

@@ -1,7 +1,5 @@
-use Rattle.std.proofs.Common.{◌≡◌, ◌+◌, ◌<◌, ◌≤◌, ℕ, length, get_or, drop}
-use Rattle.elfobj.specs.Raised.{raised}
-use Rattle.elfobj.specs.declared.meter.Count.TheVariants.{Bytes}
-use Rattle.emit_fields.specs.Patches.{AreInOrder, patched_byte}
+use Rattle.emit_fields.proofs.Common.{AreInOrder, Bytes, drop, get_or, length, patched_byte, raised, ℕ, ◌+◌, ◌<◌, ◌≡◌}
+use Rattle.emit_fields.proofs.Common.{◌≤◌}
 use Rattle.emit_fields.proofs.patch.write_patched.Given as goal
 
 abbrev pub invariant-loop-patch : goal.invariant-loop-patch

@@ -1,4 +1,4 @@
-use Rattle.std.proofs.Common.{◌∙◌, ◌+◌, arith}
+use Rattle.emit_fields.proofs.Common.{arith, ◌+◌, ◌∙◌}
 use Rattle.emit_fields.proofs.Runs.{run_reads}
 use Rattle.emit_fields.proofs.patch.write_up_to.Goals as goal
 

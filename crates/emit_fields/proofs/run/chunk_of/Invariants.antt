@@ -1,4 +1,4 @@
-use Rattle.std.proofs.Common.{◌≡◌, ◌%◌, ◌<◌, ℕ, length, get_or}
+use Rattle.emit_fields.proofs.Common.{get_or, length, ℕ, ◌%◌, ◌<◌, ◌≡◌}
 use Rattle.emit_fields.proofs.run.chunk_of.Given as goal
 
 abbrev pub invariant-loop-i : goal.invariant-loop-i

@@ -1,10 +1,6 @@
-use Rattle.std.proofs.Common.{◌≡◌, ◌∙◌, ◌+◌, ◌-◌, ◌*◌, ◌%◌, ◌<◌, ◌≤◌, min, ℕ, mod-lt, refl, inl, inr, ap, arith}
-use Rattle.std.proofs.Math.Nat.{div-add-mod}
-use Rattle.std.proofs.lemmas.Bool.{cases_lt}
+use Rattle.emit_fields.proofs.Common.{Bytes, Counts, ap, arith, cases_lt, div-add-mod, inl, inr, min, mod-lt, raised}
+use Rattle.emit_fields.proofs.Common.{refl, ℕ, ◌%◌, ◌*◌, ◌+◌, ◌-◌, ◌<◌, ◌∙◌, ◌≡◌, ◌≤◌}
 use Rattle.std.proofs.lemmas.List.{get_or-take, length-take-le}
-use Rattle.elfobj.specs.Counts.{Counts}
-use Rattle.elfobj.specs.Raised.{raised}
-use Rattle.elfobj.specs.declared.meter.Count.TheVariants.{Bytes}
 use Rattle.emit_fields.proofs.Runs.{raised_more, run_byte}
 use Rattle.emit_fields.proofs.run.write_chunks.Goals as goal
 

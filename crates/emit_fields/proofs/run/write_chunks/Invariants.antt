@@ -1,6 +1,4 @@
-use Rattle.std.proofs.Common.{◌≡◌, ◌+◌, ◌*◌, ◌%◌, ◌<◌, ◌≤◌, ℕ, length, get_or}
-use Rattle.elfobj.specs.Raised.{raised}
-use Rattle.elfobj.specs.declared.meter.Count.TheVariants.{Bytes}
+use Rattle.emit_fields.proofs.Common.{Bytes, get_or, length, raised, ℕ, ◌%◌, ◌*◌, ◌+◌, ◌<◌, ◌≡◌, ◌≤◌}
 use Rattle.emit_fields.proofs.run.write_chunks.Given as goal
 
 abbrev pub invariant-loop-k : goal.invariant-loop-k

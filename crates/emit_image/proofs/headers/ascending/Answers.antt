@@ -1,9 +1,6 @@
-use Rattle.std.proofs.Common.{◌∙◌, ap, rules}
-use Rattle.std.specs.Cmp.{IsStrictWeakOrder, nat_cmp_total}
+use Rattle.emit_image.proofs.Common.{IsStrictWeakOrder, ap, nat_cmp_total, rules, sort_by, starts_before, ◌∙◌}
 use Rattle.std.proofs.lemmas.List.Sorted.{ranks_by, answers_always}
-use Rattle.ldmodel.specs.Sorting.{sort_by}
 use Rattle.ldmodel.specs.declared.segment.Segment.{Segment}
-use Rattle.emit_image.specs.SegmentBytes.{starts_before}
 use Rattle.ldmodel_laws.proofs.Ordering.{ordered_once}
 use Rattle.emit_image.proofs.headers.ascending.Goals as goal
 

@@ -1,4 +1,4 @@
-use Rattle.std.proofs.Common.{◌∙◌}
+use Rattle.emit_image.proofs.Common.{◌∙◌}
 use Rattle.emit_image.proofs.ProgramHeaders.{loaded_end_is}
 use Rattle.emit_image.proofs.headers.loaded_end.Goals as goal
 

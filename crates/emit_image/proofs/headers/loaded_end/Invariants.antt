@@ -1,6 +1,4 @@
-use Rattle.std.proofs.Common.{◌≡◌, ◌+◌, ◌*◌, length, take}
-use Rattle.std.specs.List.{fold}
-use Rattle.emit_image.specs.SegmentBytes.{file_end_of}
+use Rattle.emit_image.proofs.Common.{file_end_of, fold, length, take, ◌*◌, ◌+◌, ◌≡◌}
 use Rattle.emit_image.proofs.headers.loaded_end.Given as goal
 
 abbrev pub invariant-loop-g : goal.invariant-loop-g

@@ -1,4 +1,4 @@
-use Rattle.std.proofs.Common.{append_assoc}
+use Rattle.emit_image.proofs.Common.{append_assoc}
 use Rattle.ldmodel.specs.Headers.{elf_header}
 use Rattle.emit_image.proofs.headers.put_elf_header.Goals as goal
 

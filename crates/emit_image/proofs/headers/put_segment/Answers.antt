@@ -1,5 +1,4 @@
-use Rattle.std.proofs.Common.{append_assoc}
-use Rattle.emit_image.specs.SegmentBytes.{segment_bytes}
+use Rattle.emit_image.proofs.Common.{append_assoc, segment_bytes}
 use Rattle.emit_image.proofs.headers.put_segment.Goals as goal
 
 pub returns : goal.returns

@@ -1,5 +1,4 @@
-use Rattle.std.proofs.Common.{◌≡◌, ◌++◌, flat_map, take}
-use Rattle.emit_image.specs.SegmentBytes.{segment_bytes}
+use Rattle.emit_image.proofs.Common.{flat_map, segment_bytes, take, ◌++◌, ◌≡◌}
 use Rattle.emit_image.proofs.headers.put_segments.Given as goal
 
 abbrev pub invariant-loop-g : goal.invariant-loop-g

@@ -1,6 +1,4 @@
-use Rattle.std.proofs.Common.{◌≡◌, ◌+◌, ◌-◌, ◌∙◌, ℕ, length, slice_index, false, refl, ap, arith}
-use Rattle.elfobj.specs.Raised.{raised}
-use Rattle.elfobj.specs.declared.meter.Count.TheVariants.{Bytes}
+use Rattle.emit_image.proofs.Common.{Bytes, ap, arith, false, length, raised, refl, slice_index, ℕ, ◌+◌, ◌-◌, ◌∙◌, ◌≡◌}
 use Rattle.emit_image.proofs.Painting.{painted_own}
 use Rattle.emit_image.proofs.paint.paint_bytes.Goals as goal
 

@@ -1,4 +1,4 @@
-use Rattle.std.proofs.Common.{◌%◌, length, slice_index, false, refl, arith}
+use Rattle.emit_image.proofs.Common.{arith, false, length, refl, slice_index, ◌%◌}
 use Rattle.emit_image.proofs.Painting.{painted_own}
 use Rattle.emit_image.proofs.paint.paint_gap.Goals as goal
 

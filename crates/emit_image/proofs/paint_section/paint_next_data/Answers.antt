@@ -1,9 +1,7 @@
-use Rattle.std.proofs.Common.{◌≡◌, ◌+◌, ◌≤◌, ◌∙◌, ℕ, get_or, false, sym, ap, subst, arith}
+use Rattle.emit_image.proofs.Common.{Byte, IsPainted, IsReached, ap, arith, false, file_offset_of, get_or}
+use Rattle.emit_image.proofs.Common.{section_image, subst, sym, ℕ, ◌+◌, ◌∙◌, ◌≡◌, ◌≤◌}
 use Rattle.ldmodel.specs.declared.placed.PlacedData.{PlacedData}
-use Rattle.ldscript.specs.statements.declared.section.Width.TheVariants.{Byte}
 use Rattle.emit_image.specs.Drawing.{data_byte, data_end}
-use Rattle.emit_image.specs.Painted.{IsPainted}
-use Rattle.emit_image.specs.Reached.{IsReached, file_offset_of, section_image}
 use Rattle.emit_image.proofs.Adding.{gap_and_part}
 use Rattle.emit_image.proofs.InSection.{data_above, data_from, data_spot, data_within, pieces_at, reached-data}
 use Rattle.emit_image.proofs.paint_section.paint_next_data.Goals as goal

@@ -1,6 +1,5 @@
-use Rattle.std.proofs.Common.{◌+◌, ◌≤◌, ℕ, refl, subst, arith}
-use Rattle.emit_image.specs.Painted.{IsPainted}
-use Rattle.emit_image.specs.Reached.{PiecesFrom, file_offset_of, section_image}
+use Rattle.emit_image.proofs.Common.{IsPainted, PiecesFrom, arith, file_offset_of, refl, section_image, subst, ℕ, ◌+◌}
+use Rattle.emit_image.proofs.Common.{◌≤◌}
 use Rattle.emit_image.proofs.Adding.{begins, ends, fill_section}
 use Rattle.emit_image.proofs.InSection.{reached-none}
 use Rattle.emit_image.proofs.Painting.{painted_none, painted_then}
@@ -8,7 +7,7 @@ use Rattle.emit_image.proofs.paint_section.paint_section.Goals as goal
 
 pub loop-k-init : goal.loop-k-init
 loop-k-init c =
-    let x = c.args.x.now in
+    let x = c.args.section.now in
     record {
       reached = reached-none x c.requires.orderly;
       pieces = refl;
@@ -20,7 +19,7 @@ loop-k-init c =
 
 pub loop-k-preserved : goal.loop-k-preserved
 loop-k-preserved c =
-    let x = c.args.x.now in
+    let x = c.args.section.now in
     let i = c.loop-k.invariant in
     let e = c.paint_next_piece-cursor.ensures in
     record {
@@ -35,7 +34,7 @@ loop-k-preserved c =
 
 pub returns-clause-painted : goal.returns-clause-painted
 returns-clause-painted c =
-    let x = c.args.x.now in
+    let x = c.args.section.now in
     let i = c.loop-k.invariant in
     let last = c.paint_data_before-last.result in
     let e = c.paint_data_before-last.ensures in

@@ -1,13 +1,11 @@
-use Rattle.std.proofs.Common.{◌≡◌}
-use Rattle.emit_image.specs.Painted.{IsPainted, IsReady}
-use Rattle.emit_image.specs.Reached.{IsReached, file_offset_of, section_image}
+use Rattle.emit_image.proofs.Common.{IsPainted, IsReached, IsReady, file_offset_of, section_image, ◌≡◌}
 use Rattle.emit_image.proofs.paint_section.paint_section.Given as goal
 
 abbrev pub invariant-loop-k : goal.invariant-loop-k
 invariant-loop-k l = record {
-  reached : IsReached l.x l.cursor.pieces l.cursor.data_commands l.cursor.at;
+  reached : IsReached l.section l.cursor.pieces l.cursor.data_commands l.cursor.at;
   pieces : l.cursor.pieces ≡ l._k;
   ready : IsReady l.limit l.canvas;
-  painted : IsPainted l.fn.canvas.bytes l.canvas.bytes l.fn.meter l.meter (file_offset_of l.x l.x.start)
-      (file_offset_of l.x l.cursor.at) (section_image l.x);
+  painted : IsPainted l.fn.canvas.bytes l.canvas.bytes l.fn.meter l.meter (file_offset_of l.section l.section.start)
+      (file_offset_of l.section l.cursor.at) (section_image l.section);
 }

@@ -1,7 +1,5 @@
-use Rattle.std.proofs.Common.{◌∙◌, arith}
+use Rattle.emit_image.proofs.Common.{Byte, arith, file_offset_of, section_image, ◌∙◌}
 use Rattle.ldmodel.specs.declared.placed.PlacedData.{PlacedData}
-use Rattle.ldscript.specs.statements.declared.section.Width.TheVariants.{Byte}
-use Rattle.emit_image.specs.Reached.{file_offset_of, section_image}
 use Rattle.emit_image.proofs.InSection.{data-from}
 use Rattle.emit_image.proofs.Painting.{painted_then}
 use Rattle.emit_image.proofs.paint_section.paint_some_data.Goals as goal

@@ -1,6 +1,4 @@
-use Rattle.std.proofs.Common.{◌≡◌, ◌≤◌}
-use Rattle.emit_image.specs.Painted.{IsPainted, IsReady}
-use Rattle.emit_image.specs.Reached.{IsReached, file_offset_of, section_image}
+use Rattle.emit_image.proofs.Common.{IsPainted, IsReached, IsReady, file_offset_of, section_image, ◌≡◌, ◌≤◌}
 use Rattle.emit_image.proofs.paint_section.paint_some_data.Given as goal
 
 abbrev pub invariant-loop-k : goal.invariant-loop-k

@@ -1,4 +1,4 @@
-use Rattle.std.proofs.Common.{arith}
+use Rattle.emit_image.proofs.Common.{arith}
 use Rattle.emit_image.proofs.Together.{ends_within, put_all, put_next}
 use Rattle.emit_image.proofs.patched.put_together.Goals as goal
 

@@ -1,13 +1,7 @@
 -- What is written of a drawing.
-use Rattle.std.proofs.Common.{◌∙◌, ◌+◌, ◌≤◌, ℕ, ap, sym, subst, arith}
-use Rattle.elfobj.specs.Counts.{Counts}
-use Rattle.elfobj.specs.Raised.{raised}
-use Rattle.elfobj.specs.declared.meter.Count.TheVariants.{Bytes}
-use Rattle.emit_image.specs.Drawing.{drawing_end, drawing_spot}
-use Rattle.emit_image.specs.Drawn.{IsDrawnFor, count_unstayed}
-use Rattle.emit_image.specs.Stretches.{Spot, patch_bytes}
+use Rattle.emit_image.proofs.Common.{Bytes, Counts, IsDrawnFor, Spot, ap, arith, byte_at, count_unstayed, drawing_end}
+use Rattle.emit_image.proofs.Common.{drawing_spot, patch_bytes, raised, subst, sym, ℕ, ◌+◌, ◌∙◌, ◌≤◌}
 use Rattle.emit_image.proofs.Alike.{count_alike, drawn_alike}
-use Rattle.ldmodel.specs.Image.{byte_at}
 use Rattle.emit_image.proofs.redraw.redraw.Goals as goal
 
 pub returns-clause-image : goal.returns-clause-image

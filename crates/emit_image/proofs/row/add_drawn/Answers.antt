@@ -1,6 +1,5 @@
 -- One that does not stay is not joined.
-use Rattle.std.proofs.Common.{sym, subst, ◌∙◌, ◌++◌, ◌∷◌, []}
-use Rattle.std.proofs.lemmas.Bool.{true≢false}
+use Rattle.emit_image.proofs.Common.{[], subst, sym, true≢false, ◌++◌, ◌∙◌, ◌∷◌}
 use Rattle.emit_image.specs.Joined.{StandFor}
 use Rattle.emit_image.proofs.Joining.{stand_more}
 use Rattle.emit_image.proofs.row.add_drawn.Goals as goal

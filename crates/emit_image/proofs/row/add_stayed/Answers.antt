@@ -1,7 +1,6 @@
 -- Joined to the last one, or added after it.
-use Rattle.std.proofs.Common.{◌+◌, ◌-◌, ◌≡◌, length, refl, sym, subst, arith, ◌++◌, ◌∷◌, []}
+use Rattle.emit_image.proofs.Common.{ImagePiece, [], arith, length, refl, subst, sym, ◌++◌, ◌+◌, ◌-◌, ◌∷◌, ◌≡◌}
 use Rattle.emit_image.specs.Joined.{StandFor}
-use Rattle.emit_image.specs.declared.section.ImagePiece.{ImagePiece}
 use Rattle.emit_image.proofs.Joining.{joined_last, stand_more}
 use Rattle.emit_image.proofs.row.add_stayed.Goals as goal
 

@@ -1,10 +1,5 @@
-use Rattle.std.proofs.Common.{◌≡◌, ◌+◌, ◌∙◌, List, [], ◌∷◌, length, take, sym, ap, arith, get_or, ℕ}
-use Rattle.std.proofs.Math.Nat.{add-zero}
-use Rattle.std.specs.Prelude.{codes, ◌++◌}
-use Rattle.std.proofs.lemmas.List.{take_all}
-use Rattle.ldmodel.specs.Tail.{string_table}
-use Rattle.emit_image.specs.Tables.{header_names_of}
-use Rattle.emit_image.specs.declared.sections.TableSection.{TableSection}
+use Rattle.emit_image.proofs.Common.{List, TableSection, [], add-zero, ap, arith, codes, get_or, header_names_of}
+use Rattle.emit_image.proofs.Common.{length, string_table, sym, take, take_all, ℕ, ◌++◌, ◌+◌, ◌∙◌, ◌∷◌, ◌≡◌}
 use Rattle.emit_image.proofs.HeaderNames.{begins, long, string_next, table_name}
 use Rattle.emit_image.proofs.sections.add_tables.Goals as goal
 

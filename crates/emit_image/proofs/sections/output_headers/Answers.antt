@@ -1,5 +1,4 @@
-use Rattle.std.proofs.Common.{refl}
-use Rattle.emit_image.specs.Tables.{output_headers_of}
+use Rattle.emit_image.proofs.Common.{output_headers_of, refl}
 use Rattle.emit_image.proofs.sections.output_headers.Goals as goal
 
 pub returns-clause-headers : goal.returns-clause-headers

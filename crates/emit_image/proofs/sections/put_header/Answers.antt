@@ -1,4 +1,4 @@
-use Rattle.std.proofs.Common.{append_assoc}
+use Rattle.emit_image.proofs.Common.{append_assoc}
 use Rattle.emit_image.proofs.sections.put_header.Goals as goal
 
 pub returns : goal.returns

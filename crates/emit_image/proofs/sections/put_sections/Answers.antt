@@ -1,5 +1,4 @@
-use Rattle.std.proofs.Common.{◌<◌, length, arith}
-use Rattle.emit_image.specs.Tables.{header_names_of}
+use Rattle.emit_image.proofs.Common.{arith, header_names_of, length, ◌<◌}
 use Rattle.emit_image.proofs.HeaderNames.{all_headers, begins, header_next, long, own_name, string_next}
 use Rattle.emit_image.proofs.sections.put_sections.Goals as goal
 

@@ -1,8 +1,5 @@
-use Rattle.std.proofs.Common.{◌≡◌, ◌++◌, flat_map, take}
-use Rattle.std.specs.List.{enumerate_from}
-use Rattle.ldmodel.specs.SectionHeaders.{header_bytes}
-use Rattle.ldmodel.specs.Tail.{string_table}
-use Rattle.emit_image.specs.Tables.{header_names_of, section_header_of}
+use Rattle.emit_image.proofs.Common.{enumerate_from, flat_map, header_bytes, header_names_of, section_header_of}
+use Rattle.emit_image.proofs.Common.{string_table, take, ◌++◌, ◌≡◌}
 use Rattle.emit_image.proofs.sections.put_sections.Given as goal
 
 abbrev pub invariant-loop-x : goal.invariant-loop-x

@@ -1,4 +1,4 @@
-use Rattle.std.proofs.Common.{◌+◌, ◌∙◌, ap, ℕ}
+use Rattle.emit_image.proofs.Common.{ap, ℕ, ◌+◌, ◌∙◌}
 use Rattle.elfobj.specs.file.declared.constants.TheConstants.{SHT_SYMTAB, SHT_STRTAB}
 use Rattle.ldmodel.specs.SectionHeaders.{table_header}
 use Rattle.emit_image.proofs.TailOfLink.{three}

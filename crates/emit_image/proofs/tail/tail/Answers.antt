@@ -1,7 +1,5 @@
-use Rattle.std.proofs.Common.{◌∙◌, ◌++◌, ap, ℕ, List, length, flat_map}
-use Rattle.std.specs.Int.{next_multiple_of}
-use Rattle.ldmodel.specs.SectionHeaders.{header_bytes, part_at, table_headers}
-use Rattle.emit_image.specs.Tables.{header_names_of}
+use Rattle.emit_image.proofs.Common.{List, ap, flat_map, header_bytes, header_names_of, length, next_multiple_of}
+use Rattle.emit_image.proofs.Common.{part_at, table_headers, ℕ, ◌++◌, ◌∙◌}
 use Rattle.emit_image.proofs.TailOfLink.{parts_are, tail_same}
 use Rattle.emit_image.proofs.tail.tail.Goals as goal
 

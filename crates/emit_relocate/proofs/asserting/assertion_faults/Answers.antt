@@ -1,14 +1,7 @@
-use Rattle.std.proofs.Common.{◌∙◌, ap, arith, map, refl, sym}
-use Rattle.ldscript.specs.statements.Numbered.{shown_directives}
-use Rattle.ldscript.specs.statements.Numbering.{asserted_in, all_directives}
+use Rattle.emit_relocate.proofs.Common.{FinalScope, all_directives, ap, arith, asserted_in, faults_in, map, meaning_of}
+use Rattle.emit_relocate.proofs.Common.{provided, refl, shown_assertions, shown_directives, shown_symbol, sym, ◌∙◌}
 use Rattle.ldmodel.specs.Assertions.{final_scope}
-use Rattle.ldmodel.specs.Names.{provided}
 use Rattle.ldmodel.specs.Rows.{rows}
-use Rattle.ldmodel_project.specs.ByPlace.{faults_in}
-use Rattle.emit_text.specs.Naming.{shown_assertions}
-use Rattle.emit_relocate.specs.LinkValues.{shown_symbol}
-use Rattle.emit_relocate.specs.FinalScope.{meaning_of}
-use Rattle.emit_relocate.specs.declared.final_scope.FinalScope.{FinalScope}
 use Rattle.emit_relocate.proofs.Failing.{all_done, one_more}
 use Rattle.emit_relocate.proofs.Looking.{scope_is}
 use Rattle.emit_relocate.proofs.Regions.{regions_are}

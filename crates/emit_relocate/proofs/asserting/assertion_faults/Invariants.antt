@@ -1,7 +1,4 @@
-use Rattle.std.proofs.Common.{◌≡◌, take}
-use Rattle.ldscript.specs.statements.Numbering.{asserts}
-use Rattle.ldmodel_project.specs.ByPlace.{faults_in}
-use Rattle.emit_relocate.specs.FinalScope.{failures, meaning_of}
+use Rattle.emit_relocate.proofs.Common.{asserts, failures, faults_in, meaning_of, take, ◌≡◌}
 use Rattle.emit_relocate.proofs.asserting.assertion_faults.Given as goal
 
 -- the ASSERTs before this one are seen to

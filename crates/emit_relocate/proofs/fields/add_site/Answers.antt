@@ -1,5 +1,4 @@
-use Rattle.std.proofs.Common.{arith, refl, sym, ◌∙◌}
-use Rattle.emit_relocate.specs.Sites.{fault_with}
+use Rattle.emit_relocate.proofs.Common.{arith, fault_with, refl, sym, ◌∙◌}
 use Rattle.emit_relocate.proofs.Added.{at_entry, tried_fault, tried_field, tried_none}
 use Rattle.emit_relocate.proofs.fields.add_site.Goals as goal
 

@@ -1,7 +1,5 @@
-use Rattle.std.proofs.Common.{◌≡◌, ◌+◌, Some, arith, get_or, pos}
-use Rattle.std.specs.Prelude.{slice_get}
-use Rattle.std.proofs.lemmas.Option.{slice_get-get_or, slice_get_within}
-use Rattle.elfobj.specs.declared.relocation.Relocation.{Relocation}
+use Rattle.emit_relocate.proofs.Common.{Relocation, Some, arith, get_or, pos, slice_get, slice_get-get_or}
+use Rattle.emit_relocate.proofs.Common.{slice_get_within, ◌+◌, ◌≡◌}
 use Rattle.elfobj.specs.declared.relocation.RelocationKind.TheVariants.{None}
 use Rattle.emit_relocate.proofs.Added.{tried_all, tried_next}
 use Rattle.emit_relocate.proofs.Runs.{next_added}

@@ -1,10 +1,5 @@
-use Rattle.std.proofs.Common.{◌+◌, ◌≤◌, length, take, vec_len}
-use Rattle.std.specs.Prelude.{vec_capacity}
-use Rattle.elfobj.specs.Sections.{LinkedSection}
-use Rattle.ldmodel.specs.Project.{NamedObject}
-use Rattle.emit_relocate.specs.Fields.{AreAdded, IsTried, sites_among}
-use Rattle.emit_relocate.specs.KnownLink.{KnownLink}
-use Rattle.emit_relocate.specs.Sites.{IsPlaced}
+use Rattle.emit_relocate.proofs.Common.{AreAdded, IsPlaced, IsTried, KnownLink, LinkedSection, NamedObject, length}
+use Rattle.emit_relocate.proofs.Common.{sites_among, take, vec_capacity, vec_len, ◌+◌, ◌≤◌}
 use Rattle.emit_relocate.proofs.fields.add_sites.Given as goal
 
 abbrev pub invariant-loop-entry : goal.invariant-loop-entry

@@ -1,4 +1,4 @@
-use Rattle.std.proofs.Common.{length, ap, sym, ◌++◌}
+use Rattle.emit_relocate.proofs.Common.{ap, length, sym, ◌++◌}
 use Rattle.emit_relocate.proofs.Added.{added}
 use Rattle.emit_relocate.proofs.Runs.{whole_own}
 use Rattle.emit_relocate.proofs.fields.add_unordered.Goals as goal

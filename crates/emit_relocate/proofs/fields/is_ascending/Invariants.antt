@@ -1,5 +1,4 @@
-use Rattle.std.proofs.Common.{◌<◌, ◌≤◌, ℕ, get_or}
-use Rattle.elfobj.specs.declared.relocation.Relocation.{Relocation}
+use Rattle.emit_relocate.proofs.Common.{Relocation, get_or, ℕ, ◌<◌, ◌≤◌}
 use Rattle.emit_relocate.proofs.fields.is_ascending.Given as goal
 
 abbrev pub invariant-loop-relocation : goal.invariant-loop-relocation

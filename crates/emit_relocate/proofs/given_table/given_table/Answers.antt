@@ -1,7 +1,4 @@
-use Rattle.std.proofs.Common.{◌∙◌, ap, arith, subst}
-use Rattle.std.specs.Prelude.{Option, ℕ}
-use Rattle.ldscript.specs.statements.Numbered.{shown_directives}
-use Rattle.emit_relocate.specs.GivenTable.{IsPut}
+use Rattle.emit_relocate.proofs.Common.{IsPut, Option, ap, arith, shown_directives, subst, ℕ, ◌∙◌}
 use Rattle.emit_relocate.proofs.Giving.{all_noted, called_here, next_noted, none_noted}
 use Rattle.emit_relocate.proofs.given_table.given_table.Goals as goal
 

@@ -1,5 +1,4 @@
-use Rattle.std.proofs.Common.{◌≡◌, ◌+◌, ◌-◌, ℕ, vec_len}
-use Rattle.emit_relocate.specs.Index.{spots_at}
+use Rattle.emit_relocate.proofs.Common.{spots_at, vec_len, ℕ, ◌+◌, ◌-◌, ◌≡◌}
 use Rattle.emit_relocate.proofs.index.grow_objects.Given as goal
 
 abbrev pub invariant-loop-alloc : goal.invariant-loop-alloc

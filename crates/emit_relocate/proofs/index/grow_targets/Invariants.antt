@@ -1,5 +1,4 @@
-use Rattle.std.proofs.Common.{◌≡◌, ◌≤◌, ◌+◌, ◌-◌, ℕ, length, vec_len}
-use Rattle.emit_relocate.specs.Index.{slots_at}
+use Rattle.emit_relocate.proofs.Common.{length, slots_at, vec_len, ℕ, ◌+◌, ◌-◌, ◌≡◌, ◌≤◌}
 use Rattle.emit_relocate.proofs.index.grow_targets.Given as goal
 
 abbrev pub invariant-loop-alloc : goal.invariant-loop-alloc

@@ -1,5 +1,4 @@
-use Rattle.std.proofs.Common.{◌∙◌, ap, arith}
-use Rattle.emit_relocate.specs.Index.{cleared_one}
+use Rattle.emit_relocate.proofs.Common.{ap, arith, cleared_one, ◌∙◌}
 use Rattle.emit_relocate.proofs.Places.{cleared_more}
 use Rattle.emit_relocate.proofs.index.remove_all.Goals as goal
 

@@ -1,5 +1,5 @@
-use Rattle.std.proofs.Common.{◌≡◌, ◌≤◌, ℕ, length, take}
-use Rattle.emit_relocate.specs.Index.{cleared, room_at, slot, slots_at}
+use Rattle.emit_relocate.proofs.Common.{cleared, length, room_at, slots_at, take, ℕ, ◌≡◌, ◌≤◌}
+use Rattle.emit_relocate.specs.Index.{slot}
 use Rattle.emit_relocate.proofs.index.remove_all.Given as goal
 
 abbrev pub invariant-loop-spot : goal.invariant-loop-spot

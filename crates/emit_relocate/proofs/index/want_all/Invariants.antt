@@ -1,5 +1,5 @@
-use Rattle.std.proofs.Common.{◌≡◌, ◌≤◌, ◌+◌, ℕ, count_by, length, take}
-use Rattle.emit_relocate.specs.Index.{is_against, room_at, slots_at, wanted_at}
+use Rattle.emit_relocate.proofs.Common.{count_by, is_against, length, room_at, slots_at, take, wanted_at, ℕ, ◌+◌, ◌≡◌}
+use Rattle.emit_relocate.proofs.Common.{◌≤◌}
 use Rattle.emit_relocate.proofs.index.want_all.Given as goal
 
 abbrev pub invariant-loop-site : goal.invariant-loop-site

@@ -1,6 +1,4 @@
-use Rattle.std.proofs.Common.{◌≡◌, ◌<◌, ℕ, get_or, length}
-use Rattle.emit_relocate.specs.Index.{slots_at, wanted_at}
-use Rattle.emit_relocate.specs.declared.index.TargetSite.{TargetSite}
+use Rattle.emit_relocate.proofs.Common.{TargetSite, get_or, length, slots_at, wanted_at, ℕ, ◌<◌, ◌≡◌}
 use Rattle.emit_relocate.proofs.index.want_none.Given as goal
 
 abbrev pub invariant-loop-site : goal.invariant-loop-site

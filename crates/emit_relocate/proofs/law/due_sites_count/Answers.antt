@@ -1,17 +1,10 @@
-use Rattle.std.proofs.Common.{◌≡◌, ◌+◌, ap, arith, length, subst, ◌∙◌, List}
-use Rattle.std.specs.List.{Contains}
-use Rattle.std.specs.Prelude.{flat_map}
-use Rattle.std.proofs.lemmas.List.Sorted.{length_permutation}
-use Rattle.elfobj.specs.Raised.{raised}
-use Rattle.elfobj.specs.declared.meter.Count.TheVariants.{Fields}
-use Rattle.ldmodel_laws.specs.Untouched.{HasField}
-use Rattle.ldmodel.specs.Relocations.{Site, sites}
+use Rattle.emit_relocate.proofs.Common.{Contains, Fields, HasField, List, Site, ap, arith, flat_map, good_link}
+use Rattle.emit_relocate.proofs.Common.{has_new_value, in_filter, length, length_permutation, raised, sites, subst, ◌+◌}
+use Rattle.emit_relocate.proofs.Common.{◌∙◌, ◌≡◌}
 use Rattle.ldmodel.specs.Stayed.{retargeted}
 use Rattle.ldmodel.specs.WorkBound.{sites_outside}
-use Rattle.emit_relocate.specs.PreviousLinkInfo.{good_link, has_new_value}
 use Rattle.emit_relocate.proofs.Changing.{sites_of}
 use Rattle.emit_relocate.proofs.Evaluations.{all_evaluated}
-use Rattle.ldmodel_laws.proofs.Members.{in_filter}
 use Rattle.emit_relocate.proofs.Settling.{due_of_all, home, how_many, is_due, same_where}
 use Rattle.emit_relocate.proofs.law.due_sites_count.Goals as goal
 

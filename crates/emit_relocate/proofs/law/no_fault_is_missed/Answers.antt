@@ -1,6 +1,4 @@
-use Rattle.std.proofs.Common.{ap, ◌++◌, ◌∙◌}
-use Rattle.emit_relocate.specs.PreviousLinkInfo.{good_link}
-use Rattle.emit_relocate.specs.Fields.{faults_of}
+use Rattle.emit_relocate.proofs.Common.{ap, faults_of, good_link, ◌++◌, ◌∙◌}
 use Rattle.emit_relocate.proofs.Settling.{faults_of_all}
 use Rattle.emit_relocate.proofs.law.no_fault_is_missed.Goals as goal
 

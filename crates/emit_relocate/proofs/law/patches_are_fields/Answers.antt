@@ -1,4 +1,4 @@
-use Rattle.emit_relocate.specs.PreviousLinkInfo.{good_link}
+use Rattle.emit_relocate.proofs.Common.{good_link}
 use Rattle.emit_relocate.proofs.Patching.{each_patch}
 use Rattle.emit_relocate.proofs.law.patches_are_fields.Goals as goal
 

@@ -1,4 +1,4 @@
-use Rattle.emit_relocate.specs.PreviousLinkInfo.{good_link, has_new_value}
+use Rattle.emit_relocate.proofs.Common.{good_link, has_new_value}
 use Rattle.emit_relocate.proofs.Patching.{all_patches, one_each}
 use Rattle.emit_relocate.proofs.Settling.{same_where}
 use Rattle.emit_relocate.proofs.law.patches_are_those_retargeted.Goals as goal

@@ -1,4 +1,4 @@
-use Rattle.ldmodel.specs.declared.sections.Part.TheVariants.{InCommon}
+use Rattle.emit_relocate.proofs.Common.{InCommon}
 use Rattle.emit_relocate.proofs.Rows.{same_row}
 use Rattle.emit_relocate.proofs.name_row.block_row.Goals as goal
 

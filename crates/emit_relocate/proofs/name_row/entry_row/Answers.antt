@@ -1,5 +1,4 @@
-use Rattle.std.proofs.Common.{◌∙◌, length, refl, sym}
-use Rattle.std.proofs.lemmas.Option.{slice_get_past, slice_get_read}
+use Rattle.emit_relocate.proofs.Common.{length, refl, slice_get_past, slice_get_read, sym, ◌∙◌}
 use Rattle.emit_relocate.proofs.Rows.{entry_found, entry_lost}
 use Rattle.emit_relocate.proofs.name_row.entry_row.Goals as goal
 

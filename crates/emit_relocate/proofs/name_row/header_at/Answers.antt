@@ -1,8 +1,5 @@
 -- A part that is in no output section has no header; another has that of its output section.
-use Rattle.std.proofs.Common.{◌∙◌, sym, subst}
-use Rattle.std.proofs.lemmas.Result.{IfOk-weaker}
-use Rattle.ldmodel.specs.NameFaults.{object_name}
-use Rattle.place.specs.IndexedLayout.{IsSectionAddress}
+use Rattle.emit_relocate.proofs.Common.{IfOk-weaker, IsSectionAddress, object_name, subst, sym, ◌∙◌}
 use Rattle.emit_relocate.proofs.Rows.{header_none, header_some}
 use Rattle.emit_relocate.proofs.name_row.header_at.Goals as goal
 

@@ -1,11 +1,6 @@
-use Rattle.std.proofs.Common.{◌∙◌, ap, inl, inr, subst, sym}
-use Rattle.ldmodel.specs.HandedOver.{decision_of}
-use Rattle.ldmodel.specs.Project.{Project}
-use Rattle.ldmodel.specs.SymbolValues.{value_or_undefined}
-use Rattle.ldmodel.specs.declared.names.Case.{Case}
-use Rattle.ldmodel.specs.declared.names.ObjectPlace.{ObjectPlace}
+use Rattle.emit_relocate.proofs.Common.{AreSymbols, Case, ObjectPlace, Project, ap, decision_of, inl, inr, subst, sym}
+use Rattle.emit_relocate.proofs.Common.{value_or_undefined, ◌∙◌}
 use Rattle.emit_relocate.specs.NameRows.{bare_row, decided_row}
-use Rattle.emit_relocate.specs.ObjectParts.{AreSymbols}
 use Rattle.emit_relocate.proofs.Objects.{entry_decided, script_decided}
 use Rattle.emit_relocate.proofs.name_row.name_row.Goals as goal
 

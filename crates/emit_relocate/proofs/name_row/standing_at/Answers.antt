@@ -1,7 +1,4 @@
-use Rattle.std.proofs.Common.{◌∙◌, ap}
-use Rattle.std.specs.Prelude.{Option, ℕ}
-use Rattle.ldmodel.specs.NameFaults.{object_name}
-use Rattle.ldmodel.specs.SymbolValues.{placed_part}
+use Rattle.emit_relocate.proofs.Common.{Option, ap, object_name, placed_part, ℕ, ◌∙◌}
 use Rattle.emit_relocate.specs.Values.{address_from}
 use Rattle.emit_relocate.proofs.Rows.{address_is}
 use Rattle.emit_relocate.proofs.name_row.standing_at.Goals as goal

@@ -1,6 +1,4 @@
-use Rattle.std.proofs.lemmas.Result.{IfOk-weaker}
-use Rattle.ldmodel.specs.NameFaults.{object_name}
-use Rattle.place.specs.IndexedLayout.{table_key}
+use Rattle.emit_relocate.proofs.Common.{IfOk-weaker, object_name, table_key}
 use Rattle.emit_relocate.proofs.Objects.{address_of}
 use Rattle.emit_relocate.proofs.Rows.{in_section}
 use Rattle.emit_relocate.proofs.name_row.standing_of.Goals as goal

@@ -1,7 +1,4 @@
-use Rattle.std.proofs.Common.{ap, subst, sym}
-use Rattle.std.specs.Option.{option_map}
-use Rattle.ldmodel.specs.Layout.{PlacedPiece}
-use Rattle.place.specs.IndexedLayout.{IsSectionAddress}
+use Rattle.emit_relocate.proofs.Common.{IsSectionAddress, PlacedPiece, ap, option_map, subst, sym}
 use Rattle.emit_relocate.proofs.name_row.start_at.Goals as goal
 
 pub returns-in-None : goal.returns-in-None

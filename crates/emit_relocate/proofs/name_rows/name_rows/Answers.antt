@@ -1,7 +1,5 @@
-use Rattle.std.proofs.Common.{◌∙◌, ◌++◌, ◌∷◌, [], ap, arith}
+use Rattle.emit_relocate.proofs.Common.{IsLinkView, KnownLink, [], ap, arith, ◌++◌, ◌∙◌, ◌∷◌}
 use Rattle.emit_relocate.specs.declared.value.SymbolValue.{SymbolValue}
-use Rattle.emit_relocate.specs.KnownLink.{KnownLink}
-use Rattle.emit_relocate.specs.LinkView.{IsLinkView}
 use Rattle.emit_relocate.specs.NameRows.{IsCaseUnder, IsRowUnder}
 use Rattle.emit_relocate.proofs.Rows.{row_named, rows_more, values_more}
 use Rattle.emit_relocate.proofs.name_rows.name_rows.Goals as goal

@@ -1,6 +1,4 @@
-use Rattle.std.proofs.Common.{◌≡◌, ◌≤◌, vec_capacity, vec_len}
-use Rattle.emit_relocate.specs.KnownLink.{KnownLink}
-use Rattle.emit_relocate.specs.LinkView.{IsLinkView}
+use Rattle.emit_relocate.proofs.Common.{IsLinkView, KnownLink, vec_capacity, vec_len, ◌≡◌, ◌≤◌}
 use Rattle.emit_relocate.specs.NameRows.{AreResolvedBelow, AreValuesBelow}
 use Rattle.emit_relocate.proofs.name_rows.name_rows.Given as goal
 

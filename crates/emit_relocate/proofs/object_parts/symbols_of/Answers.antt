@@ -1,5 +1,4 @@
-use Rattle.std.proofs.Common.{◌∙◌, ap, option_copied, sym}
-use Rattle.std.specs.Prelude.{slice_get}
+use Rattle.emit_relocate.proofs.Common.{ap, option_copied, slice_get, sym, ◌∙◌}
 use Rattle.emit_relocate.proofs.Objects.{no_symbols, symbols_are}
 use Rattle.emit_relocate.proofs.object_parts.symbols_of.Goals as goal
 

@@ -1,5 +1,4 @@
-use Rattle.std.proofs.Common.{arith}
-use Rattle.emit_relocate.specs.ScriptNames.{texts}
+use Rattle.emit_relocate.proofs.Common.{arith, texts}
 use Rattle.emit_relocate.proofs.Listing.{more_given}
 use Rattle.emit_relocate.proofs.script_names.add_all_given.Goals as goal
 

@@ -1,5 +1,4 @@
-use Rattle.std.proofs.Common.{◌≡◌}
-use Rattle.emit_relocate.specs.ScriptNames.{distinct_first, texts}
+use Rattle.emit_relocate.proofs.Common.{distinct_first, texts, ◌≡◌}
 use Rattle.emit_relocate.proofs.script_names.distinct.Given as goal
 
 -- the names before this place are seen to

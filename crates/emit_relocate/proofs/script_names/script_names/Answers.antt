@@ -1,11 +1,5 @@
-use Rattle.std.proofs.Common.{◌∙◌, ◌++◌, List, ap, length, rules}
-use Rattle.std.specs.Prelude.{ℕ}
-use Rattle.std.specs.Borrow.{Bor}
-use Rattle.std.specs.Cmp.Lexicographic.{nat_list_cmp_total}
-use Rattle.std.proofs.lemmas.List.Sorted.{answers_always, ranks_by}
-use Rattle.std.proofs.lemmas.Result.{IfOk-weaker}
-use Rattle.ldscript.specs.statements.Numbered.{shown_directives}
-use Rattle.emit_relocate.specs.ScriptNames.{all_given, distinct_first, texts}
+use Rattle.emit_relocate.proofs.Common.{Bor, IfOk-weaker, List, all_given, answers_always, ap, distinct_first, length}
+use Rattle.emit_relocate.proofs.Common.{nat_list_cmp_total, ranks_by, rules, shown_directives, texts, ℕ, ◌++◌, ◌∙◌}
 use Rattle.emit_relocate.proofs.Distinct.{text_before}
 use Rattle.emit_relocate.proofs.Listing.{names_are}
 use Rattle.emit_relocate.proofs.script_names.script_names.Goals as goal
@@ -15,7 +9,7 @@ returns c =
     IfOk-weaker c.distinct.result _ _
     (λ list e.
     names_are c.args.script.now (shown_directives c.deref.result.now) c.add_all_given.new.list.items
-    c.sort_by.new.self.items list.items
+    c.sort_by.new.list.items list.items
     (ap shown_directives c.deref.ensures.value ∙ c.in_ok-commands.ensures)
     (c.in_ok-add_all_given.ensures
     ∙ ap (λ (l : List (Bor (List ℕ))). texts l ++ all_given (shown_directives c.deref.result.now))

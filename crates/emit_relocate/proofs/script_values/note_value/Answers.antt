@@ -1,5 +1,5 @@
-use Rattle.std.proofs.Common.{◌≡◌, ◌∙◌, ◌<◌, ap, arith, get_or, length, not, None, Some}
-use Rattle.ldmodel.specs.PlacementView.{symbol_of}
+use Rattle.emit_relocate.proofs.Common.{Some, ap, arith, get_or, length, not, symbol_of, ◌<◌, ◌∙◌, ◌≡◌}
+use Rattle.std.proofs.Common.{None}
 use Rattle.place.proofs.TermTables.{at_place, values_more, values_same}
 use Rattle.emit_relocate.proofs.Giving.{found_inside, none_there, some_there}
 use Rattle.emit_relocate.proofs.script_values.note_value.Goals as goal

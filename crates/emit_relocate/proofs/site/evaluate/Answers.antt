@@ -1,9 +1,5 @@
-use Rattle.std.proofs.Common.{◌∙◌, ap, sym}
-use Rattle.elfobj.specs.Raised.{raised}
-use Rattle.elfobj.specs.declared.meter.Count.TheVariants.{Fields}
-use Rattle.elfobj.specs.declared.relocation.Relocation.{Relocation}
+use Rattle.emit_relocate.proofs.Common.{Fields, Relocation, ap, raised, sym, work_of, ◌∙◌}
 use Rattle.ldmodel.specs.SymbolValues.{SymbolValue}
-use Rattle.emit_relocate.specs.Fields.{work_of}
 use Rattle.emit_relocate.proofs.Evaluations.{one_evaluation}
 use Rattle.emit_relocate.proofs.Sites.{evaluated}
 use Rattle.emit_relocate.proofs.site.evaluate.Goals as goal

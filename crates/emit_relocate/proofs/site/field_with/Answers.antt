@@ -1,7 +1,4 @@
-use Rattle.std.proofs.Common.{ap, arith, sym, ◌∙◌}
-use Rattle.elfobj.specs.Raised.{raised}
-use Rattle.elfobj.specs.declared.meter.Count.TheVariants.{Fields}
-use Rattle.emit_relocate.specs.Fields.{work_of}
+use Rattle.emit_relocate.proofs.Common.{Fields, ap, arith, raised, sym, work_of, ◌∙◌}
 use Rattle.emit_relocate.specs.Values.{value_of}
 use Rattle.emit_relocate.specs.declared.value.SymbolValue.{SymbolValue}
 use Rattle.emit_relocate.proofs.Added.{raise_none}

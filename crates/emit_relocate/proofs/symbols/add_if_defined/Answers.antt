@@ -1,4 +1,4 @@
-use Rattle.emit_relocate.specs.Symbols.{symbol_with}
+use Rattle.emit_relocate.proofs.Common.{symbol_with}
 use Rattle.emit_relocate.proofs.AddedSymbols.{keeps_one}
 use Rattle.emit_relocate.proofs.symbols.add_if_defined.Goals as goal
 

@@ -1,11 +1,6 @@
-use Rattle.std.proofs.Common.{◌≡◌, ◌∙◌, ◌<◌, ◌++◌, ◌∷◌, [], List, ap, arith, drop, get_or, length, subst, sym}
-use Rattle.std.proofs.Common.{◌+◌, take}
-use Rattle.std.specs.Prelude.{ℕ}
-use Rattle.std.proofs.lemmas.List.{take_all}
-use Rattle.symres.specs.declared.sorted.NamedKey.{NamedKey}
-use Rattle.emit_relocate.specs.Sizes.{plus_symbols}
-use Rattle.emit_relocate.specs.Symbols.{AddsSome, AddsSymbols, KeepsFacts, keyed_names}
-use Rattle.emit_relocate.specs.declared.values.OutputSymbol.{OutputSymbol}
+use Rattle.emit_relocate.proofs.Common.{AddsSome, AddsSymbols, KeepsFacts, List, NamedKey, OutputSymbol, [], ap, arith}
+use Rattle.emit_relocate.proofs.Common.{drop, get_or, keyed_names, length, plus_symbols, subst, sym, take, take_all, ℕ}
+use Rattle.emit_relocate.proofs.Common.{◌++◌, ◌+◌, ◌<◌, ◌∙◌, ◌∷◌, ◌≡◌}
 use Rattle.emit_relocate.proofs.Counted.{counts_more}
 use Rattle.emit_relocate.proofs.Defined.{symbols_join, symbols_none}
 use Rattle.emit_relocate.proofs.Giving.{no_key}
@@ -15,7 +10,7 @@ use Rattle.emit_relocate.proofs.symbols.add_keyed.Goals as goal
 
 pub loop-named-init : goal.loop-named-init
 loop-named-init c =
-    let was : c.args.list.now.items ≡ c.reserve.new.self.items = sym c.reserve.ensures.items in
+    let was : c.args.list.now.items ≡ c.reserve.new.list.items = sym c.reserve.ensures.items in
     record {
       symbols = λ p s h.
           subst (AddsSymbols p s [] c.args.list.now.items) was (symbols_none p s c.args.list.now.items);

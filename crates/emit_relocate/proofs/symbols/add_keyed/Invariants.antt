@@ -1,7 +1,5 @@
-use Rattle.std.proofs.Common.{◌+◌, ◌≤◌, length, take, vec_capacity, vec_len}
-use Rattle.ldmodel.specs.Layout.{Layout}
-use Rattle.ldmodel.specs.Project.{Project}
-use Rattle.emit_relocate.specs.Symbols.{AddsSome, AddsSymbols, AreSources, KeepsCount, KeepsFacts, keyed_names}
+use Rattle.emit_relocate.proofs.Common.{AddsSome, AddsSymbols, AreSources, KeepsCount, KeepsFacts, Layout, Project}
+use Rattle.emit_relocate.proofs.Common.{keyed_names, length, take, vec_capacity, vec_len, ◌+◌, ◌≤◌}
 use Rattle.emit_relocate.proofs.symbols.add_keyed.Given as goal
 
 -- the symbols of the names before this one are added, and there is room for all

@@ -1,6 +1,4 @@
-use Rattle.std.proofs.Common.{sym}
-use Rattle.std.proofs.lemmas.Option.{slice_get_past}
-use Rattle.emit_relocate.specs.Symbols.{symbol_with}
+use Rattle.emit_relocate.proofs.Common.{slice_get_past, sym, symbol_with}
 use Rattle.emit_relocate.proofs.AddedSymbols.{adds_one, has_row, named_facts, named_symbol}
 use Rattle.emit_relocate.proofs.symbols.add_named.Goals as goal
 

@@ -1,22 +1,11 @@
-use Rattle.std.proofs.Common.{◌≡◌, ◌-◌, ◌<◌, ◌≤◌, ◌++◌, List, [], ap, arith, drop, get_or, length}
-use Rattle.std.proofs.Common.{subst, sym, take}
-use Rattle.std.specs.Prelude.{ℕ}
-use Rattle.std.specs.Borrow.{Bor}
-use Rattle.std.specs.List.{All}
-use Rattle.std.proofs.lemmas.List.{get_or_default, length-drop, take_all}
-use Rattle.std.proofs.lemmas.List.Elements.{All-drop, All-take}
-use Rattle.std.proofs.lemmas.Result.{IfOk-weaker}
-use Rattle.symres.specs.declared.sorted.NamedKey.{NamedKey}
-use Rattle.symres.specs.table.State.{IsNamed}
-use Rattle.emit_relocate.specs.ScriptNames.{texts}
-use Rattle.emit_relocate.specs.Sizes.{plus_symbols}
-use Rattle.emit_relocate.specs.Symbols.{AddsSome, AddsSymbols, AreUp, IsPlaceAmong, keyed_names, with_name}
-use Rattle.emit_relocate.specs.LinkValues.{HasFacts}
-use Rattle.emit_relocate.specs.declared.values.OutputSymbol.{OutputSymbol}
+use Rattle.emit_relocate.proofs.Common.{AddsSome, AddsSymbols, All, All-drop, All-take, AreUp, Bor, HasFacts}
+use Rattle.emit_relocate.proofs.Common.{IfOk-weaker, IsNamed, IsPlaceAmong, List, NamedKey, OutputSymbol, [], ap, arith}
+use Rattle.emit_relocate.proofs.Common.{drop, get_or, get_or_default, keyed_names, length, length-drop, plus_symbols}
+use Rattle.emit_relocate.proofs.Common.{subst, sym, take, take_all, texts, with_name, ℕ, ◌++◌, ◌-◌, ◌<◌, ◌≡◌, ◌≤◌}
 use Rattle.emit_relocate.proofs.Defined.{symbols_are, symbols_join, symbols_none}
 use Rattle.emit_relocate.proofs.Listing.{declared_of}
 use Rattle.emit_relocate.proofs.Picking.{added_in_order, adds_join, adds_none}
-use Rattle.emit_relocate.proofs.Rising.{names_asc, pairs_asc}
+use Rattle.emit_relocate.proofs.NamesAscending.{names_asc, pairs_asc}
 use Rattle.emit_relocate.proofs.Walking.{all_walked, none_walked, rest_up, walked_next}
 use Rattle.emit_relocate.proofs.symbols.add_symbols.Goals as goal
 

@@ -1,9 +1,5 @@
-use Rattle.std.proofs.Common.{◌≤◌, List, drop, length}
-use Rattle.std.specs.Prelude.{ℕ}
-use Rattle.ldmodel.specs.Layout.{Layout}
-use Rattle.ldmodel.specs.Project.{Project}
-use Rattle.emit_relocate.specs.ScriptNames.{texts}
-use Rattle.emit_relocate.specs.Symbols.{AddsSome, AddsSymbols, AreSources, KeepsCount, KeepsFacts, keyed_names}
+use Rattle.emit_relocate.proofs.Common.{AddsSome, AddsSymbols, AreSources, KeepsCount, KeepsFacts, Layout, List}
+use Rattle.emit_relocate.proofs.Common.{Project, drop, keyed_names, length, texts, ℕ, ◌≤◌}
 use Rattle.emit_relocate.proofs.Walking.{Walked}
 use Rattle.emit_relocate.proofs.symbols.add_symbols.Given as goal
 

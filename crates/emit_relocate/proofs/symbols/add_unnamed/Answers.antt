@@ -1,5 +1,4 @@
-use Rattle.std.proofs.Common.{◌∙◌}
-use Rattle.emit_relocate.specs.Symbols.{symbol_with}
+use Rattle.emit_relocate.proofs.Common.{symbol_with, ◌∙◌}
 use Rattle.emit_relocate.proofs.AddedSymbols.{adds_one, unnamed_facts, unnamed_symbol}
 use Rattle.emit_relocate.proofs.symbols.add_unnamed.Goals as goal
 

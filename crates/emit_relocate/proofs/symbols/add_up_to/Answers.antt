@@ -1,7 +1,6 @@
-use Rattle.std.proofs.Common.{◌≡◌, ◌∙◌, ◌++◌, ◌∷◌, [], List, Bool, true, false, ap, append-nil, cond, subst, sym}
-use Rattle.std.specs.Prelude.{ℕ}
-use Rattle.std.proofs.lemmas.Result.{IfOk-weaker}
-use Rattle.emit_relocate.specs.Symbols.{AddsSome, AddsSymbols, ends_with, keyed_names, with_name}
+use Rattle.emit_relocate.proofs.Common.{AddsSome, AddsSymbols, Bool, IfOk-weaker, List, [], ap, append-nil, cond}
+use Rattle.emit_relocate.proofs.Common.{ends_with, false, keyed_names, subst, sym, true, with_name, ℕ, ◌++◌, ◌∙◌, ◌∷◌}
+use Rattle.emit_relocate.proofs.Common.{◌≡◌}
 use Rattle.emit_relocate.proofs.Defined.{symbols_join}
 use Rattle.emit_relocate.proofs.Picking.{adds_join}
 use Rattle.emit_relocate.proofs.symbols.add_up_to.Goals as goal

@@ -1,5 +1,4 @@
-use Rattle.std.proofs.Common.{rules}
-use Rattle.std.proofs.lemmas.List.Sorted.{IsPartitionPoint-from_clause}
+use Rattle.emit_relocate.proofs.Common.{IsPartitionPoint-from_clause, rules}
 use Rattle.emit_relocate.proofs.Placing.{comes_by, partitioned, place_among}
 use Rattle.emit_relocate.proofs.symbols.count_up_to.Goals as goal
 

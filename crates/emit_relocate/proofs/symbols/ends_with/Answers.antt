@@ -1,6 +1,4 @@
-use Rattle.std.proofs.Common.{◌∙◌, ◌-◌, ◌<◌, ◌≤◌, arith, get_or, length}
-use Rattle.std.proofs.lemmas.List.{get_or_default}
-use Rattle.symres.specs.declared.sorted.NamedKey.{NamedKey}
+use Rattle.emit_relocate.proofs.Common.{NamedKey, arith, get_or, get_or_default, length, ◌-◌, ◌<◌, ◌∙◌, ◌≤◌}
 use Rattle.emit_relocate.proofs.Giving.{no_key}
 use Rattle.emit_relocate.proofs.Walking.{last_is}
 use Rattle.emit_relocate.proofs.symbols.ends_with.Goals as goal

@@ -1,5 +1,5 @@
 -- A kind's number is the only one that is read as it.
-use Rattle.std.proofs.Common.{◌≡◌, refl, sym, Some}
+use Rattle.emit_text.proofs.Common.{Some, refl, sym, ◌≡◌}
 use Rattle.elfobj.specs.file.RelocationKinds.{relocation_kind}
 use Rattle.elfobj.specs.declared.relocation.RelocationKind.{RelocationKind}
 use Rattle.elfobj.specs.declared.relocation.RelocationKind.TheVariants as kind

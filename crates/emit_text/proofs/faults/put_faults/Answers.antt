@@ -1,11 +1,7 @@
 -- A line for each fault.
-use Rattle.std.proofs.Common.{◌≡◌, List, [], ◌∷◌, ◌++◌, refl, ◌∙◌, ℕ}
-use Rattle.std.proofs.lemmas.List.{at_drop_more, at_drop_all}
-use Rattle.ldmodel.specs.FaultText.{fault_text}
-use Rattle.ldmodel.specs.Project.{Project}
+use Rattle.emit_text.proofs.Common.{List, Project, [], at_drop_all, at_drop_more, fault_text, faults_in, line_of_fault}
+use Rattle.emit_text.proofs.Common.{refl, ℕ, ◌++◌, ◌∙◌, ◌∷◌, ◌≡◌}
 use Rattle.ldmodel.specs.declared.fault.Fault.{Fault}
-use Rattle.ldmodel_project.specs.ByPlace.{faults_in}
-use Rattle.emit_text.specs.Naming.{line_of_fault}
 use Rattle.emit_text.proofs.Appending.{written_step, written_end}
 use Rattle.emit_text.proofs.faults.put_faults.Goals as goal
 

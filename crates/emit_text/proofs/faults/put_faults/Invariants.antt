@@ -1,7 +1,5 @@
 -- With the lines still to come, the text is the whole one.
-use Rattle.std.proofs.Common.{◌≡◌, ◌++◌, drop}
-use Rattle.ldmodel.specs.FaultText.{fault_text}
-use Rattle.ldmodel_project.specs.ByPlace.{faults_in}
+use Rattle.emit_text.proofs.Common.{drop, fault_text, faults_in, ◌++◌, ◌≡◌}
 use Rattle.emit_text.proofs.faults.put_faults.Given as goal
 
 abbrev pub invariant-loop-fault : goal.invariant-loop-fault

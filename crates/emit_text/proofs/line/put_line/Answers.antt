@@ -1,7 +1,5 @@
 -- A line by its words.
-use Rattle.std.proofs.Common.{◌∙◌, ap, map, sym}
-use Rattle.ldmodel.specs.Lines.{line_of}
-use Rattle.emit_text.specs.LineWords.{shown}
+use Rattle.emit_text.proofs.Common.{ap, line_of, map, shown, sym, ◌∙◌}
 use Rattle.emit_text.proofs.Appending.{written_both, written_last}
 use Rattle.emit_text.proofs.Spelling.{spelled}
 use Rattle.emit_text.proofs.line.put_line.Goals as goal

@@ -1,7 +1,5 @@
 -- Each word after a space.
-use Rattle.std.proofs.Common.{[], ◌∷◌}
-use Rattle.std.proofs.lemmas.List.{at_drop_more, at_drop_all}
-use Rattle.emit_text.specs.LineWords.{spaced_words}
+use Rattle.emit_text.proofs.Common.{[], at_drop_all, at_drop_more, spaced_words, ◌∷◌}
 use Rattle.emit_text.proofs.Appending.{written_step, written_both, written_end}
 use Rattle.emit_text.proofs.line.put_others.Goals as goal
 

@@ -1,6 +1,5 @@
 -- With the words still to come, the text is the whole one.
-use Rattle.std.proofs.Common.{◌≡◌, ◌++◌, drop}
-use Rattle.emit_text.specs.LineWords.{spaced_words}
+use Rattle.emit_text.proofs.Common.{drop, spaced_words, ◌++◌, ◌≡◌}
 use Rattle.emit_text.proofs.line.put_others.Given as goal
 
 abbrev pub invariant-loop-word : goal.invariant-loop-word

@@ -1,5 +1,5 @@
 -- The line of the entry point.
-use Rattle.std.proofs.Common.{◌∙◌, codes}
+use Rattle.emit_text.proofs.Common.{codes, ◌∙◌}
 use Rattle.emit_text.proofs.Appending.{written_both, written_last}
 use Rattle.emit_text.proofs.MapLines.{entry_spelled}
 use Rattle.emit_text.proofs.map_line.put_entry_line.Goals as goal

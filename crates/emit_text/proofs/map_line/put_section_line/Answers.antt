@@ -1,5 +1,5 @@
 -- An output section's line.
-use Rattle.std.proofs.Common.{◌∙◌, codes}
+use Rattle.emit_text.proofs.Common.{codes, ◌∙◌}
 use Rattle.emit_text.proofs.Appending.{written_both, written_last}
 use Rattle.emit_text.proofs.MapLines.{section_spelled}
 use Rattle.emit_text.proofs.map_line.put_section_line.Goals as goal

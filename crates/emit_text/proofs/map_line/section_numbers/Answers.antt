@@ -1,6 +1,5 @@
 -- Three numbers, each in its place.
-use Rattle.std.proofs.Common.{refl}
-use Rattle.ldmodel.specs.Lines.{hex}
+use Rattle.emit_text.proofs.Common.{hex, refl}
 use Rattle.emit_text.proofs.map_line.section_numbers.Goals as goal
 
 pub returns : goal.returns

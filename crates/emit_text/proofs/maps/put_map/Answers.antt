@@ -1,6 +1,5 @@
 -- The three parts of the map.
-use Rattle.std.proofs.Common.{◌∙◌}
-use Rattle.emit_text.specs.ShownMap.{shown_map}
+use Rattle.emit_text.proofs.Common.{shown_map, ◌∙◌}
 use Rattle.emit_text.proofs.Appending.{written_three}
 use Rattle.emit_text.proofs.maps.put_map.Goals as goal
 

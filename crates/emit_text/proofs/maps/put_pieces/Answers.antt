@@ -1,10 +1,6 @@
 -- The lines of a row.
-use Rattle.std.proofs.Common.{◌≡◌, ◌∙◌, ◌∷◌, [], ◌++◌, ◌+◌, ◌<◌, ◌≤◌, drop, get_or, length, min, zero, suc, ℕ, List}
-use Rattle.std.proofs.Common.{arith, refl}
-use Rattle.std.proofs.lemmas.List.{at_drop_more}
-use Rattle.ldmodel.specs.Project.{Project}
-use Rattle.ldmodel.specs.declared.rows.Piece.{Piece}
-use Rattle.emit_text.specs.ShownMap.{piece_text, pieces_text}
+use Rattle.emit_text.proofs.Common.{List, Piece, Project, [], arith, at_drop_more, drop, get_or, length, min}
+use Rattle.emit_text.proofs.Common.{piece_text, pieces_text, refl, suc, zero, ℕ, ◌++◌, ◌+◌, ◌<◌, ◌∙◌, ◌∷◌, ◌≡◌, ◌≤◌}
 use Rattle.emit_text.proofs.Appending.{written_step, written_end}
 use Rattle.emit_text.proofs.maps.put_pieces.Goals as goal
 

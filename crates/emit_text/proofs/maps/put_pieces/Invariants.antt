@@ -1,6 +1,5 @@
 -- With the lines still to come, the text is the whole one.
-use Rattle.std.proofs.Common.{◌≡◌, ◌++◌, drop}
-use Rattle.emit_text.specs.ShownMap.{pieces_text}
+use Rattle.emit_text.proofs.Common.{drop, pieces_text, ◌++◌, ◌≡◌}
 use Rattle.emit_text.proofs.maps.put_pieces.Given as goal
 
 abbrev pub invariant-loop-i : goal.invariant-loop-i

@@ -1,15 +1,10 @@
 -- Output sections with their rows.
-use Rattle.std.proofs.Common.{◌≡◌, ◌∙◌, ◌∷◌, [], ◌+◌, ◌++◌, ◌<◌, ap, sym, drop, get_or, length, map, min, ℕ, List, refl}
-use Rattle.std.proofs.Common.{append_assoc, arith, take, ◌-◌}
-use Rattle.std.proofs.lemmas.List.{at_drop_more, at_drop_all, drop_min, length-drop, take_all}
-use Rattle.std.specs.Vec.{vec_items}
-use Rattle.ldscript.specs.Numbering.{OutputSectionAt}
-use Rattle.ldscript.specs.Numbered.{shown_sections}
+use Rattle.emit_text.proofs.Common.{List, OutputSectionAt, Piece, Project, [], ap, append_assoc, arith, at_drop_all}
+use Rattle.emit_text.proofs.Common.{at_drop_more, drop, drop_min, get_or, length, length-drop, map, min, pieces_text}
+use Rattle.emit_text.proofs.Common.{refl, section_text, sections_text, shown_sections, sym, take, take_all, vec_items}
+use Rattle.emit_text.proofs.Common.{ℕ, ◌++◌, ◌+◌, ◌-◌, ◌<◌, ◌∙◌, ◌∷◌, ◌≡◌}
 use Rattle.ldscript.specs.statements.declared.numbering.OutputSectionAt as code_section
-use Rattle.ldmodel.specs.Project.{Project}
 use Rattle.ldmodel.specs.declared.placed.Placed.{Placed}
-use Rattle.ldmodel.specs.declared.rows.Piece.{Piece}
-use Rattle.emit_text.specs.ShownMap.{pieces_text, section_text, sections_text}
 use Rattle.emit_text.proofs.Appending.{written_step, written_both, written_end}
 use Rattle.emit_text.proofs.SideBySide.{some_left, none_left}
 use Rattle.emit_text.proofs.maps.put_sections.Goals as goal

@@ -1,8 +1,5 @@
 -- With the lines still to come, the text is the whole one.
-use Rattle.std.proofs.Common.{◌≡◌, ◌++◌, drop, map}
-use Rattle.std.specs.Vec.{vec_items}
-use Rattle.ldscript.specs.Numbered.{shown_sections}
-use Rattle.emit_text.specs.ShownMap.{sections_text}
+use Rattle.emit_text.proofs.Common.{drop, map, sections_text, shown_sections, vec_items, ◌++◌, ◌≡◌}
 use Rattle.emit_text.proofs.maps.put_sections.Given as goal
 
 abbrev pub invariant-loop-k : goal.invariant-loop-k

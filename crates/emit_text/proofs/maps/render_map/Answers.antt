@@ -1,6 +1,5 @@
 -- What was written is the map.
-use Rattle.std.proofs.Common.{◌∙◌, ◌++◌, ap}
-use Rattle.emit_text.specs.ShownMap.{shown_map}
+use Rattle.emit_text.proofs.Common.{ap, shown_map, ◌++◌, ◌∙◌}
 use Rattle.emit_text.proofs.Mapped.{map_is_shown}
 use Rattle.emit_text.proofs.maps.render_map.Goals as goal
 

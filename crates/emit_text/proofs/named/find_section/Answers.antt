@@ -1,7 +1,5 @@
 -- The section of a number, where numbers ascend.
-use Rattle.std.proofs.Common.{◌<◌, subst}
-use Rattle.std.specs.Prelude.{AllPairs}
-use Rattle.elfobj.specs.declared.section.Section.{Section}
+use Rattle.emit_text.proofs.Common.{AllPairs, Section, subst, ◌<◌}
 use Rattle.emit_text.proofs.FoundSections.{found_or_none}
 use Rattle.emit_text.proofs.named.find_section.Goals as goal
 

@@ -1,5 +1,5 @@
 -- The section at the likely place, where it has the number.
-use Rattle.std.proofs.Common.{rules, sym}
+use Rattle.emit_text.proofs.Common.{rules, sym}
 use Rattle.emit_text.proofs.FoundSections.{found_at}
 use Rattle.emit_text.proofs.named.find_section_near.Goals as goal
 

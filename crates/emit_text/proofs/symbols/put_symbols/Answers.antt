@@ -1,7 +1,5 @@
 -- A line for each symbol.
-use Rattle.std.proofs.Common.{◌∙◌, ap, arith}
-use Rattle.std.proofs.lemmas.List.{at_drop_all}
-use Rattle.emit_text.specs.ShownMap.{symbols_text}
+use Rattle.emit_text.proofs.Common.{ap, arith, at_drop_all, symbols_text, ◌∙◌}
 use Rattle.emit_text.proofs.Appending.{written_step, written_end}
 use Rattle.emit_text.proofs.SideBySide.{entry_left}
 use Rattle.emit_text.proofs.symbols.put_symbols.Goals as goal

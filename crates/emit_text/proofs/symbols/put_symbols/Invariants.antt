@@ -1,6 +1,5 @@
 -- With the lines still to come, the text is the whole one.
-use Rattle.std.proofs.Common.{◌≡◌, ◌++◌, drop}
-use Rattle.emit_text.specs.ShownMap.{symbols_text}
+use Rattle.emit_text.proofs.Common.{drop, symbols_text, ◌++◌, ◌≡◌}
 use Rattle.emit_text.proofs.symbols.put_symbols.Given as goal
 
 abbrev pub invariant-loop-place : goal.invariant-loop-place

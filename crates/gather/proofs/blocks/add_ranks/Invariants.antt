@@ -1,5 +1,4 @@
-use Rattle.std.proofs.Common.{◌≡◌, ◌++◌, map, take}
-use Rattle.gather.specs.Blocks.{block_rank}
+use Rattle.gather.proofs.Common.{block_rank, map, take, ◌++◌, ◌≡◌}
 use Rattle.gather.proofs.blocks.add_ranks.Given as goal
 
 abbrev pub invariant-loop-block : goal.invariant-loop-block

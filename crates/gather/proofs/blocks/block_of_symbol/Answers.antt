@@ -1,4 +1,4 @@
-use Rattle.std.proofs.Common.{◌∙◌, inr, sym}
+use Rattle.gather.proofs.Common.{inr, sym, ◌∙◌}
 use Rattle.gather.proofs.Owning.{is_common_at, owns_none}
 use Rattle.gather.proofs.blocks.block_of_symbol.Goals as goal
 

@@ -1,5 +1,4 @@
-use Rattle.std.proofs.Common.{◌++◌, ◌∙◌, ap, map, subst, sym}
-use Rattle.gather.specs.Blocks.{block_rank}
+use Rattle.gather.proofs.Common.{ap, block_rank, map, subst, sym, ◌++◌, ◌∙◌}
 use Rattle.gather.proofs.Ranked.{RankedUpTo, all_ranked, more_ranked, none_ranked}
 use Rattle.gather.proofs.blocks.block_ranks.Goals as goal
 

@@ -1,6 +1,5 @@
-use Rattle.std.proofs.Common.{◌∙◌, ◌<◌, ap, arith, length, map, sym}
+use Rattle.gather.proofs.Common.{ap, arith, block_at, length, map, sym, ◌<◌, ◌∙◌}
 use Rattle.gather.specs.Blocks.{block_of}
-use Rattle.ldmodel.specs.InputSections.{block_at}
 use Rattle.gather.proofs.Commons.{none_after, none_before}
 use Rattle.gather.proofs.Owning.{symbols_more}
 use Rattle.gather.proofs.blocks.blocks_of.Goals as goal

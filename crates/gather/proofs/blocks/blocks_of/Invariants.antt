@@ -1,8 +1,6 @@
 -- The blocks of the symbols so far.
-use Rattle.std.proofs.Common.{◌≡◌, ℕ, List, map, take}
-use Rattle.std.specs.List.{enumerate_from, filter_map}
+use Rattle.gather.proofs.Common.{List, block_at, enumerate_from, filter_map, map, take, ℕ, ◌≡◌}
 use Rattle.gather.specs.Blocks.{block_of}
-use Rattle.ldmodel.specs.InputSections.{block_at}
 use Rattle.gather.proofs.blocks.blocks_of.Given as goal
 
 abbrev pub invariant-loop-number : goal.invariant-loop-number

@@ -1,11 +1,5 @@
-use Rattle.std.proofs.Common.{◌≡◌, ◌≤◌, ap, arith, sym, subst, Some, length}
-use Rattle.std.specs.Borrow.{Bor}
-use Rattle.std.specs.Option.{option_map}
-use Rattle.std.specs.Prelude.{slice_get}
-use Rattle.ldmodel_project.specs.Inputs.{shown_input}
-use Rattle.ldmodel.specs.Project.{NamedObject}
-use Rattle.gather.specs.Commons.{AreCommonsIn}
-use Rattle.gather.specs.declared.matches.Matches.{Matches}
+use Rattle.gather.proofs.Common.{AreCommonsIn, Bor, Matches, NamedObject, Some, ap, arith, length, option_map}
+use Rattle.gather.proofs.Common.{shown_input, slice_get, subst, sym, ◌≡◌, ◌≤◌}
 use Rattle.gather.proofs.Preparing.{all_blocks, as_many, as_many_matched, matched_at, more_blocks, object_here}
 use Rattle.gather.proofs.blocks.common_blocks.Goals as goal
 
@@ -45,7 +39,7 @@ loop-place-preserved c =
     let at : slice_get p.objects n ≡ Some (shown_input x) =
     object_here p c.inputs-inputs.result.now n x c.inputs-inputs.ensures.same
     (omega (arith, c.loop-place-test.true)) (sym c.index-inputs-place.is) in
-    more_blocks p n (shown_input x) c.loop-place.all.items c.push.new.self.items c.in_ok-blocks_of.field-0 at
+    more_blocks p n (shown_input x) c.loop-place.all.items c.push.new.list.items c.in_ok-blocks_of.field-0 at
     (c.in_ok-blocks_of.ensures x.name.now) c.in_ok-push.ensures.items c.loop-place.invariant
 
 pub returns : goal.returns

@@ -1,6 +1,4 @@
-use Rattle.std.proofs.Common.{◌∙◌, ◌<◌, ap, arith, length, sym}
-use Rattle.std.proofs.lemmas.List.{length-map}
-use Rattle.elfobj.specs.Symbols.{NamedSymbol}
+use Rattle.gather.proofs.Common.{NamedSymbol, ap, arith, length, length-map, sym, ◌<◌, ◌∙◌}
 use Rattle.gather.proofs.Commons.{first_common, next_common, not_common}
 use Rattle.gather.proofs.Owning.{is_common_at}
 use Rattle.gather.proofs.blocks.common_symbols.Goals as goal

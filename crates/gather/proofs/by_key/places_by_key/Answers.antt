@@ -1,5 +1,4 @@
-use Rattle.std.proofs.Common.{arith}
-use Rattle.gather.specs.SectionPlaces.{place_in}
+use Rattle.gather.proofs.Common.{arith, place_in}
 use Rattle.gather.proofs.KeyPlaces.{all_below, next_below, none_below}
 use Rattle.gather.proofs.by_key.places_by_key.Goals as goal
 
@@ -10,7 +9,7 @@ loop-key-init c =
 pub loop-key-preserved : goal.loop-key-preserved
 loop-key-preserved c =
     next_below c.args.project.now c.args.symbol_table.now c.loop-key.key c.loop-key.column.items
-    c.push.new.self.items (place_in c.args.places.now) c.section_of_key-section.result c.find.result c.requires.places
+    c.push.new.list.items (place_in c.args.places.now) c.section_of_key-section.result c.find.result c.requires.places
     c.section_of_key-section.ensures c.find.ensures c.in_ok-push.ensures.items c.loop-key.invariant
 
 pub returns : goal.returns

@@ -1,5 +1,4 @@
-use Rattle.std.proofs.Common.{◌∙◌, sym}
-use Rattle.std.specs.Prelude.{true, false}
+use Rattle.gather.proofs.Common.{false, sym, true, ◌∙◌}
 use Rattle.gather.proofs.Seen.{case_is, declared, is_seen}
 use Rattle.gather.proofs.cases.case_of_symbol.Goals as goal
 

@@ -1,12 +1,7 @@
-use Rattle.std.proofs.Common.{◌≡◌, List, map, ap, sym, ◌∙◌, Bool, Vec, Global}
-use Rattle.std.proofs.lemmas.Result.{IfOk-weaker}
-use Rattle.ldscript.specs.statements.Numbering.{InputStatementAt, input_statements}
+use Rattle.gather.proofs.Common.{Bool, GatheredSection, Global, IfOk-weaker, InputStatementAt, List, Orphans, Project}
+use Rattle.gather.proofs.Common.{Vec, ap, input_statements, is_out_of, map, sym, ◌∙◌, ◌≡◌}
 use Rattle.ldscript.specs.statements.Numbered.{shown_inputs}
-use Rattle.ldmodel.specs.Project.{Project}
-use Rattle.ldmodel.specs.declared.options.Orphans.{Orphans}
-use Rattle.gather.specs.LeftOut.{is_out_of}
 use Rattle.gather.specs.Matches.{number_of}
-use Rattle.gather.specs.declared.gathered_section.GatheredSection.{GatheredSection}
 use Rattle.gather.proofs.GatheredLists.{out_are}
 use Rattle.gather.proofs.discarded_sections.discarded_sections.Goals as goal
 

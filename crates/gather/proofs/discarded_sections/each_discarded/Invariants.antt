@@ -1,9 +1,7 @@
 -- Of the sections so far.
-use Rattle.std.proofs.Common.{◌≡◌, map, take}
+use Rattle.gather.proofs.Common.{GatheredSection, is_out_of, map, take, ◌≡◌}
 use Rattle.ldscript.specs.statements.Numbered.{shown_inputs}
-use Rattle.gather.specs.LeftOut.{is_out_of}
 use Rattle.gather.specs.Matches.{number_of}
-use Rattle.gather.specs.declared.gathered_section.GatheredSection.{GatheredSection}
 use Rattle.gather.proofs.discarded_sections.each_discarded.Given as goal
 
 abbrev pub invariant-loop-section : goal.invariant-loop-section

@@ -1,8 +1,5 @@
-use Rattle.std.proofs.Common.{◌≡◌, ◌∙◌, Some, subst}
-use Rattle.std.specs.Prelude.{slice_get}
-use Rattle.gather.specs.FileSearches.{matches_by}
+use Rattle.gather.proofs.Common.{FileTables, Some, matches_by, slice_get, subst, ◌∙◌, ◌≡◌}
 use Rattle.gather.specs.Matches.{number_of}
-use Rattle.gather.specs.declared.file_tables.FileTables.{FileTables}
 use Rattle.gather.proofs.NamedLists.{map_more}
 use Rattle.gather.proofs.file_search.matches_by.Goals as goal
 

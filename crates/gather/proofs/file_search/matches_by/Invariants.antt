@@ -1,6 +1,5 @@
 -- The statements of the sections so far.
-use Rattle.std.proofs.Common.{◌≡◌, map, take}
-use Rattle.gather.specs.FileSearches.{IsSearch, matches_by}
+use Rattle.gather.proofs.Common.{IsSearch, map, matches_by, take, ◌≡◌}
 use Rattle.gather.specs.Matches.{number_of}
 use Rattle.gather.proofs.file_search.matches_by.Given as goal
 

@@ -1,9 +1,5 @@
-use Rattle.std.proofs.Common.{◌≡◌, ◌∙◌, ◌++◌, ap, map}
-use Rattle.std.proofs.lemmas.Result.{on_ok_weaker}
-use Rattle.elfobj.specs.Sections.{section_of}
-use Rattle.ldmodel.specs.declared.names.ObjectPlace.{ObjectPlace}
-use Rattle.ldmodel_project.specs.Inputs.{shown_input}
-use Rattle.gather.specs.Runs.{gathered_by}
+use Rattle.gather.proofs.Common.{ObjectPlace, ap, gathered_by, map, on_ok_weaker, section_of, shown_input, ◌++◌, ◌∙◌}
+use Rattle.gather.proofs.Common.{◌≡◌}
 use Rattle.gather.proofs.ObjectFacts.{object_added}
 use Rattle.gather.proofs.gathered_section.add_object.Goals as goal
 

@@ -1,7 +1,4 @@
-use Rattle.std.proofs.Common.{◌≡◌, ◌≤◌, arith, sym, subst, Some}
-use Rattle.std.specs.Prelude.{slice_get, length}
-use Rattle.ldmodel_project.specs.Inputs.{shown_input}
-use Rattle.gather.specs.Blocks.{AreBlocksOf}
+use Rattle.gather.proofs.Common.{AreBlocksOf, Some, arith, length, shown_input, slice_get, subst, sym, ◌≡◌, ◌≤◌}
 use Rattle.gather.proofs.Preparing.{all_gathered, as_many, as_many_blocks, as_many_matched}
 use Rattle.gather.proofs.Preparing.{blocks_given, matched_at, more_gathered, object_here}
 use Rattle.gather.proofs.gathered_section.input_sections.Goals as goal

@@ -1,10 +1,6 @@
-use Rattle.std.proofs.Common.{◌∙◌, ap, sym, subst, List, length}
-use Rattle.std.specs.List.{filter_map}
-use Rattle.ldscript.specs.statements.Numbering.{input_statements}
+use Rattle.gather.proofs.Common.{AreBuckets, GatheredSection, List, ap, filter_map, input_statements, length, own_piece}
+use Rattle.gather.proofs.Common.{subst, sym, taken_in, untaken, ◌∙◌}
 use Rattle.ldscript.specs.statements.Numbered.{shown_inputs}
-use Rattle.gather.specs.GatheredSections.{own_piece, taken_in, untaken}
-use Rattle.gather.specs.RowPieces.{AreBuckets}
-use Rattle.gather.specs.declared.gathered_section.GatheredSection.{GatheredSection}
 use Rattle.gather.proofs.GatheredLists.{orphans_are, taken_are}
 use Rattle.gather.proofs.Named.{orphan_faults}
 use Rattle.gather.proofs.AllTaken.{kept_marks}

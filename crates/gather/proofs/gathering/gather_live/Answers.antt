@@ -1,9 +1,5 @@
-use Rattle.std.proofs.Common.{◌≡◌, ◌∙◌, ap, sym, subst, List, Bool}
-use Rattle.ldmodel.specs.InputSections.{input_sections}
-use Rattle.ldmodel.specs.Live.{live}
+use Rattle.gather.proofs.Common.{AreGathered, Bool, List, ap, input_sections, live, marked, subst, sym, ◌∙◌, ◌≡◌}
 use Rattle.ldmodel.specs.Options.{LinkOptions}
-use Rattle.gather.specs.GatheredSections.{AreGathered}
-use Rattle.gather.specs.LiveMarks.{marked}
 use Rattle.gather.proofs.Named.{orphan_faults}
 use Rattle.gather.proofs.gathering.gather_live.Goals as goal
 

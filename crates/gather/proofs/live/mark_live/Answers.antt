@@ -1,13 +1,7 @@
-use Rattle.std.proofs.Common.{◌≡◌, ◌⊎◌, ◌↔◌, ◌∙◌, ℕ, List, Option, Some, ap, length, sym, subst, Vec, Bool, Global}
-use Rattle.std.specs.Prelude.{Contains, IsTrue}
-use Rattle.std.proofs.lemmas.List.{length-map}
-use Rattle.std.proofs.lemmas.Result.{IfOk-weaker}
-use Rattle.gather.specs.LiveMarks.{IsSectionAt}
-use Rattle.ldmodel.specs.Gathering.{is_discarded, taken_by}
-use Rattle.ldmodel.specs.InputSections.{input_sections}
-use Rattle.ldmodel.specs.Live.{entry_section, is_kept}
-use Rattle.ldmodel.specs.Sections.{InputSection}
-use Rattle.gather.specs.SectionPlaces.{AreKeyPlaces, AreProjectPlaces, IsPlaceOf, place_under}
+use Rattle.gather.proofs.Common.{AreKeyPlaces, AreProjectPlaces, Bool, Contains, Global, IfOk-weaker, InputSection}
+use Rattle.gather.proofs.Common.{IsPlaceOf, IsSectionAt, IsTrue, List, Option, Some, Vec, ap, entry_section}
+use Rattle.gather.proofs.Common.{input_sections, is_discarded, is_kept, length, length-map, place_under, subst, sym}
+use Rattle.gather.proofs.Common.{taken_by, ℕ, ◌↔◌, ◌∙◌, ◌≡◌, ◌⊎◌}
 use Rattle.gather.proofs.Keyed.{place_of_key}
 use Rattle.gather.proofs.Starting.{graph_is}
 use Rattle.gather.proofs.live.mark_live.Goals as goal

@@ -1,5 +1,4 @@
-use Rattle.std.proofs.Common.{arith}
-use Rattle.gather.specs.GatheredSections.{untaken}
+use Rattle.gather.proofs.Common.{arith, untaken}
 use Rattle.gather.proofs.GatheredLists.{found_all, found_step, orphans_are}
 use Rattle.gather.proofs.live_sections.orphans.Goals as goal
 

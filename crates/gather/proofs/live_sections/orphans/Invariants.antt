@@ -1,8 +1,5 @@
 -- What was found, with what is still to be found, is all.
-use Rattle.std.proofs.Common.{◌≡◌, ◌++◌, drop}
-use Rattle.std.specs.List.{filter_map}
-use Rattle.gather.specs.GatheredSections.{untaken}
-use Rattle.gather.specs.LiveMarks.{marked}
+use Rattle.gather.proofs.Common.{drop, filter_map, marked, untaken, ◌++◌, ◌≡◌}
 use Rattle.gather.proofs.live_sections.orphans.Given as goal
 
 abbrev pub invariant-loop-place : goal.invariant-loop-place

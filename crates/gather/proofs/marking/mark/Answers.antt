@@ -1,9 +1,5 @@
-use Rattle.std.proofs.Common.{◌≡◌, ◌↔◌, ℕ, Bool, true, length, Vec, Global}
-use Rattle.ldmodel.specs.InputSections.{input_sections}
-use Rattle.ldmodel.specs.Live.{live}
-use Rattle.ldmodel.specs.Project.{Project}
-use Rattle.gather.specs.Graphs.{Graph, IsLive, IsMarked, graph_of}
-use Rattle.gather.specs.LiveMarks.{IsGraphOf, marked}
+use Rattle.gather.proofs.Common.{Bool, Global, Graph, IsGraphOf, IsLive, IsMarked, Project, Vec, graph_of}
+use Rattle.gather.proofs.Common.{input_sections, length, live, marked, true, ℕ, ◌↔◌, ◌≡◌}
 use Rattle.gather.proofs.LivePaths.{if_ok_two, marked_live}
 use Rattle.gather.proofs.marking.mark.Goals as goal
 

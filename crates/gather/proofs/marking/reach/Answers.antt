@@ -1,8 +1,6 @@
-use Rattle.std.proofs.Common.{◌≡◌, ◌<◌, ◌↔◌, ◌∙◌, ℕ, List, [], length, get_or, arith, below_more, refl, subst, sym}
-use Rattle.std.specs.List.{Contains}
-use Rattle.std.proofs.lemmas.List.Elements.{Contains-push, Contains-get_or}
-use Rattle.std.proofs.lemmas.List.{nil_from_length}
-use Rattle.gather.specs.Graphs.{Graph, graph_of, IsIn, IsLive, IsMarked, from_root, from_live}
+use Rattle.gather.proofs.Common.{Contains, Contains-get_or, Contains-push, Graph, IsIn, IsLive, IsMarked, List, []}
+use Rattle.gather.proofs.Common.{arith, below_more, from_live, from_root, get_or, graph_of, length, nil_from_length}
+use Rattle.gather.proofs.Common.{refl, subst, sym, ℕ, ◌<◌, ◌↔◌, ◌∙◌, ◌≡◌}
 use Rattle.gather.proofs.Marks.{visited, Visited, marks_pop, marks_done, marks_end, marked_within, leads_in, leads_out}
 use Rattle.gather.proofs.Marks.{AreTargets, Marks, each_contained}
 use Rattle.gather.proofs.marking.reach.Goals as goal

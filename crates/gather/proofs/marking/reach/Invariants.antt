@@ -1,6 +1,4 @@
-use Rattle.std.proofs.Common.{◌≡◌, ◌<◌, ℕ, length, slice_index}
-use Rattle.std.specs.List.{Contains}
-use Rattle.gather.specs.Graphs.{Graph, graph_of, IsIn, IsMarked}
+use Rattle.gather.proofs.Common.{Contains, Graph, IsIn, IsMarked, graph_of, length, slice_index, ℕ, ◌<◌, ◌≡◌}
 use Rattle.gather.proofs.Marks.{Marks, work}
 use Rattle.gather.proofs.marking.reach.Given as goal
 

@@ -1,9 +1,7 @@
 -- What is added, with what is still to be added, is all.
-use Rattle.std.proofs.Common.{◌≡◌, ◌++◌, ℕ, List, drop, filter}
+use Rattle.gather.proofs.Common.{List, drop, filter, is_for, is_for_more, is_named, is_wild, own_listed, own_wild}
+use Rattle.gather.proofs.Common.{shown_listed, shown_words, words_from, ℕ, ◌++◌, ◌≡◌}
 use Rattle.ldscript.specs.statements.Numbered.{shown_inputs}
-use Rattle.gather.specs.FileTables.{own_listed, own_wild}
-use Rattle.gather.specs.Words.{is_for, is_for_more, is_named, is_wild, shown_words, words_from}
-use Rattle.gather.specs.WordTables.{shown_listed}
 use Rattle.gather.proofs.matcher.tables_of.Given as goal
 
 abbrev pub invariant-loop-place : goal.invariant-loop-place

@@ -1,5 +1,5 @@
 -- Those so far.
-use Rattle.std.proofs.Common.{◌≡◌, map, take}
+use Rattle.gather.proofs.Common.{map, take, ◌≡◌}
 use Rattle.gather.proofs.matches.lend_all.Given as goal
 
 abbrev pub invariant-loop-matches : goal.invariant-loop-matches

@@ -1,8 +1,4 @@
-use Rattle.std.proofs.Common.{◌≡◌, ◌∙◌, List, arith, sym, subst, Some}
-use Rattle.std.specs.Prelude.{slice_get}
-use Rattle.ldmodel_project.specs.Inputs.{shown_input}
-use Rattle.ldscript.specs.statements.declared.statement.Statement.{Statement}
-use Rattle.gather.specs.ProjectMatches.{IsMatched}
+use Rattle.gather.proofs.Common.{IsMatched, List, Some, Statement, arith, shown_input, slice_get, subst, sym, ◌∙◌, ◌≡◌}
 use Rattle.gather.proofs.Preparing.{more_matched, object_here}
 use Rattle.gather.proofs.matches.match_all.Goals as goal
 
@@ -16,4 +12,4 @@ loop-input-preserved c =
     subst (λ (s : List Statement). IsMatched s (shown_input x) c.in_ok-match_object.field-0)
     (c.in_ok-matcher.ensures ∙ c.script.ensures) c.in_ok-match_object.ensures in
     more_matched c.args.project.now c.loop-input.input-index (shown_input x) c.loop-input.all.items
-    c.push.new.self.items c.in_ok-match_object.field-0 at own c.in_ok-push.ensures.items c.loop-input.invariant
+    c.push.new.list.items c.in_ok-match_object.field-0 at own c.in_ok-push.ensures.items c.loop-input.invariant

@@ -1,5 +1,5 @@
-use Rattle.std.proofs.Common.{◌≡◌, ◌<◌, ◌+◌, ◌∙◌, ℕ, List, Option, ap, length, subst, sym, arith}
-use Rattle.gather.specs.SectionPlaces.{ArePlaces, place_under}
+use Rattle.gather.proofs.Common.{ArePlaces, List, Option, ap, arith, length, place_under, subst, sym, ℕ, ◌+◌, ◌<◌, ◌∙◌}
+use Rattle.gather.proofs.Common.{◌≡◌}
 use Rattle.gather.proofs.Keyed.{are_numbered, project_places}
 use Rattle.gather.proofs.PlacesUnder.{column_placed, long_with}
 use Rattle.gather.proofs.places.places_of.Goals as goal

@@ -1,6 +1,5 @@
 -- The sections so far have their places.
-use Rattle.std.proofs.Common.{◌≡◌, length}
-use Rattle.gather.specs.SectionPlaces.{ArePlaces, place_under}
+use Rattle.gather.proofs.Common.{ArePlaces, length, place_under, ◌≡◌}
 use Rattle.gather.specs.SectionTable.{len_of}
 use Rattle.gather.proofs.places.places_of.Given as goal
 

@@ -1,7 +1,4 @@
-use Rattle.std.proofs.Common.{rules, sym, ◌∙◌, ℕ, Bool}
-use Rattle.std.proofs.lemmas.List.Sorted.{IsPartitionPoint-from_clause}
-use Rattle.std.specs.Ordering.{is_lt}
-use Rattle.gather.specs.Ranks.{rank_cmp}
+use Rattle.gather.proofs.Common.{Bool, IsPartitionPoint-from_clause, is_lt, rank_cmp, rules, sym, ℕ, ◌∙◌}
 use Rattle.gather.proofs.Ranks.{equal}
 use Rattle.gather.proofs.Searching.{found, missed, missed_at_end, parted}
 use Rattle.gather.proofs.rank.find_rank.Goals as goal

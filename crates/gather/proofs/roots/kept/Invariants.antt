@@ -1,7 +1,6 @@
 -- What was found, with what is still to be found, is all.
-use Rattle.std.proofs.Common.{◌≡◌, ◌++◌, drop}
+use Rattle.gather.proofs.Common.{drop, kept_numbers, ◌++◌, ◌≡◌}
 use Rattle.ldscript.specs.statements.Numbered.{shown_inputs}
-use Rattle.gather.specs.Roots.{kept_numbers}
 use Rattle.gather.proofs.roots.kept.Given as goal
 
 abbrev pub invariant-loop-number : goal.invariant-loop-number

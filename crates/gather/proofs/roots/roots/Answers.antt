@@ -1,10 +1,5 @@
-use Rattle.std.proofs.Common.{◌≡◌, ap, sym, ◌∙◌}
-use Rattle.std.specs.Prelude.{IsTrue}
-use Rattle.ldscript.specs.statements.Numbering.{input_statements}
+use Rattle.gather.proofs.Common.{IsTrue, ap, input_statements, is_kept, kept_numbers, sym, taken_by, ◌∙◌, ◌≡◌}
 use Rattle.ldscript.specs.statements.Numbered.{shown_inputs}
-use Rattle.ldmodel.specs.Gathering.{taken_by}
-use Rattle.ldmodel.specs.Live.{is_kept}
-use Rattle.gather.specs.Roots.{kept_numbers}
 use Rattle.gather.proofs.KeptNumbers.{kept_are, with_entry}
 use Rattle.gather.proofs.roots.roots.Goals as goal
 

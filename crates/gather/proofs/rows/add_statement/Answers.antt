@@ -1,4 +1,4 @@
-use Rattle.std.proofs.Common.{arith}
+use Rattle.gather.proofs.Common.{arith}
 use Rattle.gather.proofs.RowSteps.{adds_here}
 use Rattle.gather.proofs.rows.add_statement.Goals as goal
 

@@ -1,7 +1,5 @@
 -- Section by section.
-use Rattle.std.proofs.Common.{[], arith, length, refl, subst}
-use Rattle.gather.specs.GatheredSections.{own_piece}
-use Rattle.gather.specs.RowPieces.{AreBuckets}
+use Rattle.gather.proofs.Common.{AreBuckets, [], arith, length, own_piece, refl, subst}
 use Rattle.gather.proofs.GatheredLists.{found_all, found_step}
 use Rattle.gather.proofs.rows.buckets.Goals as goal
 

@@ -1,5 +1,5 @@
 -- The lists so far.
-use Rattle.std.proofs.Common.{length}
+use Rattle.gather.proofs.Common.{length}
 use Rattle.gather.proofs.GatheredLists.{Taken}
 use Rattle.gather.proofs.rows.buckets.Given as goal
 

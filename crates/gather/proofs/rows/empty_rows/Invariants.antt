@@ -1,5 +1,5 @@
 -- The lists so far.
-use Rattle.gather.specs.RowPieces.{AreEmpty}
+use Rattle.gather.proofs.Common.{AreEmpty}
 use Rattle.gather.proofs.rows.empty_rows.Given as goal
 
 abbrev pub invariant-loop-number : goal.invariant-loop-number

@@ -1,12 +1,8 @@
-use Rattle.std.proofs.Common.{◌≡◌, ◌≢◌, ◌<◌, ◌+◌, ◌∷◌, [], length, drop, get_or, arith, ap, sym, ◌∙◌}
-use Rattle.std.proofs.Common.{get_or-set_other}
-use Rattle.std.specs.List.{enumerate_from}
-use Rattle.std.proofs.Math.ListN.{length-set}
-use Rattle.std.proofs.lemmas.List.{drop_more, drop_all}
-use Rattle.ldscript.specs.statements.Numbering.{InputStatementAt}
+use Rattle.gather.proofs.Common.{InputStatementAt, [], ap, arith, drop, drop_all, drop_more, enumerate_from, flat_map}
+use Rattle.gather.proofs.Common.{get_or, get_or-set_other, length, length-set, shown_row, sym, ◌+◌, ◌<◌, ◌∙◌, ◌∷◌, ◌≡◌}
+use Rattle.gather.proofs.Common.{◌≢◌}
 use Rattle.ldscript.specs.statements.Numbered.{shown_inputs}
-use Rattle.std.specs.Prelude.{flat_map}
-use Rattle.gather.specs.RowPieces.{pieces_at, shown_row}
+use Rattle.gather.specs.RowPieces.{pieces_at}
 use Rattle.gather.proofs.RowSteps.{rows_step, rows_end, rows_are}
 use Rattle.gather.proofs.rows.join_buckets.Goals as goal
 

@@ -1,11 +1,9 @@
 -- What is in the rows, with what statements still bring, is all; the lists of these statements are as they were.
-use Rattle.std.proofs.Common.{◌≡◌, ◌<◌, ◌≤◌, ◌++◌, ℕ, List, length, drop, get_or, Vec, Global}
-use Rattle.std.specs.Prelude.{flat_map}
-use Rattle.std.specs.List.{enumerate_from}
+use Rattle.gather.proofs.Common.{AreBuckets, Global, List, Vec, drop, enumerate_from, flat_map, get_or, length}
+use Rattle.gather.proofs.Common.{output_sections, shown_row, ℕ, ◌++◌, ◌<◌, ◌≡◌, ◌≤◌}
 use Rattle.ldscript.specs.statements.Numbered.{shown_inputs}
-use Rattle.ldscript.specs.statements.Numbering.{output_sections}
 use Rattle.ldmodel.specs.declared.rows.Piece.{Piece}
-use Rattle.gather.specs.RowPieces.{AreBuckets, pieces_at, shown_row}
+use Rattle.gather.specs.RowPieces.{pieces_at}
 use Rattle.gather.proofs.rows.join_buckets.Given as goal
 
 abbrev pub invariant-loop-number : goal.invariant-loop-number

@@ -1,9 +1,5 @@
-use Rattle.std.proofs.Common.{ap, length, sym, subst, ◌∙◌}
-use Rattle.std.proofs.lemmas.Result.{IfOk-weaker}
-use Rattle.ldscript.specs.statements.Numbering.{input_statements}
+use Rattle.gather.proofs.Common.{AreBuckets, IfOk-weaker, ap, input_statements, length, subst, sym, taken_in, ◌∙◌}
 use Rattle.ldscript.specs.statements.Numbered.{shown_inputs}
-use Rattle.gather.specs.GatheredSections.{taken_in}
-use Rattle.gather.specs.RowPieces.{AreBuckets}
 use Rattle.gather.proofs.GatheredLists.{taken_are}
 use Rattle.gather.proofs.rows.rows.Goals as goal
 

@@ -1,7 +1,6 @@
 -- The runs so far, with the last one, are of the statements so far.
-use Rattle.std.proofs.Common.{◌≡◌, ◌++◌, map, take}
+use Rattle.gather.proofs.Common.{map, numbers_in, numbers_of, take, ◌++◌, ◌≡◌}
 use Rattle.gather.specs.Matches.{number_of}
-use Rattle.gather.specs.Runs.{numbers_in, numbers_of}
 use Rattle.gather.proofs.runs.runs_of.Given as goal
 
 abbrev pub invariant-loop-statement : goal.invariant-loop-statement

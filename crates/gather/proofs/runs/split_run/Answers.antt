@@ -1,5 +1,4 @@
-use Rattle.std.proofs.Common.{◌∙◌, ap, drop, take}
-use Rattle.std.proofs.lemmas.List.{drop_min, take_min}
+use Rattle.gather.proofs.Common.{ap, drop, drop_min, take, take_min, ◌∙◌}
 use Rattle.gather.proofs.runs.split_run.Goals as goal
 
 pub returns-clause-own : goal.returns-clause-own

@@ -1,6 +1,5 @@
-use Rattle.std.proofs.Common.{◌≡◌, map, take}
+use Rattle.gather.proofs.Common.{input_of, map, take, ◌≡◌}
 use Rattle.ldscript.specs.statements.Numbered.{shown_inputs}
-use Rattle.gather.specs.SameInputs.{input_of}
 use Rattle.gather.proofs.same_inputs.are_same_inputs.Given as goal
 
 abbrev pub invariant-loop-number : goal.invariant-loop-number

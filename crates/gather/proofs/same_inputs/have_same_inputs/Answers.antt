@@ -1,6 +1,5 @@
-use Rattle.std.proofs.Common.{◌∙◌, ap, map, sym}
+use Rattle.gather.proofs.Common.{ap, input_of, map, sym, ◌∙◌}
 use Rattle.ldscript.specs.statements.Numbered.{shown_inputs}
-use Rattle.gather.specs.SameInputs.{input_of}
 use Rattle.gather.proofs.SameInputs.{same_matches}
 use Rattle.gather.proofs.same_inputs.have_same_inputs.Goals as goal
 

@@ -1,6 +1,4 @@
-use Rattle.std.proofs.Common.{subst, ◌<◌, []}
-use Rattle.std.specs.List.{AllPairs}
-use Rattle.elfobj.specs.Sections.{LinkedSection}
+use Rattle.gather.proofs.Common.{AllPairs, LinkedSection, [], subst, ◌<◌}
 use Rattle.elfobj.specs.declared.section.Section.{Section}
 use Rattle.gather.proofs.ByNumber.{asked_nowhere, asked_there}
 use Rattle.gather.proofs.section_names.name_at.Goals as goal

@@ -1,7 +1,4 @@
-use Rattle.std.proofs.Common.{[], ap, sym, ◌∙◌}
-use Rattle.std.specs.Prelude.{option_copied}
-use Rattle.elfobj.specs.Sections.{LinkedSection}
-use Rattle.ldmodel.specs.FaultCode.{name_of_part}
+use Rattle.gather.proofs.Common.{LinkedSection, [], ap, name_of_part, option_copied, sym, ◌∙◌}
 use Rattle.gather.proofs.ByNumber.{asked_at, asked_of_none}
 use Rattle.gather.proofs.section_names.section_name.Goals as goal
 

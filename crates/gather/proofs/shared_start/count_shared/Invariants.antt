@@ -1,5 +1,5 @@
 -- The names are alike up to here.
-use Rattle.std.proofs.Common.{length, ◌-◌, ◌≡◌, ◌≤◌, ℕ, ◌<◌, get_or}
+use Rattle.gather.proofs.Common.{get_or, length, ℕ, ◌-◌, ◌<◌, ◌≡◌, ◌≤◌}
 use Rattle.gather.proofs.shared_start.count_shared.Given as goal
 
 abbrev pub invariant-loop-count : goal.invariant-loop-count

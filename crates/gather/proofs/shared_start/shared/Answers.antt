@@ -1,4 +1,4 @@
-use Rattle.std.proofs.Common.{rules, sym}
+use Rattle.gather.proofs.Common.{rules, sym}
 use Rattle.gather.proofs.SharedStarts.{from_test}
 use Rattle.gather.proofs.shared_start.shared.Goals as goal
 

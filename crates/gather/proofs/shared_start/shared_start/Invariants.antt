@@ -1,6 +1,5 @@
 -- The names so far begin so.
-use Rattle.std.proofs.Common.{take}
-use Rattle.gather.specs.SharedStarts.{AllBegin}
+use Rattle.gather.proofs.Common.{AllBegin, take}
 use Rattle.gather.proofs.shared_start.shared_start.Given as goal
 
 abbrev pub invariant-loop-name : goal.invariant-loop-name

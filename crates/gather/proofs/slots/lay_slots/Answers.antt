@@ -1,7 +1,4 @@
-use Rattle.std.proofs.Common.{ap, arith, length, subst, sym, List}
-use Rattle.std.proofs.lemmas.List.{length-map}
-use Rattle.elfobj.specs.Sections.{section_of}
-use Rattle.gather.specs.declared.slots.Slots.{Slots}
+use Rattle.gather.proofs.Common.{List, Slots, ap, arith, length, length-map, section_of, subst, sym}
 use Rattle.gather.proofs.Counting.{LaidUpTo, all_before, all_linked, none_laid, one_laid}
 use Rattle.gather.proofs.slots.lay_slots.Goals as goal
 

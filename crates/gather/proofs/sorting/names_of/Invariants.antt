@@ -1,5 +1,5 @@
 -- The names so far.
-use Rattle.std.proofs.Common.{take}
+use Rattle.gather.proofs.Common.{take}
 use Rattle.gather.specs.NamedPieces.{AreNames}
 use Rattle.gather.proofs.sorting.names_of.Given as goal
 

@@ -1,5 +1,5 @@
 -- The pieces so far.
-use Rattle.std.proofs.Common.{◌≡◌, take}
+use Rattle.gather.proofs.Common.{take, ◌≡◌}
 use Rattle.gather.specs.NamedPieces.{pieces_at}
 use Rattle.gather.proofs.sorting.put_in_order.Given as goal
 

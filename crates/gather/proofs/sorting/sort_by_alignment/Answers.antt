@@ -1,9 +1,6 @@
-use Rattle.std.proofs.Common.{rules, Some, max}
-use Rattle.std.proofs.lemmas.List.Sorted.{answers_always}
+use Rattle.gather.proofs.Common.{ByAlignment, Some, answers_always, max, piece_in, rules}
 use Rattle.std.proofs.lemmas.List.MinMax.{IsStrictWeakOrder-flip, IsStrictWeakOrder-by_number}
-use Rattle.ldscript.specs.statements.declared.input.Sort.TheVariants.{ByAlignment}
 use Rattle.ldmodel.specs.Rows.{Piece}
-use Rattle.ldmodel_project.specs.ByPlace.{piece_in}
 use Rattle.gather.proofs.Sorts.{ordered_if}
 use Rattle.gather.proofs.sorting.sort_by_alignment.Goals as goal
 

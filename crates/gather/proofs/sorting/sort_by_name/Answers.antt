@@ -1,17 +1,9 @@
-use Rattle.std.proofs.Common.{◌≡◌, ◌∙◌, ◌<◌, ap, length, rules, subst, sym, List, ℕ, Some, Bor, map}
-use Rattle.std.specs.List.{All}
-use Rattle.std.specs.Ordering.{is_lt, nat_cmp}
-use Rattle.std.specs.Cmp.Lexicographic.{nat_list_cmp_total, slice_cmp}
-use Rattle.std.proofs.lemmas.List.Sorted.{All-permutation, answers_always}
-use Rattle.std.proofs.lemmas.List.MinMax.{ranks_by}
-use Rattle.std.proofs.lemmas.Result.{on_ok_weaker}
-use Rattle.ldscript.specs.statements.declared.input.Sort.TheVariants.{ByName}
+use Rattle.gather.proofs.Common.{All, All-permutation, Bor, ByName, List, NamedPlace, Orders, Some, answers_always, ap}
+use Rattle.gather.proofs.Common.{is_lt, length, map, name_of_section, nat_cmp, nat_list_cmp_total, on_ok_weaker}
+use Rattle.gather.proofs.Common.{ranks_by, rules, slice_cmp, subst, sym, ℕ, ◌<◌, ◌∙◌, ◌≡◌}
 use Rattle.ldmodel.specs.Rows.{Piece}
 use Rattle.ldmodel.specs.declared.rows.Piece as code
-use Rattle.ldmodel_project.specs.ByPlace.{name_of_section}
 use Rattle.gather.specs.NamedPieces.{AreNamed, AreNames, HasName, pieces_at}
-use Rattle.gather.specs.RowPieces.{Orders}
-use Rattle.gather.specs.declared.sorting.NamedPlace.{NamedPlace}
 use Rattle.gather.proofs.NamedPieces.{named}
 use Rattle.gather.proofs.SharedStarts.{after_start}
 use Rattle.gather.proofs.Sorts.{all_within, named_in, ordered, ordered_named}

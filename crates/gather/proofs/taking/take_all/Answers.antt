@@ -1,10 +1,6 @@
-use Rattle.std.proofs.Common.{◌≡◌, ◌≤◌, ◌++◌, [], arith, sym, subst, Some, length, ap, rules, ◌∙◌}
-use Rattle.std.specs.Prelude.{slice_get}
+use Rattle.gather.proofs.Common.{AreBlocksOf, IsTaken, Some, [], ap, arith, input_statements, length, rules}
+use Rattle.gather.proofs.Common.{shown_input, slice_get, subst, sym, ◌++◌, ◌∙◌, ◌≡◌, ◌≤◌}
 use Rattle.ldmodel.specs.Options.{LinkOptions}
-use Rattle.ldmodel_project.specs.Inputs.{shown_input}
-use Rattle.ldscript.specs.statements.Numbering.{input_statements}
-use Rattle.gather.specs.Blocks.{AreBlocksOf}
-use Rattle.gather.specs.Taking.{IsTaken}
 use Rattle.gather.proofs.Preparing.{all_gathered, as_many, as_many_blocks, as_many_matched}
 use Rattle.gather.proofs.Preparing.{blocks_given, matched_at, object_here}
 use Rattle.gather.proofs.AllTaken.{after_object, before_objects}

@@ -1,8 +1,6 @@
 -- The objects so far are taken.
-use Rattle.std.proofs.Common.{List, length}
+use Rattle.gather.proofs.Common.{GatheredSection, IsTaken, List, length}
 use Rattle.ldscript.specs.statements.Numbered.{shown_inputs}
-use Rattle.gather.specs.Taking.{IsTaken}
-use Rattle.gather.specs.declared.gathered_section.GatheredSection.{GatheredSection}
 use Rattle.gather.proofs.Preparing.{GatheredBefore}
 use Rattle.gather.proofs.taking.take_all.Given as goal
 

@@ -1,11 +1,5 @@
-use Rattle.std.proofs.Common.{map, subst}
-use Rattle.std.proofs.lemmas.Result.{on_ok_weaker}
-use Rattle.elfobj.specs.Sections.{section_of}
-use Rattle.ldmodel.specs.declared.names.ObjectPlace.{ObjectPlace}
-use Rattle.ldmodel_project.specs.Inputs.{shown_input}
+use Rattle.gather.proofs.Common.{ObjectPlace, Takes, gathered_by, map, on_ok_weaker, section_of, shown_input, subst}
 use Rattle.ldscript.specs.statements.Numbered.{shown_inputs}
-use Rattle.gather.specs.Runs.{gathered_by}
-use Rattle.gather.specs.Taking.{Takes}
 use Rattle.gather.proofs.AllTaken.{object_taken}
 use Rattle.gather.proofs.taking.take_object.Goals as goal
 

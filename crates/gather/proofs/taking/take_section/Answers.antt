@@ -1,5 +1,4 @@
-use Rattle.std.proofs.Common.{◌∙◌, refl, sym}
-use Rattle.std.proofs.lemmas.Result.{on_ok_weaker}
+use Rattle.gather.proofs.Common.{on_ok_weaker, refl, sym, ◌∙◌}
 use Rattle.ldscript.specs.statements.Numbered.{shown_inputs}
 use Rattle.gather.proofs.AllTaken.{orphan_taken, piece_taken}
 use Rattle.gather.proofs.taking.take_section.Goals as goal

@@ -1,4 +1,4 @@
-use Rattle.std.proofs.Common.{◌∙◌, arith, sym}
+use Rattle.gather.proofs.Common.{arith, sym, ◌∙◌}
 use Rattle.gather.proofs.Knowing.{passed_here, taken_here}
 use Rattle.gather.proofs.word.first_taker.Goals as goal
 

@@ -1,7 +1,6 @@
 -- No word before takes the section.
-use Rattle.std.proofs.Common.{◌≡◌, drop}
+use Rattle.gather.proofs.Common.{drop, first_taker, shown_words, ◌≡◌}
 use Rattle.gather.specs.Known.{AreKnown}
-use Rattle.gather.specs.Words.{first_taker, shown_words}
 use Rattle.gather.proofs.word.first_taker.Given as goal
 
 abbrev pub invariant-loop-place : goal.invariant-loop-place

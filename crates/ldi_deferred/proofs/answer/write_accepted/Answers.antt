@@ -1,4 +1,4 @@
-use Rattle.ldi_stream.proofs.StreamWriting.{Writes-kept}
+use Rattle.ldi_deferred.proofs.Common.{Writes-kept}
 use Rattle.ldi_deferred.proofs.answer.write_accepted.Goals as goal
 
 pub returns-clause-text : goal.returns-clause-text

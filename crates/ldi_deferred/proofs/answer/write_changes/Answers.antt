@@ -1,6 +1,5 @@
-use Rattle.std.proofs.KnownBytes.{Appends-trans}
+use Rattle.ldi_deferred.proofs.Common.{Appends-trans, Part-front, Part-then, Writes-cut, Writes-kept}
 use Rattle.ldmodel_deferred.specs.Changes.{changes_answer}
-use Rattle.ldi_stream.proofs.StreamWriting.{Part-front, Part-then, Writes-cut, Writes-kept}
 use Rattle.ldi_deferred.proofs.answer.write_changes.Goals as goal
 
 pub returns-in_err-write_answer-clause-text : goal.returns-in_err-write_answer-clause-text

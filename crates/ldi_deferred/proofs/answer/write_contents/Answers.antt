@@ -1,7 +1,5 @@
-use Rattle.std.proofs.Common.{List, ℕ, subst, sym}
-use Rattle.std.specs.Prelude.{length}
-use Rattle.ldmodel_deferred.specs.Changes.{range_bytes}
-use Rattle.ldi_stream.proofs.StreamWriting.{Part, Part-front, Part-then, Writes-cut}
+use Rattle.ldi_deferred.proofs.Common.{List, Part, Part-front, Part-then, Writes-cut, length, range_bytes, subst, sym}
+use Rattle.ldi_deferred.proofs.Common.{ℕ}
 use Rattle.ldi_deferred.proofs.RangeTexts.{cut_at, within_at}
 use Rattle.ldi_deferred.proofs.answer.write_contents.Goals as goal
 

@@ -1,6 +1,4 @@
-use Rattle.std.proofs.Common.{List, ℕ, subst, sym}
-use Rattle.ldmodel_deferred.specs.Changes.{range_line}
-use Rattle.ldi_stream.proofs.StreamWriting.{Part, Part-front, Part-then, Writes-cut}
+use Rattle.ldi_deferred.proofs.Common.{List, Part, Part-front, Part-then, Writes-cut, range_line, subst, sym, ℕ}
 use Rattle.ldi_deferred.proofs.RangeTexts.{cut_at}
 use Rattle.ldi_deferred.proofs.answer.write_lines.Goals as goal
 

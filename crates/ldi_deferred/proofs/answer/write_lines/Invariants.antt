@@ -1,6 +1,4 @@
-use Rattle.std.proofs.Common.{◌≡◌, flat_map, take}
-use Rattle.std.specs.Io.KnownBytes.{Appends}
-use Rattle.ldmodel_deferred.specs.Changes.{range_line}
+use Rattle.ldi_deferred.proofs.Common.{Appends, flat_map, range_line, take, ◌≡◌}
 use Rattle.ldi_deferred.proofs.answer.write_lines.Given as goal
 
 abbrev pub invariant-loop-range : goal.invariant-loop-range

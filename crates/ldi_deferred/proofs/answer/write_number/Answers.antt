@@ -1,5 +1,5 @@
-use Rattle.std.proofs.Common.{◌∙◌}
-use Rattle.ldi_stream.proofs.StreamWriting.{Part-front, Writes-both, Writes-cut, Writes-then}
+use Rattle.ldi_deferred.proofs.Common.{Part-front, Writes-cut, Writes-then, ◌∙◌}
+use Rattle.ldi_stream.proofs.StreamWriting.{Writes-both}
 use Rattle.ldi_deferred.proofs.answer.write_number.Goals as goal
 
 pub returns-in_err-write_all-clause-text : goal.returns-in_err-write_all-clause-text

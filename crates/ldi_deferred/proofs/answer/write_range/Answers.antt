@@ -1,6 +1,6 @@
-use Rattle.std.proofs.Common.{[], ◌∷◌, ◌++◌, List, ℕ, append_assoc, decimal, subst}
+use Rattle.ldi_deferred.proofs.Common.{List, Part-front, Writes-cut, Writes-then, [], append_assoc, subst, ℕ, ◌++◌, ◌∷◌}
+use Rattle.std.proofs.Common.{decimal}
 use Rattle.ldi_stream.specs.Stepped.{Writes}
-use Rattle.ldi_stream.proofs.StreamWriting.{Part-front, Writes-cut, Writes-then}
 use Rattle.ldi_deferred.proofs.answer.write_range.Goals as goal
 
 pub returns-in_err-write_number-clause-text : goal.returns-in_err-write_number-clause-text

@@ -1,7 +1,5 @@
-use Rattle.std.proofs.Common.{◌≡◌, ◌-◌, List, arith, subst, sym}
-use Rattle.std.specs.Prelude.{length, slice_get}
-use Rattle.ldmodel_deferred.specs.Changes.{AreWithin, IsOutside}
-use Rattle.ldmodel_deferred.specs.declared.changes.ByteRange.{ByteRange}
+use Rattle.ldi_deferred.proofs.Common.{AreWithin, ByteRange, IsOutside, List, arith, length, slice_get, subst, sym, ◌-◌}
+use Rattle.ldi_deferred.proofs.Common.{◌≡◌}
 use Rattle.ldi_deferred.proofs.ImageChanges.{same_more, within_more}
 use Rattle.ldi_deferred.proofs.changed.changed_ranges.Goals as goal
 
@@ -16,7 +14,7 @@ loop-at-preserved c =
           (within_more (length c.args.image.now) c.loop-at.ranges.items range c.loop-at.invariant.inside
           (omega (arith, c.skip_changed-end.ensures.after, c.skip_changed-end.ensures.within)));
       same = λ k low outside.
-          same_more (λ at. slice_get c.args.given.now at ≡ slice_get c.args.image.now at) c.loop-at.ranges.items range
+          same_more (λ at. slice_get c.args.sent.now at ≡ slice_get c.args.image.now at) c.loop-at.ranges.items range
           c.skip_same-at-in-loop-at.result c.loop-at.invariant.same
           (λ at after. c.skip_same-at-in-loop-at.ensures.same at
           (omega (arith, after, c.skip_changed-end.ensures.after))) k low

@@ -1,4 +1,4 @@
-use Rattle.std.proofs.Common.{length, ◌-◌, ◌<◌, ◌≤◌}
+use Rattle.ldi_deferred.proofs.Common.{length, ◌-◌, ◌<◌, ◌≤◌}
 use Rattle.ldi_deferred.proofs.changed.skip_changed.Given as goal
 
 abbrev pub invariant-loop-at : goal.invariant-loop-at

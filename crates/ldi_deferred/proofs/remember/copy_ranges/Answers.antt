@@ -1,5 +1,4 @@
-use Rattle.std.proofs.Common.{◌∙◌, arith}
-use Rattle.std.specs.Prelude.{length}
+use Rattle.ldi_deferred.proofs.Common.{arith, length, ◌∙◌}
 use Rattle.ldi_deferred.proofs.Copying.{copied_more, none_left}
 use Rattle.ldi_deferred.proofs.RangeTexts.{within_at}
 use Rattle.ldi_deferred.proofs.remember.copy_ranges.Goals as goal
@@ -12,8 +11,8 @@ copy_range-requires-clause-within c =
 pub loop-range-preserved : goal.loop-range-preserved
 loop-range-preserved c = record {
   long = c.copy_range.ensures.length ∙ c.loop-range.invariant.long;
-  same = copied_more c.loop-range.given c.copy_range.new.given c.args.image.now c.args.ranges.now
-      c.loop-range.range-index _ (record { offset = 0; count = 0 }) (length c.args.given.now) c.loop-range-test.true
+  same = copied_more c.loop-range.sent c.copy_range.new.sent c.args.image.now c.args.ranges.now
+      c.loop-range.range-index _ (record { offset = 0; count = 0 }) (length c.args.sent.now) c.loop-range-test.true
       (omega arith) c.loop-range.invariant.same
       (λ at low high within. c.copy_range.ensures.inside at low high
       (omega (arith, within, c.loop-range.invariant.long)))

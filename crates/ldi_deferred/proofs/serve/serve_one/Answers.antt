@@ -1,5 +1,4 @@
-use Rattle.std.proofs.Common.{ℕ, inl, refl}
-use Rattle.std.proofs.lemmas.Result.{err_from_is_err_and}
+use Rattle.ldi_deferred.proofs.Common.{err_from_is_err_and, inl, refl, ℕ}
 use Rattle.ldi_deferred.proofs.DeferredGrammar.{broken_tail, unread_line}
 use Rattle.ldi_deferred.proofs.DeferredSteps.{cut_line, edit_stepped, word_cut, word_served}
 use Rattle.ldi_deferred.proofs.serve.serve_one.Goals as goal
@@ -57,14 +56,14 @@ returns-in_err-serve_link-in-Some-Link-clause-stepped g c =
     c.from_residual-in_err-serve_link-in-Some-Link.ensures.1 in
     let h = rw c.in-Line.is at c.in_ok-read_line.ensures.read in
     let says = rw c.in-Some-Link.field-0-is at c.in-Some-Link.ensures.found in
-    let w = c.in_err-serve_link-in-Some-Link.ensures.text c.args.given.now.items in
+    let w = c.in_err-serve_link-in-Some-Link.ensures.text c.args.sent.now.items in
     rw (p.1, p.2) (inl (word_cut _ _ _ _ _ _ _ _ w.0 says refl h.2 w.2 w.1.0 w.1.1))
 
 pub returns-in_ok-serve_link-in-Some-Link-clause-stepped : goal.returns-in_ok-serve_link-in-Some-Link-clause-stepped
 returns-in_ok-serve_link-in-Some-Link-clause-stepped g c =
     let h = rw c.in-Line.is at c.in_ok-read_line.ensures.read in
     let says = rw c.in-Some-Link.field-0-is at c.in-Some-Link.ensures.found in
-    let w = c.in_ok-serve_link-in-Some-Link.ensures.text c.args.given.now.items in
+    let w = c.in_ok-serve_link-in-Some-Link.ensures.text c.args.sent.now.items in
     word_served _ _ _ _ _ _ _ _ w.0 says refl h.2 w.2 w.1
 
 pub returns-in_err-serve_changes-in-Some-Changes-clause-stepped :

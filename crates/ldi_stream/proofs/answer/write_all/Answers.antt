@@ -1,5 +1,4 @@
-use Rattle.std.proofs.Common.{◌≤◌, length, take, drop, ◌-◌, ◌∙◌, arith, length-drop, length-take}
-use Rattle.std.proofs.KnownBytes.{Appends-trans}
+use Rattle.ldi_stream.proofs.Common.{Appends-trans, arith, drop, length, length-drop, length-take, take, ◌-◌, ◌∙◌, ◌≤◌}
 use Rattle.ldi_stream.proofs.StreamLines.{take_two}
 use Rattle.ldi_stream.proofs.answer.write_all.Goals as goal
 

@@ -1,5 +1,4 @@
-use Rattle.std.proofs.Common.{◌≡◌, ◌≤◌, take, length, ◌-◌}
-use Rattle.std.specs.Io.KnownBytes.{Appends}
+use Rattle.ldi_stream.proofs.Common.{Appends, length, take, ◌-◌, ◌≡◌, ◌≤◌}
 use Rattle.ldi_stream.proofs.answer.write_all.Given as goal
 
 abbrev pub invariant-loop-at : goal.invariant-loop-at

@@ -1,5 +1,4 @@
-use Rattle.ldmodel.specs.Answers.{answer_line}
-use Rattle.std.proofs.KnownBytes.{Appends-trans}
+use Rattle.ldi_stream.proofs.Common.{Appends-trans, answer_line}
 use Rattle.ldi_stream.proofs.StreamWriting.{Part-front, Part-then, Writes-cut, Writes-kept}
 use Rattle.ldi_stream.proofs.answer.write_answer.Goals as goal
 

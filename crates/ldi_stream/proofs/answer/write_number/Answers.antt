@@ -1,4 +1,4 @@
-use Rattle.std.proofs.Common.{◌∙◌}
+use Rattle.ldi_stream.proofs.Common.{◌∙◌}
 use Rattle.ldi_stream.proofs.StreamWriting.{Writes-then, Writes-both}
 use Rattle.ldi_stream.proofs.answer.write_number.Goals as goal
 

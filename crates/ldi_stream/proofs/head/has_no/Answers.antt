@@ -1,5 +1,4 @@
-use Rattle.std.proofs.Common.{refl}
-use Rattle.std.proofs.lemmas.Bool.{false≢true}
+use Rattle.ldi_stream.proofs.Common.{false≢true, refl}
 use Rattle.ldi_stream.proofs.StreamWords.{no_byte, has_byte}
 use Rattle.ldi_stream.proofs.head.has_no.Goals as goal
 

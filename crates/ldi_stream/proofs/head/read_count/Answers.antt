@@ -1,5 +1,4 @@
-use Rattle.std.proofs.Common.{◌∙◌, sym, arith}
-use Rattle.std.proofs.lemmas.Fmt.{decimal_injective}
+use Rattle.ldi_stream.proofs.Common.{arith, decimal_injective, sym, ◌∙◌}
 use Rattle.ldi_stream.proofs.head.read_count.Goals as goal
 
 pub returns-else-n-clause-none : goal.returns-else-n-clause-none

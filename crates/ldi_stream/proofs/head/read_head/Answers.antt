@@ -1,4 +1,4 @@
-use Rattle.std.proofs.Common.{arith}
+use Rattle.ldi_stream.proofs.Common.{arith}
 use Rattle.ldi_stream.proofs.StreamWords.{if_none}
 use Rattle.ldi_stream.proofs.StreamHeads.{no_words, no_edit, query_says, edit_says}
 use Rattle.ldi_stream.proofs.head.read_head.Goals as goal

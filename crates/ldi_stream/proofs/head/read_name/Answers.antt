@@ -1,4 +1,4 @@
-use Rattle.std.proofs.lemmas.Bool.{false≢true}
+use Rattle.ldi_stream.proofs.Common.{false≢true}
 use Rattle.ldi_stream.proofs.StreamWords.{if_none}
 use Rattle.ldi_stream.proofs.StreamHeads.{one_word, bad_name}
 use Rattle.ldi_stream.proofs.head.read_name.Goals as goal

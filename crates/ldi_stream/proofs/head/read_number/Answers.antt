@@ -1,5 +1,4 @@
-use Rattle.std.proofs.Common.{◌≡◌, decimal, ◌∙◌, sym, ap}
-use Rattle.std.proofs.lemmas.Fmt.{IsAscii-decimal}
+use Rattle.ldi_stream.proofs.Common.{IsAscii-decimal, ap, decimal, sym, ◌∙◌, ◌≡◌}
 use Rattle.std.proofs.lemmas.Str.{IsUtf8-from_ascii}
 use Rattle.ldi_stream.proofs.StreamWords.{bytes_differ, no_parse, one_parse}
 use Rattle.ldi_stream.proofs.head.read_number.Goals as goal

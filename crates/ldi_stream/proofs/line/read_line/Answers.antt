@@ -1,5 +1,5 @@
-use Rattle.std.proofs.Common.{◌<◌, ◌++◌, ◌∷◌, [], ◌∙◌, length, take, arith, length-take, length-append, inr}
-use Rattle.std.proofs.KnownBytes.{Consumes-trans}
+use Rattle.ldi_stream.proofs.Common.{Consumes-trans, [], arith, inr, length, length-append, length-take, take, ◌++◌}
+use Rattle.ldi_stream.proofs.Common.{◌<◌, ◌∙◌, ◌∷◌}
 use Rattle.ldi_stream.proofs.StreamLines.{NoFeed-more, take_set}
 use Rattle.ldi_stream.proofs.line.read_line.Goals as goal
 

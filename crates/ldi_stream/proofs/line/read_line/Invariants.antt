@@ -1,6 +1,4 @@
-use Rattle.std.proofs.Common.{◌≡◌, ◌≤◌, take}
-use Rattle.std.specs.Io.KnownBytes.{Consumes}
-use Rattle.ldmodel.specs.Commands.{HasNo}
+use Rattle.ldi_stream.proofs.Common.{Consumes, HasNo, take, ◌≡◌, ◌≤◌}
 use Rattle.ldi_stream.proofs.line.read_line.Given as goal
 
 abbrev pub invariant-loop-at : goal.invariant-loop-at

@@ -1,5 +1,5 @@
-use Rattle.std.proofs.Common.{◌≡◌, ◌≤◌, ◌-◌, ◌∙◌, length, take, drop, arith, length-drop, length-take}
-use Rattle.std.proofs.KnownBytes.{Consumes-trans}
+use Rattle.ldi_stream.proofs.Common.{Consumes-trans, arith, drop, length, length-drop, length-take, take, ◌-◌, ◌∙◌, ◌≡◌}
+use Rattle.ldi_stream.proofs.Common.{◌≤◌}
 use borrow.Rule.Slice.PartMut.{same_len_mid}
 use Rattle.ldi_stream.proofs.StreamLines.{put_front}
 use Rattle.ldi_stream.proofs.payload.fill.Goals as goal

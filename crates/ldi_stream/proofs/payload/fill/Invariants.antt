@@ -1,5 +1,4 @@
-use Rattle.std.proofs.Common.{◌≡◌, ◌≤◌, take, length, ◌-◌}
-use Rattle.std.specs.Io.KnownBytes.{Consumes}
+use Rattle.ldi_stream.proofs.Common.{Consumes, length, take, ◌-◌, ◌≡◌, ◌≤◌}
 use Rattle.ldi_stream.proofs.payload.fill.Given as goal
 
 abbrev pub invariant-loop-at : goal.invariant-loop-at

@@ -1,6 +1,5 @@
-use Rattle.std.proofs.Common.{◌++◌, ◌∙◌, arith, length-append, length-take, length-drop, take}
-use Rattle.std.proofs.lemmas.Result.{err_from_is_err_and}
-use Rattle.std.proofs.KnownBytes.{Consumes-trans}
+use Rattle.ldi_stream.proofs.Common.{Consumes-trans, arith, err_from_is_err_and, length-append, length-drop}
+use Rattle.ldi_stream.proofs.Common.{length-take, take, ◌++◌, ◌∙◌}
 use Rattle.ldi_stream.proofs.payload.skip.Goals as goal
 
 pub returns-in_err-n-clause-err : goal.returns-in_err-n-clause-err

@@ -1,5 +1,4 @@
-use Rattle.std.proofs.Common.{◌≡◌, ◌≤◌, length, ◌-◌, List, ℕ}
-use Rattle.std.specs.Io.KnownBytes.{Consumes}
+use Rattle.ldi_stream.proofs.Common.{Consumes, List, length, ℕ, ◌-◌, ◌≡◌, ◌≤◌}
 use Rattle.ldi_stream.proofs.payload.skip.Given as goal
 
 abbrev pub invariant-loop-at : goal.invariant-loop-at

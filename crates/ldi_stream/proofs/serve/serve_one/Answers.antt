@@ -1,5 +1,4 @@
-use Rattle.std.proofs.Common.{ℕ}
-use Rattle.std.proofs.lemmas.Result.{err_from_is_err_and}
+use Rattle.ldi_stream.proofs.Common.{err_from_is_err_and, ℕ}
 use Rattle.ldi_stream.proofs.StreamGrammar.{broken_tail, unread_line}
 use Rattle.ldi_stream.proofs.StreamSteps.{cut_line, edit_stepped}
 use Rattle.ldi_stream.proofs.serve.serve_one.Goals as goal

@@ -1,6 +1,4 @@
-use Rattle.std.proofs.Common.{inl}
-use Rattle.std.proofs.lemmas.Result.{err_from_is_err_and}
-use Rattle.ldmodel.specs.Answers.{refused_line}
+use Rattle.ldi_stream.proofs.Common.{err_from_is_err_and, inl, refused_line}
 use Rattle.ldmodel.specs.Edits.{NoMemory}
 use Rattle.ldi_stream.proofs.StreamReplies.{payload_unread}
 use Rattle.ldi_stream.proofs.serve.serve_payload.Goals as goal
@@ -12,7 +10,7 @@ returns-in_err-write_refused-in-NoMemory-clause-stepped g c =
     c.from_residual-in_err-write_refused-in-NoMemory.ensures.1 in
     let h = rw c.in-NoMemory.is at c.in_ok-bytes.ensures.read in
     let w = c.in_err-write_refused-in-NoMemory.ensures.text in
-    rw (p.1, p.2) (inl (h.0, refused_line NoMemory, w.0, h.1, h.2, w.1, payload_unread _ c.args.aim h.0))
+    rw (p.1, p.2) (inl (h.0, refused_line NoMemory, w.0, h.1, h.2, w.1, payload_unread _ c.args.target h.0))
 
 pub returns-in_ok-write_refused-in-NoMemory-clause-stepped : goal.returns-in_ok-write_refused-in-NoMemory-clause-stepped
 returns-in_ok-write_refused-in-NoMemory-clause-stepped g c =
@@ -22,5 +20,5 @@ returns-in_ok-write_refused-in-NoMemory-clause-stepped g c =
       h.1,
       h.2,
       c.in_ok-write_refused-in-NoMemory.ensures.text,
-      payload_unread _ c.args.aim h.0,
+      payload_unread _ c.args.target h.0,
     )

@@ -1,7 +1,4 @@
-use Rattle.std.proofs.Common.{rules, codes}
-use Rattle.std.proofs.lemmas.Result.{IfOk-weaker}
-use Rattle.clap.specs.Words.{new_app}
-use Rattle.ldi_words.specs.Command.{IsApp}
+use Rattle.ldi_words.proofs.Common.{IfOk-weaker, IsApp, codes, new_app, rules}
 use Rattle.ldi_words.proofs.Building.{with_arg}
 use Rattle.ldi_words.proofs.command.session_command.Goals as goal
 
@@ -11,6 +8,6 @@ returns c =
       app = search rules;
       local = search rules;
     } in
-    let options = c.in_ok-add_options.ensures _ empty in
+    let options = c.in_ok-session.ensures _ empty in
     IfOk-weaker c.arg.result _ _ (λ new adds.
     with_arg _ _ _ _ _ options c.deferred_arg.ensures.rule c.deferred_arg.ensures.local adds) c.arg.ensures

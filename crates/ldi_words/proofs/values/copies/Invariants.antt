@@ -1,4 +1,4 @@
-use Rattle.std.proofs.Common.{◌≡◌, map, string_bytes, take}
+use Rattle.ldi_words.proofs.Common.{map, string_bytes, take, ◌≡◌}
 use Rattle.clap.specs.Walk.{texts}
 use Rattle.ldi_words.proofs.values.copies.Given as goal
 

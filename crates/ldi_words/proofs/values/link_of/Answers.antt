@@ -1,6 +1,5 @@
-use Rattle.std.proofs.Common.{◌∙◌, Option, IsSome, [], List, sym, ap, subst, refl, codes, unwrap_or}
-use Rattle.clap.specs.Words.{Text, found_of, rows_of}
-use Rattle.clap.proofs.WalkLemmas.{first_value-rows, raw_values-rows}
+use Rattle.ldi_words.proofs.Common.{IsSome, List, Option, Text, [], ap, codes, first_value-rows, found_of}
+use Rattle.ldi_words.proofs.Common.{raw_values-rows, refl, rows_of, subst, sym, unwrap_or, ◌∙◌}
 use Rattle.ldi_words.proofs.values.link_of.Goals as goal
 
 pub required_file-requires : goal.required_file-requires

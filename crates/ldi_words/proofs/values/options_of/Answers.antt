@@ -1,7 +1,5 @@
-use Rattle.std.proofs.Common.{◌∙◌, sym, subst, codes}
-use Rattle.clap.specs.Words.{found_of, rows_of}
-use Rattle.clap.proofs.WalkLemmas.{first_value-rows, one_text-rows}
-use Rattle.ldi_words.specs.Call.{HasOptions, NamesOrphans}
+use Rattle.ldi_words.proofs.Common.{HasOptions, NamesOrphans, codes, first_value-rows, found_of, one_text-rows, rows_of}
+use Rattle.ldi_words.proofs.Common.{subst, sym, ◌∙◌}
 use Rattle.ldi_words.proofs.Flag.{flag_says}
 use Rattle.ldi_words.proofs.values.options_of.Goals as goal
 

@@ -1,6 +1,4 @@
-use Rattle.std.proofs.Common.{◌∙◌, refl, codes}
-use Rattle.clap.specs.Words.{found_of, rows_of}
-use Rattle.clap.proofs.WalkLemmas.{one_text-rows}
+use Rattle.ldi_words.proofs.Common.{codes, found_of, one_text-rows, refl, rows_of, ◌∙◌}
 use Rattle.ldi_words.proofs.Flag.{flag_says, flag_unset}
 use Rattle.ldi_words.proofs.values.session_of.Goals as goal
 

@@ -1,4 +1,4 @@
-use Rattle.std.proofs.Common.{inr, refl}
+use Rattle.ldmodel_laws.proofs.Common.{inr, refl}
 use Rattle.elfobj.specs.Refusal.{holds, object_refusal}
 use Rattle.elfobj.specs.declared.refusal.ObjectRefusal.TheVariants.{Short}
 use Rattle.ldmodel.specs.Edits.{early_refusal, is_full, is_object_name, is_too_long}

@@ -1,15 +1,6 @@
-use Rattle.std.proofs.Common.{refl}
-use Rattle.ldscript.specs.terms.Matching.{is_match}
-use Rattle.ldmodel.specs.FirstMatch.{first_match}
-use Rattle.ldmodel.specs.Gathering.{is_discarded}
-use Rattle.ldmodel.specs.InputSections.{input_sections}
-use Rattle.ldmodel.specs.Live.{live, target_section, entry_section, orphans}
-use Rattle.ldmodel.specs.NameFaults.{duplicates}
+use Rattle.ldmodel_laws.proofs.Common.{duplicates, entry_section, first_match, input_sections, is_discarded, is_match}
+use Rattle.ldmodel_laws.proofs.Common.{live, orphans, provided_names, reached, refl, rows, sort_by, target_section}
 use Rattle.ldmodel.specs.Names.{decided, decision, declarations_of, provided, entry_symbol}
-use Rattle.ldmodel.specs.Reach.{reached}
-use Rattle.ldmodel.specs.Rows.{rows}
-use Rattle.ldmodel.specs.ScriptNames.{provided_names}
-use Rattle.ldmodel.specs.Sorting.{sort_by}
 use Rattle.ldmodel_laws.proofs.examples.rows_by_example.Goals as goal
 
 pub returns-clause-together : goal.returns-clause-together

@@ -1,44 +1,19 @@
 -- Each link is computed.
-use Rattle.std.proofs.Common.{refl}
-use Rattle.ldscript.specs.terms.Grammar.{word_of}
-use Rattle.emit_fields.specs.Fields.{field_of}
-use Rattle.ldmodel.specs.Assertions.{assertion_faults}
-use Rattle.ldmodel.specs.Placement.{directive_step, body_command_step, piece_placed, pieces_placed}
-use Rattle.ldmodel.specs.Chain.{run}
+use Rattle.ldmodel_laws.proofs.Common.{assertion_faults, assigned_names, byte_at, duplicates, entry_point}
+use Rattle.ldmodel_laws.proofs.Common.{entry_section, fault_of, fault_text, field_of, file_headers, first_match}
+use Rattle.ldmodel_laws.proofs.Common.{gathering_faults, groups, hex, image, image_length, input_sections, is_discarded}
+use Rattle.ldmodel_laws.proofs.Common.{is_match, layout, line_of, link, linked_pieces, live, map_text, mentioned_names}
+use Rattle.ldmodel_laws.proofs.Common.{name_faults, name_value, number, orphans, output_symbol_table, output_symbols}
+use Rattle.ldmodel_laws.proofs.Common.{overlaps, provided_names, reached, referenced_value, refl, relocation_faults}
+use Rattle.ldmodel_laws.proofs.Common.{rows, run, segments, site_field, sites, sort_by, symbol_name_table}
+use Rattle.ldmodel_laws.proofs.Common.{target_number, target_section, undefined_entry, value, word_of}
+use Rattle.ldmodel.specs.Placement.{directive_step, body_command_step, piece_placed, pieces_placed, command_step}
+use Rattle.ldmodel.specs.Placement.{item_command_step, placement, region_step, section_step, placed_section}
+use Rattle.ldmodel.specs.Placement.{section_end, difference_in, given, head_of, load_address, section_start}
 use Rattle.ldmodel.specs.Commands.{line}
-use Rattle.ldmodel.specs.FaultCode.{fault_of}
-use Rattle.ldmodel.specs.FaultText.{fault_text}
-use Rattle.ldmodel.specs.FirstMatch.{first_match}
-use Rattle.ldmodel.specs.Gathering.{is_discarded}
 use Rattle.ldmodel.specs.Headers.{elf_header, program_header}
-use Rattle.ldmodel.specs.Image.{byte_at, file_headers, image}
-use Rattle.ldmodel.specs.InputSections.{input_sections}
-use Rattle.ldmodel.specs.Layout.{number}
-use Rattle.ldmodel.specs.Lines.{hex, line_of}
-use Rattle.ldmodel.specs.Link.{gathering_faults, layout, link, name_faults}
-use Rattle.ldmodel.specs.Live.{entry_section, live, orphans, target_section}
-use Rattle.ldmodel.specs.MapText.{map_text}
-use Rattle.ldmodel.specs.Mentioned.{mentioned_names}
-use Rattle.ldmodel.specs.NameFaults.{duplicates, undefined_entry}
 use Rattle.ldmodel.specs.Names.{decided, decision, declarations_of, declared_names, entry_symbol, provided}
-use Rattle.ldmodel.specs.OutputSymbols.{output_symbols}
-use Rattle.ldmodel.specs.Overlaps.{overlaps}
-use Rattle.ldmodel.specs.Placement.{command_step, item_command_step, placement, region_step, section_step}
-use Rattle.ldmodel.specs.Reach.{reached}
-use Rattle.ldmodel.specs.Relocations.{relocation_faults, site_field, sites}
-use Rattle.ldmodel.specs.Rows.{rows}
-use Rattle.ldmodel.specs.ScriptNames.{assigned_names, provided_names}
-use Rattle.ldmodel.specs.Placement.{placed_section, section_end, difference_in, given, head_of, load_address}
-use Rattle.ldmodel.specs.Placement.{section_start}
-use Rattle.ldmodel.specs.SectionHeaders.{header_name_table, header_part, image_length, section_headers, tables}
-use Rattle.ldmodel.specs.Segments.{groups, segments}
-use Rattle.ldmodel.specs.Sorting.{sort_by}
-use Rattle.ldmodel.specs.Stayed.{linked_pieces}
-use Rattle.ldmodel.specs.SymbolValues.{entry_point, name_value}
-use Rattle.ldmodel.specs.Tail.{symbol_name_table, output_symbol_table}
-use Rattle.ldmodel.specs.Targets.{referenced_value, target_number}
-use Rattle.ldmodel.specs.Value.{value}
-use Rattle.ldscript.specs.terms.Matching.{is_match}
+use Rattle.ldmodel.specs.SectionHeaders.{header_name_table, header_part, section_headers, tables}
 use Rattle.ldmodel_laws.proofs.links.link_by_example.Goals as goal
 
 pub returns-clause-empty_status : goal.returns-clause-empty_status

@@ -1,6 +1,4 @@
-use Rattle.std.proofs.Common.{◌∙◌, List, ap}
-use Rattle.std.specs.List.{enumerate_from}
-use Rattle.elfobj.specs.Symbols.{NamedSymbol}
+use Rattle.ldmodel_project.proofs.Common.{List, NamedSymbol, ap, enumerate_from, ◌∙◌}
 use Rattle.ldmodel_project.proofs.Tabled.{tables-placed}
 use Rattle.ldmodel_project.proofs.law.tables_by_place.Goals as goal
 

@@ -1,9 +1,6 @@
-use Rattle.std.proofs.Common.{ℕ, List, Option, subst}
-use Rattle.elfobj.specs.Symbols.{NamedSymbol}
-use Rattle.ldmodel_project.specs.Listing.{Listed}
-use Rattle.ldmodel_project.specs.Next.{next_entries, edited_key}
+use Rattle.ldmodel_project.proofs.Common.{IsAmong, List, Listed, NamedSymbol, Option, edited_key, next_entries, subst}
+use Rattle.ldmodel_project.proofs.Common.{ℕ}
 use Rattle.ldmodel_project.specs.Tables.{HasTableAt, symbols_under, tables_under}
-use Rattle.ldmodel_project.specs.Edited.{IsAmong}
 use Rattle.ldmodel_project.proofs.Tabled.{table-among, tables-others}
 use Rattle.ldmodel_project.proofs.law.tables_follow.Goals as goal
 

@@ -1,4 +1,4 @@
-use Rattle.std.proofs.Common.{arith}
+use Rattle.ldmodel_project.proofs.Common.{arith}
 use Rattle.ldmodel_project.proofs.Noting.{first_empty, has_places}
 use Rattle.ldmodel_project.proofs.order.places_of.Goals as goal
 

@@ -1,7 +1,4 @@
-use Rattle.ldscript_tokens.specs.declared.token.Mark.TheVariants.{CloseBrace}
-use Rattle.std.proofs.Common.{rules}
-use Rattle.ldscript.specs.Steps.{mark}
-use Rattle.ldscript.specs.Grammar.{body_statement}
+use Rattle.ldscript.proofs.Common.{CloseBrace, body_statement, mark, rules}
 use Rattle.ldscript.proofs.Lists.{so_far_closed, so_far_semicolon, so_far_statement, so_far_stuck}
 use Rattle.ldscript.proofs.Bodies.{body_listed, body_statement_single}
 use Rattle.ldscript.proofs.read_body.body.Goals as goal

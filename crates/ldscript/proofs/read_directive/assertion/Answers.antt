@@ -1,6 +1,4 @@
-use Rattle.std.specs.Prelude.{codes}
-use Rattle.ldscript.specs.Steps.{key}
-use Rattle.ldscript.specs.Grammar.{asserted}
+use Rattle.ldscript.proofs.Common.{asserted, codes, key}
 use Rattle.ldscript.proofs.Singles.{key_fixed}
 use Rattle.ldscript.proofs.Reading.{reads_behind}
 use Rattle.ldscript.proofs.read_directive.assertion.Goals as goal

@@ -1,5 +1,4 @@
-use Rattle.ldscript_tokens.specs.declared.token.Mark.TheVariants.{CloseParenthesis}
-use Rattle.ldscript.specs.Steps.{mark, string}
+use Rattle.ldscript.proofs.Common.{CloseParenthesis, mark, string}
 use Rattle.ldscript.proofs.Singles.{string_single, behind_tree}
 use Rattle.ldscript.proofs.read_directive.message.Goals as goal
 

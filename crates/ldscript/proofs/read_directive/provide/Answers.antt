@@ -1,6 +1,4 @@
-use Rattle.std.specs.Prelude.{codes}
-use Rattle.ldscript.specs.Steps.{key}
-use Rattle.ldscript.specs.Grammar.{provided_assignment}
+use Rattle.ldscript.proofs.Common.{codes, key, provided_assignment}
 use Rattle.ldscript.proofs.Singles.{key_fixed}
 use Rattle.ldscript.proofs.Reading.{reads_behind}
 use Rattle.ldscript.proofs.read_directive.provide.Goals as goal

@@ -1,6 +1,5 @@
-use Rattle.ldscript_tokens.specs.declared.token.Mark.TheVariants.{OpenParenthesis, Assign}
-use Rattle.ldscript_tokens.specs.declared.token.Mode.TheVariants.{Expression}
-use Rattle.ldscript.specs.Steps.{◌▸◌, mark, name}
+use Rattle.ldscript.proofs.Common.{Assign, Expression, OpenParenthesis, mark, ◌▸◌}
+use Rattle.ldscript.specs.Steps.{name}
 use Rattle.ldscript.proofs.Singles.{mark_fixed, name_single, behind, behind_tree}
 use Rattle.ldscript.proofs.read_directive.provided_name.Goals as goal
 

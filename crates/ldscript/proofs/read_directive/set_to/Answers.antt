@@ -1,6 +1,4 @@
-use Rattle.ldscript_tokens.specs.declared.token.Mark.TheVariants.{Assign, Semicolon}
-use Rattle.ldscript.specs.Steps.{mark}
-use Rattle.ldscript.specs.Grammar.{ended}
+use Rattle.ldscript.proofs.Common.{Assign, Semicolon, ended, mark}
 use Rattle.ldscript.proofs.Singles.{mark_fixed}
 use Rattle.ldscript.proofs.Reading.{reads_behind}
 use Rattle.ldscript.proofs.read_directive.set_to.Goals as goal

@@ -1,5 +1,4 @@
-use Rattle.ldscript_tokens.specs.declared.token.Mark.TheVariants.{OpenParenthesis, CloseParenthesis}
-use Rattle.ldscript.specs.Steps.{◌▸◌, mark, pattern, some}
+use Rattle.ldscript.proofs.Common.{CloseParenthesis, OpenParenthesis, mark, pattern, some, ◌▸◌}
 use Rattle.ldscript.proofs.Singles.{mark_fixed}
 use Rattle.ldscript.proofs.Reading.{none_front, reads_behind}
 use Rattle.ldscript.proofs.read_input.excluded_files.Goals as goal

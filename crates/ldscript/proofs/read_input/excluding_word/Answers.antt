@@ -1,4 +1,4 @@
-use Rattle.std.proofs.Common.{arith}
+use Rattle.ldscript.proofs.Common.{arith}
 use Rattle.ldscript.proofs.Inputs.{one_as_bare, one_excluding, one_files_none, one_pattern_none}
 use Rattle.ldscript.proofs.read_input.excluding_word.Goals as goal
 

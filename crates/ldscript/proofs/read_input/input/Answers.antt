@@ -1,6 +1,4 @@
-use Rattle.ldscript_tokens.specs.declared.token.Mark.TheVariants.{CloseParenthesis}
-use Rattle.std.proofs.Common.{subst, arith, true}
-use Rattle.ldscript.specs.Steps.{mark}
+use Rattle.ldscript.proofs.Common.{CloseParenthesis, arith, mark, subst, true}
 use Rattle.ldscript.proofs.Inputs.{input_plain, kept_as, kept_open_none, kept_plain_none, plain_same}
 use Rattle.ldscript.proofs.read_input.input.Goals as goal
 

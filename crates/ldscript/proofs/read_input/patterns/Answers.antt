@@ -1,5 +1,4 @@
-use Rattle.ldscript_tokens.specs.declared.token.Mark.TheVariants.{CloseParenthesis}
-use Rattle.ldscript.specs.Steps.{mark, pattern}
+use Rattle.ldscript.proofs.Common.{CloseParenthesis, mark, pattern}
 use Rattle.ldscript.proofs.Each.{each_so_far_closed, each_so_far_member, each_so_far_stuck}
 use Rattle.ldscript.proofs.Inputs.{pattern_single, patterns_listed}
 use Rattle.ldscript.proofs.read_input.patterns.Goals as goal

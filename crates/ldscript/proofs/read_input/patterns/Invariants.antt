@@ -1,6 +1,4 @@
-use Rattle.std.proofs.Common.{length}
-use Rattle.ldscript_tokens.specs.declared.token.Mark.TheVariants.{CloseParenthesis}
-use Rattle.ldscript.specs.Steps.{mark, pattern}
+use Rattle.ldscript.proofs.Common.{CloseParenthesis, length, mark, pattern}
 use Rattle.ldscript.proofs.Each.{EachSoFar}
 use Rattle.ldscript.proofs.read_input.patterns.Given as goal
 

@@ -1,6 +1,4 @@
-use Rattle.ldscript_tokens.specs.declared.token.Mark.TheVariants.{CloseParenthesis}
-use Rattle.std.proofs.Common.{false, subst, arith}
-use Rattle.ldscript.specs.Steps.{mark}
+use Rattle.ldscript.proofs.Common.{CloseParenthesis, arith, false, mark, subst}
 use Rattle.ldscript.proofs.Inputs.{selected_unsorted, selected_sorted, closed_words_single}
 use Rattle.ldscript.proofs.read_input.selection.Goals as goal
 

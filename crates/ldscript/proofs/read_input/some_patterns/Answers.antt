@@ -1,5 +1,4 @@
-use Rattle.ldscript_tokens.specs.declared.token.Mark.TheVariants.{CloseParenthesis}
-use Rattle.ldscript.specs.Steps.{mark, pattern}
+use Rattle.ldscript.proofs.Common.{CloseParenthesis, mark, pattern}
 use Rattle.ldscript.proofs.Each.{some_none}
 use Rattle.ldscript.proofs.read_input.some_patterns.Goals as goal
 

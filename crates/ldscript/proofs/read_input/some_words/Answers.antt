@@ -1,6 +1,4 @@
-use Rattle.ldscript_tokens.specs.declared.token.Mark.TheVariants.{CloseParenthesis}
-use Rattle.ldscript.specs.Steps.{mark}
-use Rattle.ldscript.specs.Readings.{word_part}
+use Rattle.ldscript.proofs.Common.{CloseParenthesis, mark, word_part}
 use Rattle.ldscript.proofs.Each.{some_none}
 use Rattle.ldscript.proofs.read_input.some_words.Goals as goal
 

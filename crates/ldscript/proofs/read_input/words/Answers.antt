@@ -1,6 +1,4 @@
-use Rattle.ldscript_tokens.specs.declared.token.Mark.TheVariants.{CloseParenthesis}
-use Rattle.ldscript.specs.Steps.{mark}
-use Rattle.ldscript.specs.Readings.{word_part}
+use Rattle.ldscript.proofs.Common.{CloseParenthesis, mark, word_part}
 use Rattle.ldscript.proofs.Each.{each_so_far_closed, each_so_far_member, each_so_far_stuck}
 use Rattle.ldscript.proofs.Inputs.{word_single, words_listed}
 use Rattle.ldscript.proofs.read_input.words.Goals as goal

@@ -1,7 +1,4 @@
-use Rattle.std.proofs.Common.{length}
-use Rattle.ldscript_tokens.specs.declared.token.Mark.TheVariants.{CloseParenthesis}
-use Rattle.ldscript.specs.Steps.{mark}
-use Rattle.ldscript.specs.Readings.{word_part}
+use Rattle.ldscript.proofs.Common.{CloseParenthesis, length, mark, word_part}
 use Rattle.ldscript.proofs.Each.{EachSoFar}
 use Rattle.ldscript.proofs.read_input.words.Given as goal
 

@@ -1,6 +1,4 @@
-use Rattle.ldscript_tokens.specs.declared.token.Mark.TheVariants.{Colon, OpenBrace}
-use Rattle.ldscript_tokens.specs.Tokens.{Discard}
-use Rattle.ldscript.specs.Steps.{◌▸◌, mark, token}
+use Rattle.ldscript.proofs.Common.{Colon, Discard, OpenBrace, mark, token, ◌▸◌}
 use Rattle.ldscript.proofs.Singles.{token_fixed, mark_fixed, behind}
 use Rattle.ldscript.proofs.Reading.{follows_behind}
 use Rattle.ldscript.proofs.read_item.discard_head.Goals as goal

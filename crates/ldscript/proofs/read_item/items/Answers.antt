@@ -1,8 +1,4 @@
-use Rattle.ldscript_tokens.specs.declared.token.Mark.TheVariants.{CloseBrace}
-use Rattle.std.proofs.Common.{rules}
-use Rattle.ldscript.specs.Steps.{mark}
-use Rattle.ldscript.specs.Grammar.{item_statement}
-use Rattle.ldscript.specs.Readings.{EndsSection}
+use Rattle.ldscript.proofs.Common.{CloseBrace, EndsSection, item_statement, mark, rules}
 use Rattle.ldscript.proofs.Lists.{so_far_closed, so_far_semicolon, so_far_statement, so_far_stuck}
 use Rattle.ldscript.proofs.Items.{items_listed, item_statement_only}
 use Rattle.ldscript.proofs.read_item.items.Goals as goal

@@ -1,7 +1,4 @@
-use Rattle.std.proofs.Common.{length}
-use Rattle.ldscript_tokens.specs.declared.token.Mark.TheVariants.{CloseBrace}
-use Rattle.ldscript.specs.Steps.{mark}
-use Rattle.ldscript.specs.Grammar.{item_statement}
+use Rattle.ldscript.proofs.Common.{CloseBrace, item_statement, length, mark}
 use Rattle.ldscript.proofs.Lists.{SoFar}
 use Rattle.ldscript.proofs.read_item.items.Given as goal
 

@@ -1,4 +1,4 @@
-use Rattle.std.proofs.Common.{◌∙◌, sym, arith}
+use Rattle.ldscript.proofs.Common.{arith, sym, ◌∙◌}
 use Rattle.ldscript.proofs.Regions.{region_name, region_only, region_origin, region_extent}
 use Rattle.ldscript.proofs.read_region.region.Goals as goal
 

@@ -1,7 +1,5 @@
-use Rattle.std.specs.Prelude.{codes}
-use Rattle.ldscript_tokens.specs.declared.token.Mark.TheVariants.{Colon, Assign}
-use Rattle.ldscript_tokens.specs.declared.token.Mode.TheVariants.{Expression}
-use Rattle.ldscript.specs.Steps.{◌▸◌, key, mark, name}
+use Rattle.ldscript.proofs.Common.{Assign, Colon, Expression, codes, key, mark, ◌▸◌}
+use Rattle.ldscript.specs.Steps.{name}
 use Rattle.ldscript.proofs.Singles.{key_fixed, mark_fixed, name_single, behind, behind_tree}
 use Rattle.ldscript.proofs.read_region.region_head.Goals as goal
 

@@ -1,7 +1,4 @@
-use Rattle.std.specs.Prelude.{codes}
-use Rattle.ldscript_tokens.specs.declared.token.Mark.TheVariants.{Assign}
-use Rattle.ldscript_tokens.specs.declared.token.Mode.TheVariants.{Expression}
-use Rattle.ldscript.specs.Steps.{key, mark}
+use Rattle.ldscript.proofs.Common.{Assign, Expression, codes, key, mark}
 use Rattle.ldscript.proofs.Singles.{key_fixed}
 use Rattle.ldscript.proofs.Reading.{follows_behind}
 use Rattle.ldscript.proofs.read_region.region_middle.Goals as goal

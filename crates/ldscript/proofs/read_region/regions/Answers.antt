@@ -1,8 +1,4 @@
-use Rattle.ldscript_tokens.specs.declared.token.Mark.TheVariants.{CloseBrace}
-use Rattle.ldscript_terms.specs.Reading.{Stops}
-use Rattle.ldscript_terms.specs.Grammar.{Whole}
-use Rattle.ldscript.specs.Steps.{mark}
-use Rattle.ldscript.specs.Grammar.{region}
+use Rattle.ldscript.proofs.Common.{CloseBrace, Stops, Whole, mark, region}
 use Rattle.ldscript.proofs.Each.{each_so_far_closed, each_so_far_member, each_so_far_stuck}
 use Rattle.ldscript.proofs.Regions.{regions_listed}
 use Rattle.ldscript.proofs.read_region.regions.Goals as goal

@@ -1,7 +1,4 @@
-use Rattle.std.proofs.Common.{length}
-use Rattle.ldscript_tokens.specs.declared.token.Mark.TheVariants.{CloseBrace}
-use Rattle.ldscript.specs.Steps.{mark}
-use Rattle.ldscript.specs.Grammar.{region}
+use Rattle.ldscript.proofs.Common.{CloseBrace, length, mark, region}
 use Rattle.ldscript.proofs.Each.{EachSoFar}
 use Rattle.ldscript.proofs.read_region.regions.Given as goal
 

@@ -1,7 +1,5 @@
-use Rattle.std.specs.Prelude.{codes}
-use Rattle.ldscript_tokens.specs.declared.token.Mark.TheVariants.{OpenParenthesis, CloseParenthesis}
-use Rattle.ldscript_tokens.specs.declared.token.Mode.TheVariants.{Expression}
-use Rattle.ldscript.specs.Steps.{◌▸◌, key, mark, name}
+use Rattle.ldscript.proofs.Common.{CloseParenthesis, Expression, OpenParenthesis, codes, key, mark, ◌▸◌}
+use Rattle.ldscript.specs.Steps.{name}
 use Rattle.ldscript.proofs.Singles.{key_fixed}
 use Rattle.ldscript.proofs.Reading.{none_behind}
 use Rattle.ldscript.proofs.read_script.entry.Goals as goal

@@ -1,8 +1,4 @@
-use Rattle.ldscript_tokens.specs.declared.token.Mark.TheVariants.{OpenBrace, CloseBrace}
-use Rattle.std.specs.Prelude.{codes}
-use Rattle.ldscript_tokens.specs.declared.token.Mode.TheVariants.{Expression}
-use Rattle.ldscript.specs.Steps.{◌▸◌, key, mark, each}
-use Rattle.ldscript.specs.Grammar.{region}
+use Rattle.ldscript.proofs.Common.{CloseBrace, Expression, OpenBrace, codes, each, key, mark, region, ◌▸◌}
 use Rattle.ldscript.proofs.Singles.{key_fixed, mark_fixed, behind}
 use Rattle.ldscript.proofs.Reading.{reads_behind}
 use Rattle.ldscript.proofs.read_script.memory.Goals as goal

@@ -1,8 +1,4 @@
-use Rattle.ldscript_tokens.specs.declared.token.Mark.TheVariants.{OpenBrace, CloseBrace}
-use Rattle.std.specs.Prelude.{codes}
-use Rattle.ldscript_tokens.specs.declared.token.Mode.TheVariants.{Expression}
-use Rattle.ldscript.specs.Steps.{◌▸◌, key, mark, statements}
-use Rattle.ldscript.specs.Grammar.{item_statement}
+use Rattle.ldscript.proofs.Common.{CloseBrace, Expression, OpenBrace, codes, item_statement, key, mark, statements, ◌▸◌}
 use Rattle.ldscript.proofs.Singles.{key_fixed, mark_fixed, behind}
 use Rattle.ldscript.proofs.Reading.{reads_behind}
 use Rattle.ldscript.proofs.read_script.sections.Goals as goal

@@ -1,5 +1,4 @@
-use Rattle.std.proofs.Common.{rules}
-use Rattle.ldscript.specs.Grammar.{top_statement}
+use Rattle.ldscript.proofs.Common.{rules, top_statement}
 use Rattle.ldscript.proofs.Tops.{at_end}
 use Rattle.ldscript.proofs.Lists.{so_far_semicolon, so_far_statement}
 use Rattle.ldscript.proofs.Tops.{no_script, takes_statement, tops_listed, whole_script}

@@ -1,5 +1,4 @@
-use Rattle.std.proofs.Common.{length}
-use Rattle.ldscript.specs.Grammar.{top_statement}
+use Rattle.ldscript.proofs.Common.{length, top_statement}
 use Rattle.ldscript.proofs.Tops.{at_end}
 use Rattle.ldscript.proofs.Lists.{SoFar}
 use Rattle.ldscript.proofs.read_script.statements_of.Given as goal

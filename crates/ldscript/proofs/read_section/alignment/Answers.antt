@@ -1,4 +1,4 @@
-use Rattle.std.proofs.Common.{arith}
+use Rattle.ldscript.proofs.Common.{arith}
 use Rattle.ldscript.proofs.Items.{opened_none, no_alignment, alignment_stuck, alignment_open}
 use Rattle.ldscript.proofs.read_section.alignment.Goals as goal
 

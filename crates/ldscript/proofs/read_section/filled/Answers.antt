@@ -1,4 +1,4 @@
-use Rattle.std.proofs.Common.{refl}
+use Rattle.ldscript.proofs.Common.{refl}
 use Rattle.ldscript.proofs.read_section.filled.Goals as goal
 
 pub returns-in_default : goal.returns-in_default

@@ -1,8 +1,5 @@
-use Rattle.std.proofs.Common.{refl}
-use Rattle.std.specs.Prelude.{codes}
-use Rattle.ldscript_tokens.specs.declared.token.Mark.TheVariants.{Greater}
-use Rattle.ldscript_tokens.specs.declared.token.Mode.TheVariants.{Expression}
-use Rattle.ldscript.specs.Steps.{◌▸◌, key, mark, name}
+use Rattle.ldscript.proofs.Common.{Expression, Greater, codes, key, mark, refl, ◌▸◌}
+use Rattle.ldscript.specs.Steps.{name}
 use Rattle.ldscript.proofs.Singles.{key_fixed, mark_fixed}
 use Rattle.ldscript.proofs.Reading.{none_behind}
 use Rattle.ldscript.proofs.read_section.load_region.Goals as goal

@@ -1,6 +1,5 @@
-use Rattle.std.proofs.Common.{refl}
-use Rattle.ldscript_tokens.specs.declared.token.Mark.TheVariants.{Greater}
-use Rattle.ldscript.specs.Steps.{mark, name}
+use Rattle.ldscript.proofs.Common.{Greater, mark, refl}
+use Rattle.ldscript.specs.Steps.{name}
 use Rattle.ldscript.proofs.Singles.{mark_fixed}
 use Rattle.ldscript.proofs.Reading.{none_behind}
 use Rattle.ldscript.proofs.read_section.region.Goals as goal

@@ -1,6 +1,5 @@
-use Rattle.std.proofs.Common.{refl, sym, subst}
+use Rattle.ldscript.proofs.Common.{Takes, refl, subst, sym}
 use Rattle.ldscript.specs.Steps.{name}
-use Rattle.ldscript.specs.Readings.{Takes}
 use Rattle.ldscript.proofs.Items.{section_name_none, section_head_none, section_body_none, section_tail_none}
 use Rattle.ldscript.proofs.Items.{section_load_none, section_of_parts}
 use Rattle.ldscript.proofs.read_section.section.Goals as goal

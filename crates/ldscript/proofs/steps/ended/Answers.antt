@@ -1,5 +1,4 @@
-use Rattle.std.proofs.Common.{subst}
-use Rattle.ldscript.specs.Steps.{mark}
+use Rattle.ldscript.proofs.Common.{mark, subst}
 use Rattle.ldscript.proofs.Singles.{stops_at}
 use Rattle.ldscript.proofs.steps.ended.Goals as goal
 

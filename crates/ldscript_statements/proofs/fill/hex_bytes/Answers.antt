@@ -1,4 +1,4 @@
-use Rattle.std.proofs.Common.{◌∙◌, ap, ◌+◌, [], ◌∷◌, sym, rules, length-append}
+use Rattle.ldscript_statements.proofs.Common.{[], ap, length-append, rules, sym, ◌+◌, ◌∙◌, ◌∷◌}
 use Rattle.ldscript_statements.proofs.Fills.{pair_none, pair_some}
 use Rattle.ldscript_statements.proofs.fill.hex_bytes.Goals as goal
 

@@ -1,5 +1,4 @@
-use Rattle.std.proofs.Common.{◌≡◌, Some, length}
-use Rattle.ldscript_statements.specs.Fill.{hex_bytes}
+use Rattle.ldscript_statements.proofs.Common.{Some, hex_bytes, length, ◌≡◌}
 use Rattle.ldscript_statements.proofs.fill.hex_bytes.Given as goal
 
 abbrev pub invariant-loop-i : goal.invariant-loop-i

@@ -1,4 +1,4 @@
-use Rattle.std.proofs.Common.{◌≡◌, take}
+use Rattle.ldscript_statements.proofs.Common.{take, ◌≡◌}
 use Rattle.ldscript_statements.proofs.input.are_same_words.Given as goal
 
 abbrev pub invariant-loop-number : goal.invariant-loop-number

@@ -1,7 +1,5 @@
-use Rattle.std.proofs.Common.{◌++◌, ◌≡◌, ap, inl, inr}
+use Rattle.ldscript_statements.proofs.Common.{ap, inl, inr, regions_of, shown, ◌++◌, ◌≡◌}
 use Rattle.ldscript_terms.specs.CodeTerms.{expr_of}
-use Rattle.ldscript_statements.specs.Mentions.{regions_of}
-use Rattle.ldscript_statements.specs.Listed.{shown}
 use Rattle.ldscript_statements.proofs.Listing.{listed_two, listed_three}
 use Rattle.ldscript_statements.proofs.mention.+note_expression.Goals as goal
 

@@ -1,7 +1,5 @@
 -- What is listed, with what is still to be listed, is all.
-use Rattle.std.proofs.Common.{◌≡◌, ◌++◌, drop}
-use Rattle.ldscript_statements.specs.Mentions.{in_body}
-use Rattle.ldscript_statements.specs.Listed.{shown}
+use Rattle.ldscript_statements.proofs.Common.{drop, in_body, shown, ◌++◌, ◌≡◌}
 use Rattle.ldscript_statements.proofs.mention.note_body.Given as goal
 
 abbrev pub invariant-loop-statement : goal.invariant-loop-statement

@@ -1,7 +1,5 @@
 -- What is listed, with what is still to be listed, is all.
-use Rattle.std.proofs.Common.{◌≡◌, ◌++◌, drop}
-use Rattle.ldscript_statements.specs.Mentions.{in_items}
-use Rattle.ldscript_statements.specs.Listed.{shown}
+use Rattle.ldscript_statements.proofs.Common.{drop, in_items, shown, ◌++◌, ◌≡◌}
 use Rattle.ldscript_statements.proofs.mention.note_items.Given as goal
 
 abbrev pub invariant-loop-item : goal.invariant-loop-item

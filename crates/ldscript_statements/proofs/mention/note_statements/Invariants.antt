@@ -1,7 +1,5 @@
 -- What is listed, with what is still to be listed, is all.
-use Rattle.std.proofs.Common.{◌≡◌, ◌++◌, drop}
-use Rattle.ldscript_statements.specs.Mentions.{mentions}
-use Rattle.ldscript_statements.specs.Listed.{shown}
+use Rattle.ldscript_statements.proofs.Common.{drop, mentions, shown, ◌++◌, ◌≡◌}
 use Rattle.ldscript_statements.proofs.mention.note_statements.Given as goal
 
 abbrev pub invariant-loop-statement : goal.invariant-loop-statement

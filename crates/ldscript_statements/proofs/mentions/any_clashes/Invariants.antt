@@ -1,6 +1,5 @@
 -- Up to here nothing clashes, and the set holds what was met.
-use Rattle.std.proofs.Common.{take}
-use Rattle.ldscript_statements.specs.Listed.{shown}
+use Rattle.ldscript_statements.proofs.Common.{shown, take}
 use Rattle.ldscript_statements.proofs.Scanning.{Scanned}
 use Rattle.ldscript_statements.proofs.mentions.any_clashes.Given as goal
 

@@ -1,6 +1,4 @@
-use Rattle.std.proofs.Common.{◌∙◌, ap, ◌++◌}
-use Rattle.ldscript_statements.specs.Mentions.{mentions}
-use Rattle.ldscript_statements.specs.Listed.{shown}
+use Rattle.ldscript_statements.proofs.Common.{ap, mentions, shown, ◌++◌, ◌∙◌}
 use Rattle.ldscript_statements.proofs.Scanning.{of_script}
 use Rattle.ldscript_statements.proofs.mentions.has_clash.Goals as goal
 

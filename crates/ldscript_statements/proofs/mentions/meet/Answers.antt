@@ -4,10 +4,10 @@ use Rattle.ldscript_statements.proofs.mentions.meet.Goals as goal
 
 pub returns-in_ok-insert-in_default : goal.returns-in_ok-insert-in_default
 returns-in_ok-insert-in_default c =
-    meets_once c.in_ok-insert-in_default.field-0 c.args.mention c.args.given.now.keys c.insert.new.self.keys
+    meets_once c.in_ok-insert-in_default.field-0 c.args.mention c.args.given.now.keys c.insert.new.set.keys
     (once_of c.args.mention c.in_default.not-RegionUsed)
     c.in_ok-insert-in_default.ensures.added
-    (inserted derived.cmp-value.it c.args.mention c.args.given.now.keys c.insert.new.self.keys
+    (inserted derived.cmp-value.it c.args.mention c.args.given.now.keys c.insert.new.set.keys
     c.in_ok-insert-in_default.field-0
     c.in_ok-insert-in_default.ensures.added c.in_ok-insert-in_default.ensures.keys
     c.in_ok-insert-in_default.ensures.unchanged)

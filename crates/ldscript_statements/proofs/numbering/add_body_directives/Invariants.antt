@@ -1,7 +1,5 @@
 -- What is listed, with what is still to be listed, is all.
-use Rattle.std.proofs.Common.{◌≡◌, ◌++◌, drop}
-use Rattle.ldscript_statements.specs.Numbering.{directives_in}
-use Rattle.ldscript_statements.specs.Numbered.{shown_directives}
+use Rattle.ldscript_statements.proofs.Common.{directives_in, drop, shown_directives, ◌++◌, ◌≡◌}
 use Rattle.ldscript_statements.proofs.numbering.add_body_directives.Given as goal
 
 abbrev pub invariant-loop-statement : goal.invariant-loop-statement

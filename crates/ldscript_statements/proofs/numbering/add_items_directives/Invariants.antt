@@ -1,7 +1,5 @@
 -- What is listed, with what is still to be listed, is all.
-use Rattle.std.proofs.Common.{◌≡◌, ◌++◌, drop}
-use Rattle.ldscript_statements.specs.Numbering.{items_directives}
-use Rattle.ldscript_statements.specs.Numbered.{shown_directives}
+use Rattle.ldscript_statements.proofs.Common.{drop, items_directives, shown_directives, ◌++◌, ◌≡◌}
 use Rattle.ldscript_statements.proofs.numbering.add_items_directives.Given as goal
 
 abbrev pub invariant-loop-item : goal.invariant-loop-item

@@ -1,6 +1,5 @@
 -- What is listed, with what is still to be listed, is all.
-use Rattle.std.proofs.Common.{◌≡◌, ◌++◌, drop}
-use Rattle.ldscript_statements.specs.Numbered.{shown_regions}
+use Rattle.ldscript_statements.proofs.Common.{drop, shown_regions, ◌++◌, ◌≡◌}
 use Rattle.ldscript_statements.proofs.numbering.add_regions.Given as goal
 
 abbrev pub invariant-loop-region : goal.invariant-loop-region

@@ -1,7 +1,5 @@
 -- What is listed, with what is still to be listed, is all.
-use Rattle.std.proofs.Common.{◌≡◌, ◌++◌, drop}
-use Rattle.ldscript_statements.specs.Numbering.{all_directives}
-use Rattle.ldscript_statements.specs.Numbered.{shown_directives}
+use Rattle.ldscript_statements.proofs.Common.{all_directives, drop, shown_directives, ◌++◌, ◌≡◌}
 use Rattle.ldscript_statements.proofs.numbering.all_directives.Given as goal
 
 abbrev pub invariant-loop-statement : goal.invariant-loop-statement

@@ -1,6 +1,5 @@
 -- No statement up to here is an ENTRY.
-use Rattle.std.proofs.Common.{◌≡◌, drop}
-use Rattle.ldscript_statements.specs.Numbering.{entry_of}
+use Rattle.ldscript_statements.proofs.Common.{drop, entry_of, ◌≡◌}
 use Rattle.ldscript_statements.proofs.numbering.entry.Given as goal
 
 abbrev pub invariant-loop-statement : goal.invariant-loop-statement

@@ -1,7 +1,5 @@
 -- What is listed, with what is still to be listed, is all.
-use Rattle.std.proofs.Common.{◌≡◌, ◌++◌, drop}
-use Rattle.ldscript_statements.specs.Numbering.{items}
-use Rattle.ldscript_statements.specs.Numbered.{shown_items}
+use Rattle.ldscript_statements.proofs.Common.{drop, items, shown_items, ◌++◌, ◌≡◌}
 use Rattle.ldscript_statements.proofs.numbering.items.Given as goal
 
 abbrev pub invariant-loop-statement : goal.invariant-loop-statement

@@ -1,8 +1,6 @@
 -- The table has the names from here on.
-use Rattle.std.proofs.Common.{◌≡◌, ◌≤◌, ℕ, List, length, drop}
-use Rattle.ldscript_statements.specs.Given.{assigned_from}
-use Rattle.ldscript_statements.specs.Numbered.{shown_directives}
-use Rattle.ldscript_statements.specs.NumberTables.{number_at}
+use Rattle.ldscript_statements.proofs.Common.{List, assigned_from, drop, length, number_at, shown_directives, ℕ, ◌≡◌}
+use Rattle.ldscript_statements.proofs.Common.{◌≤◌}
 use Rattle.ldscript_statements.proofs.tables.assigned_names.Given as goal
 
 abbrev pub invariant-loop-left : goal.invariant-loop-left

@@ -1,8 +1,5 @@
 -- The table has the names from here on.
-use Rattle.std.proofs.Common.{◌≡◌, ◌≤◌, ℕ, List, length, drop}
-use Rattle.ldscript_statements.specs.Given.{region_from}
-use Rattle.ldscript_statements.specs.Numbered.{shown_regions}
-use Rattle.ldscript_statements.specs.NumberTables.{number_at}
+use Rattle.ldscript_statements.proofs.Common.{List, drop, length, number_at, region_from, shown_regions, ℕ, ◌≡◌, ◌≤◌}
 use Rattle.ldscript_statements.proofs.tables.region_names.Given as goal
 
 abbrev pub invariant-loop-left : goal.invariant-loop-left

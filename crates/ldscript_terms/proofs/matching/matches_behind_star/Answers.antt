@@ -1,5 +1,4 @@
-use Rattle.std.proofs.Common.{refl}
-use Rattle.std.proofs.lemmas.Bool.{false≢true}
+use Rattle.ldscript_terms.proofs.Common.{false≢true, refl}
 use Rattle.ldscript_terms.proofs.Stars.{star_none, star_step, miss_step, miss_end}
 use Rattle.ldscript_terms.proofs.PlainRuns.{star_at_end}
 use Rattle.ldscript_terms.proofs.matching.matches_behind_star.Goals as goal

@@ -1,7 +1,4 @@
-use Rattle.std.proofs.Common.{◌∷◌, ◌+◌, List, length}
-use Rattle.ldscript_terms.specs.Parts.{Part, AnyRun}
-use Rattle.ldscript_terms.specs.Matching.{Matches}
-use Rattle.ldscript_terms.specs.Spelling.{SpellsPattern}
+use Rattle.ldscript_terms.proofs.Common.{AnyRun, List, Matches, Part, SpellsPattern, length, ◌+◌, ◌∷◌}
 use Rattle.ldscript_terms.proofs.Stars.{Searches}
 use Rattle.ldscript_terms.proofs.matching.matches_behind_star.Given as goal
 

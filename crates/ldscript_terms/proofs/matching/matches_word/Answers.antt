@@ -1,5 +1,4 @@
-use Rattle.std.proofs.Common.{refl}
-use Rattle.std.proofs.lemmas.Bool.{false≢true}
+use Rattle.ldscript_terms.proofs.Common.{false≢true, refl}
 use Rattle.ldscript_terms.proofs.Stars.{star_goes_on}
 use Rattle.ldscript_terms.proofs.matching.matches_word.Goals as goal
 

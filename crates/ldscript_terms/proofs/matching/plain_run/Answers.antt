@@ -1,4 +1,4 @@
-use Rattle.std.proofs.Common.{◌∙◌, refl, sym, arith}
+use Rattle.ldscript_terms.proofs.Common.{arith, refl, sym, ◌∙◌}
 use Rattle.ldscript_terms.proofs.PlainRuns.{past_more}
 use Rattle.ldscript_terms.proofs.matching.plain_run.Goals as goal
 

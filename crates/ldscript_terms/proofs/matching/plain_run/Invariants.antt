@@ -1,4 +1,4 @@
-use Rattle.std.proofs.Common.{◌≤◌, ◌-◌, length}
+use Rattle.ldscript_terms.proofs.Common.{length, ◌-◌, ◌≤◌}
 use Rattle.ldscript_terms.proofs.PlainRuns.{IsPast}
 use Rattle.ldscript_terms.proofs.matching.plain_run.Given as goal
 

@@ -1,5 +1,4 @@
-use Rattle.std.proofs.Common.{refl, sym, ◌∙◌, ap, length, arith}
-use Rattle.std.proofs.lemmas.Bool.{false≢true}
+use Rattle.ldscript_terms.proofs.Common.{ap, arith, false≢true, length, refl, sym, ◌∙◌}
 use Rattle.ldscript_terms.proofs.Stars.{passed_more, missed_empty, missed_byte, whole_at_end, missed_at_end}
 use Rattle.ldscript_terms.proofs.PlainRuns.{front_differs}
 use Rattle.ldscript_terms.proofs.matching.try_front.Goals as goal

@@ -1,7 +1,4 @@
-use Rattle.std.proofs.Common.{◌≤◌, List, length}
-use Rattle.ldscript_terms.specs.Parts.{Part}
-use Rattle.ldscript_terms.specs.Spelling.{SpellsPattern}
-use Rattle.ldscript_terms.specs.Trying.{Passed}
+use Rattle.ldscript_terms.proofs.Common.{List, Part, Passed, SpellsPattern, length, ◌≤◌}
 use Rattle.ldscript_terms.proofs.matching.try_front.Given as goal
 
 abbrev pub invariant-loop-part : goal.invariant-loop-part

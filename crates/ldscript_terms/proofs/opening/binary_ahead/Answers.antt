@@ -1,4 +1,4 @@
-use Rattle.std.proofs.Common.{rules}
+use Rattle.ldscript_terms.proofs.Common.{rules}
 use Rattle.ldscript_terms.proofs.opening.binary_ahead.Goals as goal
 
 pub returns-in_err-mark : goal.returns-in_err-mark

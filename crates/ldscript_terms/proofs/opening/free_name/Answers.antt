@@ -1,4 +1,4 @@
-use Rattle.ldscript_terms.specs.Expressions.{Name}
+use Rattle.ldscript_terms.proofs.Common.{Name}
 use Rattle.ldscript_terms.specs.Grammar.{name}
 use Rattle.ldscript_terms.proofs.opening.free_name.Goals as goal
 

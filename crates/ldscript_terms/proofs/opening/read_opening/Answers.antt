@@ -1,6 +1,4 @@
-use Rattle.std.proofs.Common.{rules, ◌≡◌, ◌∷◌, ◌∙◌, sym}
-use Rattle.ldscript_tokens.specs.Tokens.{lexeme, Punctuation}
-use Rattle.ldscript_tokens.specs.declared.token.Mark.TheVariants.{OpenParenthesis}
+use Rattle.ldscript_terms.proofs.Common.{OpenParenthesis, Punctuation, lexeme, rules, sym, ◌∙◌, ◌∷◌, ◌≡◌}
 use Rattle.ldscript_terms.proofs.Refusals.{mark_none}
 use Rattle.ldscript_terms.proofs.opening.read_opening.Goals as goal
 

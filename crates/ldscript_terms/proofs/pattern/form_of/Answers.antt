@@ -1,6 +1,4 @@
-use Rattle.std.proofs.Common.{◌≡◌, Some, None, sym, ◌∙◌, ap}
-use Rattle.std.specs.Option.{option_map}
-use Rattle.ldscript_terms.specs.CodeTerms.{exact_name}
+use Rattle.ldscript_terms.proofs.Common.{None, Some, ap, exact_name, option_map, sym, ◌∙◌, ◌≡◌}
 use Rattle.ldscript_terms.proofs.Exact.{exact_spells}
 use Rattle.ldscript_terms.proofs.Reading.{wild_form, wild_spells}
 use Rattle.ldscript_terms.proofs.pattern.form_of.Goals as goal

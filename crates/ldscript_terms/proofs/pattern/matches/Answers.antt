@@ -1,5 +1,4 @@
-use Rattle.std.proofs.Common.{sym, ◌∙◌, ap, subst}
-use Rattle.ldscript_terms.specs.Forms.{IsForm, parts_in}
+use Rattle.ldscript_terms.proofs.Common.{IsForm, ap, parts_in, subst, sym, ◌∙◌}
 use Rattle.ldscript_terms.proofs.Patterns.{matches_exact, matches_wild}
 use Rattle.ldscript_terms.proofs.Testing.{match_by_splitting, same_test}
 use Rattle.ldscript_terms.proofs.pattern.matches.Goals as goal

@@ -1,5 +1,4 @@
-use Rattle.std.proofs.Common.{◌≡◌, suc, ◌-◌, subst, arith}
-use Rattle.ldscript_terms.specs.CodeTerms.{expr_of}
+use Rattle.ldscript_terms.proofs.Common.{arith, expr_of, subst, suc, ◌-◌, ◌≡◌}
 use Rattle.ldscript_terms.specs.Reading.{Reads}
 use Rattle.ldscript_terms.specs.Grammar.{Within}
 use Rattle.ldscript_terms.proofs.Readings.{number_reading, dot_reading, name_reading, of_region_reading}

@@ -1,5 +1,4 @@
-use Rattle.std.proofs.Common.{length, ◌+◌, ◌*◌}
-use Rattle.ldscript_terms.specs.CodeTerms.{expr_of}
+use Rattle.ldscript_terms.proofs.Common.{expr_of, length, ◌*◌, ◌+◌}
 use Rattle.ldscript_terms.proofs.Readings.{SoFar}
 use Rattle.ldscript_terms.proofs.reader.+reader.Given as goal
 

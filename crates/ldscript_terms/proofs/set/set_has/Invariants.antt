@@ -1,5 +1,4 @@
-use Rattle.std.proofs.Common.{◌≡◌, length}
-use Rattle.ldscript_terms.specs.Parts.{ranges_of, is_in_any}
+use Rattle.ldscript_terms.proofs.Common.{is_in_any, length, ranges_of, ◌≡◌}
 use Rattle.ldscript_terms.proofs.set.set_has.Given as goal
 
 abbrev pub invariant-loop-range : goal.invariant-loop-range

@@ -1,4 +1,4 @@
-use Rattle.std.proofs.Common.{sym, subst}
+use Rattle.ldscript_terms.proofs.Common.{subst, sym}
 use Rattle.ldscript_terms.proofs.Exact.{IsExactTo, exact_start, exact_step, exact_stop, exact_end}
 use Rattle.ldscript_terms.proofs.word.exact_bytes.Goals as goal
 

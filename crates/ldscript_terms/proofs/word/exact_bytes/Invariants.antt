@@ -1,4 +1,4 @@
-use Rattle.std.proofs.Common.{length}
+use Rattle.ldscript_terms.proofs.Common.{length}
 use Rattle.ldscript_terms.proofs.Exact.{IsExactTo}
 use Rattle.ldscript_terms.proofs.word.exact_bytes.Given as goal
 

@@ -1,6 +1,4 @@
-use Rattle.std.proofs.Common.{sym, subst}
-use Rattle.ldscript_terms.specs.CodeTerms.{part_of}
-use Rattle.ldscript_terms.specs.Trying.{BeginsWith}
+use Rattle.ldscript_terms.proofs.Common.{BeginsWith, part_of, subst, sym}
 use Rattle.ldscript_terms.proofs.Reading.{begins_with, ends_unspelled, some_left}
 use Rattle.ldscript_terms.proofs.word.first_part.Goals as goal
 

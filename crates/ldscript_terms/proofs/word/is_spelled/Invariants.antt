@@ -1,5 +1,4 @@
-use Rattle.std.proofs.Common.{◌↔◌, length}
-use Rattle.ldscript_terms.specs.Trying.{IsSpelled}
+use Rattle.ldscript_terms.proofs.Common.{IsSpelled, length, ◌↔◌}
 use Rattle.ldscript_terms.proofs.word.is_spelled.Given as goal
 
 abbrev pub invariant-loop-more : goal.invariant-loop-more

@@ -1,5 +1,4 @@
-use Rattle.std.proofs.Common.{◌≡◌, ◌+◌, drop}
-use Rattle.std.specs.Option.{option_map}
+use Rattle.ldscript_tokens.proofs.Common.{drop, option_map, ◌+◌, ◌≡◌}
 use Rattle.ldscript_tokens.specs.Tokens.{star_slash}
 use Rattle.ldscript_tokens.proofs.front.star_slash.Given as goal
 

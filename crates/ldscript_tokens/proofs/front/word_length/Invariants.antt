@@ -1,4 +1,4 @@
-use Rattle.std.proofs.Common.{◌≡◌, ◌+◌, ◌-◌, ◌≤◌, drop, length}
+use Rattle.ldscript_tokens.proofs.Common.{drop, length, ◌+◌, ◌-◌, ◌≡◌, ◌≤◌}
 use Rattle.ldscript_tokens.specs.Tokens.{word_length}
 use Rattle.ldscript_tokens.proofs.front.word_length.Given as goal
 

@@ -1,6 +1,4 @@
-use Rattle.std.proofs.Common.{◌≡◌, ◌+◌, ◌++◌, ◌∷◌, [], sym, arith, rules}
-use Rattle.ldscript_tokens.specs.CodeTokens.{token_of}
-use Rattle.ldscript_tokens.specs.Modes.{state_after}
+use Rattle.ldscript_tokens.proofs.Common.{[], arith, rules, state_after, sym, token_of, ◌++◌, ◌+◌, ◌∷◌, ◌≡◌}
 use Rattle.ldscript_tokens.proofs.Cut.{cut_to_end, cut_to_nothing, cut_to_blank, cut_to_found, still_shallow, behind}
 use Rattle.ldscript_tokens.proofs.Cut.{line_ahead}
 use Rattle.ldscript_tokens.proofs.lexer.cut.Goals as goal
@@ -35,8 +33,8 @@ loop-tokens-preserved c =
     let t = c.in-Found.piece in
     let old = c.loop-tokens.tokens.items in
     let b = behind at c.loop-tokens.line t in
-    let pushed : c.push.new.self.items ≡ old ++ b ∷ [] = rw
-    (c.is_err.ensures.negation, c.if-is_err.false, c.behind-token.ensures) at c.push.ensures.items in
+    let pushed : c.push.new.list.items ≡ old ++ b ∷ [] = rw
+    (c.in_default.is, c.behind-token.ensures) at c.push.ensures.items in
     let after : c.after-state.result ≡ state_after c.loop-tokens.state (token_of text b) = rw
     (c.bytes.ensures, c.behind-token.ensures) at c.after-state.ensures.value in
     record {

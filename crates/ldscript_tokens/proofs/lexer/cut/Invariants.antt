@@ -1,8 +1,4 @@
-use Rattle.std.proofs.Common.{◌≡◌, ◌+◌, ◌-◌, ◌≤◌, length, map}
-use Rattle.std.specs.List.{All}
-use Rattle.ldscript_tokens.specs.CodeTokens.{lexeme_of}
-use Rattle.ldscript_tokens.specs.Modes.{line_at}
-use Rattle.ldscript_tokens.specs.CodeTokens.{IsInText, IsShallow}
+use Rattle.ldscript_tokens.proofs.Common.{All, IsInText, IsShallow, length, lexeme_of, line_at, map, ◌+◌, ◌-◌, ◌≡◌, ◌≤◌}
 use Rattle.ldscript_tokens.proofs.Cut.{IsCutTo}
 use Rattle.ldscript_tokens.proofs.lexer.cut.Given as goal
 

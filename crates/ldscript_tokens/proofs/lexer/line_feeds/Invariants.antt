@@ -1,5 +1,4 @@
-use Rattle.std.proofs.Common.{◌≡◌, ◌≤◌, take}
-use Rattle.ldscript_tokens.specs.Modes.{line_feeds}
+use Rattle.ldscript_tokens.proofs.Common.{line_feeds, take, ◌≡◌, ◌≤◌}
 use Rattle.ldscript_tokens.proofs.lexer.line_feeds.Given as goal
 
 abbrev pub invariant-loop-byte : goal.invariant-loop-byte

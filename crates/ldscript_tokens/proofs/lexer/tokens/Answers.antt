@@ -1,4 +1,4 @@
-use Rattle.std.proofs.Common.{arith, inr, refl, ◌≡◌, true, false}
+use Rattle.ldscript_tokens.proofs.Common.{arith, false, inr, refl, true, ◌≡◌}
 use Rattle.ldscript_tokens.proofs.Spellings.{accepted, past_limits}
 use Rattle.ldscript_tokens.proofs.lexer.tokens.Goals as goal
 

@@ -1,4 +1,4 @@
-use Rattle.std.proofs.Common.{arith, ◌∙◌, refl}
+use Rattle.ldscript_tokens.proofs.Common.{arith, refl, ◌∙◌}
 use Rattle.ldscript_tokens.proofs.Runs.{runs_all, runs_not, run_passed, run_over, runs_end}
 use Rattle.ldscript_tokens.proofs.Spellings.{nothing}
 use Rattle.ldscript_tokens.proofs.limits.have_short_runs.Goals as goal

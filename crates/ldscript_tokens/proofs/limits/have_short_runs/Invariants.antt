@@ -1,8 +1,4 @@
-use Rattle.std.proofs.Common.{◌≡◌, ◌≤◌, drop, map}
-use Rattle.ldscript_tokens.specs.CodeTokens.{token_of}
-use Rattle.ldscript_tokens.specs.Modes.{at_start}
-use Rattle.ldscript_tokens.specs.CodeTokens.{IsShallow}
-use Rattle.ldscript_tokens.specs.Limits.{moded}
+use Rattle.ldscript_tokens.proofs.Common.{IsShallow, at_start, drop, map, moded, token_of, ◌≡◌, ◌≤◌}
 use Rattle.ldscript_tokens.proofs.Runs.{runs_from}
 use Rattle.ldscript_tokens.proofs.limits.have_short_runs.Given as goal
 

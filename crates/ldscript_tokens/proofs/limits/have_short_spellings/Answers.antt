@@ -1,9 +1,4 @@
-use Rattle.std.specs.List.{All}
-use Rattle.std.proofs.Common.{subst, refl}
-use Rattle.std.proofs.lemmas.List.{take_all}
-use Rattle.std.proofs.lemmas.List.Elements.{All-map, All-more}
-use Rattle.ldscript_tokens.specs.CodeTokens.{token_of}
-use Rattle.ldscript_tokens.specs.Limits.{HasShortSpelling}
+use Rattle.ldscript_tokens.proofs.Common.{All, All-map, All-more, HasShortSpelling, refl, subst, take_all, token_of}
 use Rattle.ldscript_tokens.proofs.Spellings.{all_map_at, nothing}
 use Rattle.ldscript_tokens.proofs.limits.have_short_spellings.Goals as goal
 

@@ -1,7 +1,4 @@
-use Rattle.std.proofs.Common.{take}
-use Rattle.std.specs.List.{All}
-use Rattle.ldscript_tokens.specs.CodeTokens.{token_of}
-use Rattle.ldscript_tokens.specs.Limits.{HasShortSpelling}
+use Rattle.ldscript_tokens.proofs.Common.{All, HasShortSpelling, take, token_of}
 use Rattle.ldscript_tokens.proofs.limits.have_short_spellings.Given as goal
 
 abbrev pub invariant-loop-token : goal.invariant-loop-token

@@ -1,6 +1,4 @@
-use Rattle.std.proofs.Common.{◌≡◌, take, map, ◌≤◌}
-use Rattle.std.specs.List.{count_by}
-use Rattle.ldscript_tokens.specs.CodeTokens.{token_of}
+use Rattle.ldscript_tokens.proofs.Common.{count_by, map, take, token_of, ◌≡◌, ◌≤◌}
 use Rattle.ldscript_tokens.specs.Limits.{is_open_brace}
 use Rattle.ldscript_tokens.proofs.limits.open_braces.Given as goal
 

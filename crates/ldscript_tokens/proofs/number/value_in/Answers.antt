@@ -1,4 +1,4 @@
-use Rattle.std.proofs.Common.{◌<◌, length, arith}
+use Rattle.ldscript_tokens.proofs.Common.{arith, length, ◌<◌}
 use Rattle.ldscript_tokens.proofs.Digits.{next_digit}
 use Rattle.ldscript_tokens.proofs.number.value_in.Goals as goal
 

@@ -1,5 +1,4 @@
-use Rattle.std.proofs.Common.{◌≡◌, ◌<◌, ◌^◌, drop}
-use Rattle.ldscript_tokens.specs.Numbers.{value_in}
+use Rattle.ldscript_tokens.proofs.Common.{drop, value_in, ◌<◌, ◌^◌, ◌≡◌}
 use Rattle.ldscript_tokens.proofs.Digits.{more_digits}
 use Rattle.ldscript_tokens.proofs.number.value_in.Given as goal
 

@@ -1,5 +1,4 @@
-use Rattle.std.proofs.Common.{◌∙◌, ap, false, not, sym, true}
-use Rattle.std.specs.Option.{option_map}
+use Rattle.place.proofs.Common.{ap, false, not, option_map, sym, true, ◌∙◌}
 use Rattle.gather.specs.declared.input_section_table.SectionNumber.{SectionNumber}
 use Rattle.place.proofs.Column.{first_added, later_added, none_added, none_is}
 use Rattle.place.proofs.address_column.add_entry.Goals as goal

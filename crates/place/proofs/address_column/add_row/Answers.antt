@@ -1,10 +1,8 @@
-use Rattle.std.proofs.Common.{rules, ◌≡◌, ◌++◌, ◌∷◌, [], ◌∙◌, drop, length, subst, sym}
-use Rattle.std.proofs.lemmas.List.{length-append}
+use Rattle.place.proofs.Common.{AddsEntries, [], drop, entry_of, length, length-append, row_entries, rules, subst, sym}
+use Rattle.place.proofs.Common.{◌++◌, ◌∙◌, ◌∷◌, ◌≡◌}
 use Rattle.std.proofs.lemmas.Slice.Zip.{zip_end, zip_turn}
 use Rattle.std.specs.Iterator.Adapters.{zip_first, zip_second}
 use Rattle.std.specs.Slice.Iter.{iter_rest}
-use Rattle.place.specs.Columns.{AddsEntries}
-use Rattle.place.specs.Entries.{entry_of, row_entries}
 use Rattle.place.proofs.Collecting.{row_more, row_whole}
 use Rattle.place.proofs.Column.{added_both}
 use Rattle.place.proofs.address_column.add_row.Goals as goal

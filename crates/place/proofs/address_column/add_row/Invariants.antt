@@ -1,6 +1,5 @@
 -- Some of the entries of the row have been added.
-use Rattle.std.proofs.Common.{◌≡◌, drop, length}
-use Rattle.place.specs.Entries.{row_entries}
+use Rattle.place.proofs.Common.{drop, length, row_entries, ◌≡◌}
 use Rattle.place.proofs.Column.{Added}
 use Rattle.place.proofs.address_column.add_row.Given as goal
 

@@ -1,6 +1,5 @@
-use Rattle.std.proofs.Common.{rules, ◌≡◌, ◌+◌, ◌++◌, ◌∙◌, ap, drop, length, min, subst, sym}
-use Rattle.place.specs.Columns.{IsColumn}
-use Rattle.place.specs.Entries.{all_entries, row_entries}
+use Rattle.place.proofs.Common.{IsColumn, all_entries, ap, drop, length, min, row_entries, rules, subst, sym, ◌++◌, ◌+◌}
+use Rattle.place.proofs.Common.{◌∙◌, ◌≡◌}
 use Rattle.place.proofs.Collecting.{rows_more}
 use Rattle.place.proofs.address_column.address_column.Goals as goal
 

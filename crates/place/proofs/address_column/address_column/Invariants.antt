@@ -1,6 +1,5 @@
 -- The column of the rows so far.
-use Rattle.std.proofs.Common.{drop}
-use Rattle.place.specs.Entries.{all_entries}
+use Rattle.place.proofs.Common.{all_entries, drop}
 use Rattle.place.proofs.Column.{ColumnOf}
 use Rattle.place.proofs.address_column.address_column.Given as goal
 

@@ -1,8 +1,5 @@
 -- One step a section; in the end all of them are in groups.
-use Rattle.std.proofs.Common.{[], None, sym, subst}
-use Rattle.std.specs.List.{AllZip}
-use Rattle.ldmodel.specs.Segments.{groups, nonempty}
-use Rattle.place.specs.Grouping.{Grouped, IsGroup}
+use Rattle.place.proofs.Common.{AllZip, Grouped, IsGroup, None, [], groups, nonempty, subst, sym}
 use Rattle.place.proofs.Steps.{at_end, last_left, none_left, starts, take_at}
 use Rattle.place.proofs.group.groups.Goals as goal
 

@@ -1,8 +1,5 @@
 -- The output sections so far are in groups.
-use Rattle.std.proofs.Common.{◌≡◌, List, map, drop}
-use Rattle.ldmodel.specs.Layout.{PlacedOutput}
-use Rattle.ldmodel.specs.PlacementView.{placed_of}
-use Rattle.place.specs.Grouping.{Grouped}
+use Rattle.place.proofs.Common.{Grouped, List, PlacedOutput, drop, map, placed_of, ◌≡◌}
 use Rattle.place.proofs.group.groups.Given as goal
 
 abbrev pub invariant-loop-number : goal.invariant-loop-number

@@ -1,5 +1,5 @@
 -- The parts of the image's tail, one after another.
-use Rattle.std.proofs.Common.{◌∙◌}
+use Rattle.place.proofs.Common.{◌∙◌}
 use Rattle.place.proofs.Tail.{follow_all, loaded_is, sum_is}
 use Rattle.place.proofs.length.image_length.Goals as goal
 

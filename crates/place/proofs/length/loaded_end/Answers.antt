@@ -1,5 +1,5 @@
 -- One segment a step.
-use Rattle.std.proofs.Common.{◌∙◌, arith, ap, length}
+use Rattle.place.proofs.Common.{ap, arith, length, ◌∙◌}
 use Rattle.ldmodel.specs.Segments.{headers_end}
 use Rattle.place.proofs.FileOffsets.{reached_all, reached_more, reached_near, reached_none, room}
 use Rattle.place.proofs.length.loaded_end.Goals as goal

@@ -1,7 +1,6 @@
 -- Of segments that follow one another, the first ones end here.
-use Rattle.std.proofs.Common.{drop, length}
+use Rattle.place.proofs.Common.{Follow, drop, length}
 use Rattle.ldmodel.specs.Segments.{headers_end}
-use Rattle.place.specs.Placing.{Follow}
 use Rattle.place.proofs.FileOffsets.{Reached}
 use Rattle.place.proofs.length.loaded_end.Given as goal
 

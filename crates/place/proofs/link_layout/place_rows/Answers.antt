@@ -1,5 +1,4 @@
-use Rattle.std.proofs.Common.{◌≡◌, ◌∙◌, ap, List}
-use Rattle.ldmodel.specs.Names.{provided}
+use Rattle.place.proofs.Common.{List, ap, provided, ◌∙◌, ◌≡◌}
 use Rattle.ldscript.specs.statements.declared.statement.Statement.{Statement}
 use Rattle.place_terms.specs.ProvidedTable.{provided_names}
 use Rattle.place.proofs.Layouts.{places_of_project, why_of_project}

@@ -1,5 +1,4 @@
-use Rattle.ldmodel.specs.NameFaults.{object_name}
-use Rattle.ldmodel_project.specs.ByPlace.{name_of_section}
+use Rattle.place.proofs.Common.{name_of_section, object_name}
 use Rattle.place.proofs.link_layout.place_rows.Given as goal
 
 abbrev pub ghost-place : goal.ghost-place

@@ -1,13 +1,6 @@
-use Rattle.std.proofs.Common.{◌≡◌, ◌==◌, add-one, arith, false, subst, sym, take}
-use Rattle.std.proofs.lemmas.List.{take_all}
-use Rattle.elfobj.specs.Sections.{LinkedSection}
-use Rattle.ldmodel_laws.specs.Spread.{EachLater}
-use Rattle.ldmodel.specs.Each.{Each}
-use Rattle.ldmodel.specs.Project.{NamedObject}
-use Rattle.ldmodel_project.specs.Inputs.{shown_input}
-use Rattle.ldmodel_project.specs.declared.input.InputObject.{InputObject}
+use Rattle.place.proofs.Common.{Each, EachLater, InputObject, LinkedSection, NamedObject, add-one, arith, each_into_map}
+use Rattle.place.proofs.Common.{false, shown_input, subst, sym, take, take_all, ◌==◌, ◌≡◌}
 use Rattle.place.proofs.Ascending.{each_more}
-use Rattle.ldmodel_laws.proofs.EachOf.{each_into_map}
 use Rattle.place.proofs.numbered.are_numbered.Goals as goal
 
 abbrev HasNumbers : NamedObject → Type 0

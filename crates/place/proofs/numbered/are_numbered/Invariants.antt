@@ -1,8 +1,4 @@
-use Rattle.std.proofs.Common.{take, ◌≡◌, false, ◌==◌}
-use Rattle.elfobj.specs.Sections.{LinkedSection}
-use Rattle.ldmodel_laws.specs.Spread.{EachLater}
-use Rattle.ldmodel.specs.Each.{Each}
-use Rattle.ldmodel_project.specs.declared.input.InputObject.{InputObject}
+use Rattle.place.proofs.Common.{Each, EachLater, InputObject, LinkedSection, false, take, ◌==◌, ◌≡◌}
 use Rattle.place.proofs.numbered.are_numbered.Given as goal
 
 -- the sections of the objects so far have different numbers

@@ -1,6 +1,4 @@
-use Rattle.std.proofs.Common.{◌<◌, subst}
-use Rattle.std.specs.List.{AllPairs}
-use Rattle.elfobj.specs.declared.section.Section.{Section}
+use Rattle.place.proofs.Common.{AllPairs, Section, subst, ◌<◌}
 use Rattle.place.proofs.Ascending.{numbers_differ}
 use Rattle.place.proofs.numbered.sections_differ.Goals as goal
 

@@ -1,6 +1,5 @@
 -- What is found so far, and what the rest gives, are all.
-use Rattle.std.proofs.Common.{◌≡◌, ◌++◌, drop}
-use Rattle.place.specs.Offsets.{offsets_in}
+use Rattle.place.proofs.Common.{drop, offsets_in, ◌++◌, ◌≡◌}
 use Rattle.place.proofs.offsets.offsets.Given as goal
 
 abbrev pub invariant-loop-section : goal.invariant-loop-section

@@ -1,9 +1,6 @@
 -- One group a step; in the end each has its place.
-use Rattle.std.proofs.Common.{◌+◌, ◌≤◌, arith, sym, ap, subst, drop, length}
-use Rattle.std.specs.List.{AllZip}
-use Rattle.ldmodel.specs.PlacementView.{AreSegments}
-use Rattle.ldmodel.specs.Segments.{groups, nonempty, segments}
-use Rattle.place.specs.Grouping.{IsGroup}
+use Rattle.place.proofs.Common.{AllZip, AreSegments, IsGroup, ap, arith, drop, groups, length, nonempty, segments}
+use Rattle.place.proofs.Common.{subst, sym, ◌+◌, ◌≤◌}
 use Rattle.place.proofs.FileOffsets.{congruent_near, Placing, placing_all, placing_more, placing_none, room}
 use Rattle.place.proofs.FileOffsets.{segments_are}
 use Rattle.place.proofs.segments.segments.Goals as goal

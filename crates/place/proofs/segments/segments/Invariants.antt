@@ -1,5 +1,5 @@
 -- The groups so far have their places, and the file is not long.
-use Rattle.std.proofs.Common.{drop}
+use Rattle.place.proofs.Common.{drop}
 use Rattle.place.proofs.FileOffsets.{Placing}
 use Rattle.place.proofs.segments.segments.Given as goal
 

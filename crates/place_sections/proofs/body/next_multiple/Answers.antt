@@ -1,4 +1,4 @@
-use Rattle.std.proofs.Common.{◌<◌, ◌^◌, ℕ, SomeIff, arith, sym, subst}
+use Rattle.place_sections.proofs.Common.{SomeIff, arith, subst, sym, ℕ, ◌<◌, ◌^◌}
 use Rattle.place_sections.proofs.Multiples.{next_is}
 use Rattle.place_sections.proofs.body.next_multiple.Goals as goal
 

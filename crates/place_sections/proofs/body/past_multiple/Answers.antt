@@ -1,6 +1,5 @@
-use Rattle.std.proofs.Common.{◌∙◌, sym}
+use Rattle.place_sections.proofs.Common.{one_shl, sym, ◌∙◌}
 use Rattle.std.specs.Int.{trailing_zeros, w64}
-use Rattle.std.proofs.lemmas.Nat.{one_shl}
 use Rattle.place_sections.proofs.Multiples.{below_power}
 use Rattle.place_sections.proofs.body.past_multiple.Goals as goal
 

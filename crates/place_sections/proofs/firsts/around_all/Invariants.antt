@@ -1,7 +1,5 @@
 -- Around those so far.
-use Rattle.std.proofs.Common.{ℕ, ◌<◌, get_or}
-use Rattle.place_sections.specs.Hulls.{Around}
-use Rattle.place_sections.specs.declared.extent.Extent.{Extent}
+use Rattle.place_sections.proofs.Common.{Around, Extent, get_or, ℕ, ◌<◌}
 use Rattle.place_sections.proofs.firsts.around_all.Given as goal
 
 abbrev pub invariant-loop-extent : goal.invariant-loop-extent

@@ -1,6 +1,5 @@
 -- One number a step.
-use Rattle.std.proofs.Common.{◌∙◌}
-use Rattle.std.proofs.lemmas.List.{length-set}
+use Rattle.place_sections.proofs.Common.{length-set, ◌∙◌}
 use Rattle.place_sections.proofs.Ranking.{each_more, each_number}
 use Rattle.place_sections.proofs.firsts.by_number.Goals as goal
 

@@ -1,5 +1,5 @@
 -- One range a step.
-use Rattle.std.proofs.Common.{◌∙◌}
+use Rattle.place_sections.proofs.Common.{◌∙◌}
 use Rattle.place_sections.proofs.Ranking.{first_more}
 use Rattle.place_sections.proofs.firsts.mark_all.Goals as goal
 

@@ -1,7 +1,6 @@
 -- The first of those so far.
-use Rattle.std.proofs.Common.{◌≡◌, ◌*◌, length, take}
+use Rattle.place_sections.proofs.Common.{Kept, length, take, ◌*◌, ◌≡◌}
 use Rattle.place_sections.specs.Firsts.{AreFirst}
-use Rattle.place_sections.specs.Hulls.{Kept}
 use Rattle.place_sections.proofs.firsts.mark_all.Given as goal
 
 abbrev pub invariant-loop-k : goal.invariant-loop-k

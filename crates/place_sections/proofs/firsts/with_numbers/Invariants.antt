@@ -1,7 +1,5 @@
 -- Those so far.
-use Rattle.std.proofs.Common.{◌≡◌, ℕ, ◌<◌, length, get_or}
-use Rattle.place_sections.specs.declared.extent.Extent.{Extent}
-use Rattle.place_sections.specs.declared.firsts.Numbered.{Numbered}
+use Rattle.place_sections.proofs.Common.{Extent, Numbered, get_or, length, ℕ, ◌<◌, ◌≡◌}
 use Rattle.place_sections.proofs.firsts.with_numbers.Given as goal
 
 abbrev pub invariant-loop-number : goal.invariant-loop-number

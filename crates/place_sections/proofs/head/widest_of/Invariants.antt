@@ -1,6 +1,4 @@
-use Rattle.std.proofs.Common.{◌≡◌, ◌<◌, drop}
-use Rattle.ldmodel.specs.Placement.{widest}
-use Rattle.place_terms.specs.Naming.{row_named}
+use Rattle.place_sections.proofs.Common.{drop, row_named, widest, ◌<◌, ◌≡◌}
 use Rattle.place_sections.proofs.head.widest_of.Given as goal
 
 abbrev pub invariant-loop-piece : goal.invariant-loop-piece

@@ -1,16 +1,15 @@
 -- A node, and what is below it.
-use Rattle.std.proofs.Common.{◌∙◌, ◌-◌, sym, arith, length}
-use Rattle.place_sections.specs.Hulls.{same}
+use Rattle.place_sections.proofs.Common.{arith, length, same, sym, ◌-◌, ◌∙◌}
 use Rattle.place_sections.proofs.Hulls.{kept_joined, marked_join, missed_all, missed_join, missed_leaf}
 use Rattle.place_sections.proofs.hull.+mark_overlapping.Goals as goal
 
-pub returns-then-not-may_meet-clause-marked : goal.returns-then-not-may_meet-clause-marked
-returns-then-not-may_meet-clause-marked t c j d within = same _
+pub returns-then-not-may_overlap-clause-marked : goal.returns-then-not-may_overlap-clause-marked
+returns-then-not-may_overlap-clause-marked t c j d within = same _
 
-pub returns-then-not-may_meet-clause-missed : goal.returns-then-not-may_meet-clause-missed
-returns-then-not-may_meet-clause-missed t c =
+pub returns-then-not-may_overlap-clause-missed : goal.returns-then-not-may_overlap-clause-missed
+returns-then-not-may_overlap-clause-missed t c =
     missed_all c.args.extents.now c.args.nodes.now c.args.firsts.now c.args.node _ c.args.extent.now c.requires.lengths
-    c.requires.positive c.requires.kept (sym c.may_meet.ensures ∙ c.if-not-may_meet.true)
+    c.requires.positive c.requires.kept (sym c.may_overlap.ensures ∙ c.if-not-may_overlap.true)
 
 pub returns-then-node-extents-clause-missed : goal.returns-then-node-extents-clause-missed
 returns-then-node-extents-clause-missed t c =

@@ -1,5 +1,5 @@
 -- A node's children come after it.
-use Rattle.std.proofs.Common.{◌-◌, length}
+use Rattle.place_sections.proofs.Common.{length, ◌-◌}
 use Rattle.place_sections.proofs.hull.+mark_overlapping.Given as goal
 
 abbrev pub decreases-mark_overlapping : goal.decreases-mark_overlapping

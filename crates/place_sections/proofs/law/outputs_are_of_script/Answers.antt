@@ -1,5 +1,5 @@
 -- The law is `outputs_are`.
-use Rattle.place_sections.proofs.MeetingOutputs.{outputs_are}
+use Rattle.place_sections.proofs.OutputsInOrder.{outputs_are}
 use Rattle.place_sections.proofs.law.outputs_are_of_script.Goals as goal
 
 pub returns : goal.returns

@@ -1,10 +1,8 @@
 -- One output section a step.
-use Rattle.std.proofs.Common.{ap, arith, false, sym, ◌≡◌, ◌∙◌, get_or}
-use Rattle.std.proofs.lemmas.List.{get_or-map, length-map}
-use Rattle.ldmodel.specs.declared.placed.Placed.{Placed}
+use Rattle.place_sections.proofs.Common.{Extent, Placed, ap, arith, extent_in, extents_in, false, get_or, length-map}
+use Rattle.place_sections.proofs.Common.{sym, ◌∙◌, ◌≡◌}
+use Rattle.std.proofs.lemmas.List.{get_or-map}
 use Rattle.place_sections.proofs.Covering.{ascends_over_empty, ascends_over_one}
-use Rattle.place_sections.specs.Found.{extent_in, extents_in}
-use Rattle.place_sections.specs.declared.extent.Extent.{Extent}
 use Rattle.place_sections.proofs.overlaps.are_in_order.Goals as goal
 
 abbrev nowhere : Placed

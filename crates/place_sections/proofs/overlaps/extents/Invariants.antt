@@ -1,6 +1,5 @@
 -- Those of the sections so far.
-use Rattle.std.proofs.Common.{◌≡◌, take}
-use Rattle.place_sections.specs.Found.{extents_in}
+use Rattle.place_sections.proofs.Common.{extents_in, take, ◌≡◌}
 use Rattle.place_sections.proofs.overlaps.extents.Given as goal
 
 abbrev pub invariant-loop-section : goal.invariant-loop-section

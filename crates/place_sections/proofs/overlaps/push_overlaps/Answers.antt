@@ -1,10 +1,8 @@
--- Where the ranges ascend, in the order of the script or in that of their addresses, no two meet.
-use Rattle.std.proofs.Common.{◌∙◌, ◌++◌, ◌≤◌, ℕ, sym, ap, subst, IsPermutation}
-use Rattle.std.proofs.lemmas.List.{append-nil}
+-- Where the ranges ascend, in the order of the script or in that of their addresses, no two overlap.
+use Rattle.place_sections.proofs.Common.{ap, append-nil, cover, extents_in, subst, sym, ℕ, ◌++◌, ◌∙◌, ◌≤◌}
+use Rattle.std.proofs.Common.{IsPermutation}
 use Rattle.std.proofs.lemmas.List.Sorted.{IsPermutation-refl}
-use Rattle.place_sections.specs.Extents.{cover}
-use Rattle.place_sections.specs.Found.{extents_in}
-use Rattle.place_sections.proofs.Apart.{apart_in_order}
+use Rattle.place_sections.proofs.DisjointRanges.{apart_in_order}
 use Rattle.place_sections.proofs.overlaps.push_overlaps.Goals as goal
 
 pub returns-then-are_in_order : goal.returns-then-are_in_order

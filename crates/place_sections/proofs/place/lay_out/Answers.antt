@@ -1,20 +1,12 @@
-use Rattle.std.proofs.Common.{ℕ, List, map, sym, ap, ◌∙◌, inl, inr, refl, subst, arith}
-use Rattle.ldscript.specs.statements.declared.statement.Statement.{Statement}
-use Rattle.ldmodel.specs.Chain.{run}
-use Rattle.ldscript.specs.Script.{IsSound}
-use Rattle.ldmodel.specs.Placement.{statement_step}
-use Rattle.place_terms.specs.Keyed.{KeyedSection}
-use Rattle.place_terms.specs.Naming.{rows_named}
-use Rattle.place_terms.specs.ProvidedTable.{provided_names}
+use Rattle.place_sections.proofs.Common.{IsSound, KeyedSection, List, PlacedOutputs, Statement, ap, arith, entries, inl}
+use Rattle.place_sections.proofs.Common.{inr, layout_of, map, placed_from, provided_names, refl, rows_named, run}
+use Rattle.place_sections.proofs.Common.{statement_step, subst, sym, ℕ, ◌∙◌}
 use Rattle.place_sections.proofs.Counting.{along_same, first_is, raises_exactly}
 use Rattle.place_sections.proofs.Wholes.{counts_whole}
-use Rattle.place_sections.proofs.Good.{begins, nothing_there, stops_at}
+use Rattle.place_sections.proofs.NoOverlaps.{begins, nothing_there, stops_at}
 use Rattle.place_sections.proofs.Keeping.{kept_alongside, kept_earlier}
 use Rattle.place_sections.proofs.Options.{by_option, for_some}
 use Rattle.place_sections.proofs.place.lay_out.Goals as goal
-use Rattle.place_sections.specs.Counted.{entries, placed_from}
-use Rattle.place_sections.specs.State.{layout_of}
-use Rattle.place_sections.specs.declared.state.PlacedOutputs.{PlacedOutputs}
 
 pub returns-clause-faulty : goal.returns-clause-faulty
 returns-clause-faulty g c =

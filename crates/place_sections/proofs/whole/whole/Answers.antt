@@ -1,7 +1,6 @@
-use Rattle.std.proofs.Common.{subst, sym, ◌∙◌}
+use Rattle.place_sections.proofs.Common.{Ends, subst, sym, ◌∙◌}
 use Rattle.place_sections.proofs.Wholes.{ends_whole}
 use Rattle.place_sections.proofs.whole.whole.Goals as goal
-use Rattle.place_sections.specs.Places.{Ends}
 
 pub invariant_of-result : goal.invariant_of-result
 invariant_of-result g c =

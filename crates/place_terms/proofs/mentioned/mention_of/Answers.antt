@@ -1,8 +1,6 @@
 -- The first of these names.
-use Rattle.std.proofs.Common.{◌∙◌, sym, ap, ◌^◌, slice_get, arith, inl, inr}
-use Rattle.std.proofs.lemmas.Bool.{cases_lt}
-use Rattle.place_terms.specs.Mentions.{shown_names}
-use Rattle.place_terms.proofs.Shown.{found_at, none_more, stands_past, stands_nowhere}
+use Rattle.place_terms.proofs.Common.{ap, arith, cases_lt, inl, inr, shown_names, slice_get, sym, ◌^◌, ◌∙◌}
+use Rattle.place_terms.proofs.NamesInList.{found_at, none_more, stands_past, stands_nowhere}
 use Rattle.place_terms.proofs.mentioned.mention_of.Goals as goal
 
 pub returns-in-Ok-clause-found : goal.returns-in-Ok-clause-found

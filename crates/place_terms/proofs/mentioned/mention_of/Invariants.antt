@@ -1,6 +1,5 @@
 -- None of the names before is this one.
-use Rattle.std.proofs.Common.{◌≡◌, ℕ, ◌<◌, Some, slice_get}
-use Rattle.place_terms.specs.Mentions.{shown_names}
+use Rattle.place_terms.proofs.Common.{Some, shown_names, slice_get, ℕ, ◌<◌, ◌≡◌}
 use Rattle.place_terms.proofs.mentioned.mention_of.Given as goal
 
 abbrev pub invariant-loop-k : goal.invariant-loop-k

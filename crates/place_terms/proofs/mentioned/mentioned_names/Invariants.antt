@@ -1,6 +1,5 @@
 -- What is listed, with what is still to be listed, is all.
-use Rattle.std.proofs.Common.{◌≡◌, ◌++◌, drop}
-use Rattle.place_terms.specs.Mentions.{shown_names}
+use Rattle.place_terms.proofs.Common.{drop, shown_names, ◌++◌, ◌≡◌}
 use Rattle.ldmodel.specs.Mentioned.{mentioned_names}
 use Rattle.place_terms.proofs.mentioned.mentioned_names.Given as goal
 

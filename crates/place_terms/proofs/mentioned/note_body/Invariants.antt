@@ -1,6 +1,5 @@
 -- What is listed, with what is still to be listed, is all.
-use Rattle.std.proofs.Common.{◌≡◌, ◌++◌, drop}
-use Rattle.place_terms.specs.Mentions.{in_body, shown_names}
+use Rattle.place_terms.proofs.Common.{drop, in_body, shown_names, ◌++◌, ◌≡◌}
 use Rattle.place_terms.proofs.mentioned.note_body.Given as goal
 
 abbrev pub invariant-loop-statement : goal.invariant-loop-statement

@@ -1,6 +1,5 @@
 -- What is listed, with what is still to be listed, is all.
-use Rattle.std.proofs.Common.{◌≡◌, ◌++◌, drop}
-use Rattle.place_terms.specs.Mentions.{in_items, shown_names}
+use Rattle.place_terms.proofs.Common.{drop, in_items, shown_names, ◌++◌, ◌≡◌}
 use Rattle.place_terms.proofs.mentioned.note_items.Given as goal
 
 abbrev pub invariant-loop-item : goal.invariant-loop-item

@@ -1,6 +1,5 @@
 -- What is listed, with what is still to be listed, is all.
-use Rattle.std.proofs.Common.{◌≡◌, ◌++◌, drop}
-use Rattle.place_terms.specs.Mentions.{in_regions, shown_names}
+use Rattle.place_terms.proofs.Common.{drop, in_regions, shown_names, ◌++◌, ◌≡◌}
 use Rattle.place_terms.proofs.mentioned.note_regions.Given as goal
 
 abbrev pub invariant-loop-region : goal.invariant-loop-region

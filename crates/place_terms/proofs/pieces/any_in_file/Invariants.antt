@@ -1,8 +1,4 @@
-use Rattle.std.proofs.Common.{◌≡◌, drop, map}
-use Rattle.std.specs.List.{list_any}
-use Rattle.ldmodel.specs.Placement.{is_in_file}
-use Rattle.place_terms.specs.Keyed.{piece_at}
-use Rattle.place_terms.specs.SectionTable.{keyed_piece}
+use Rattle.place_terms.proofs.Common.{drop, is_in_file, keyed_piece, list_any, map, piece_at, ◌≡◌}
 use Rattle.place_terms.proofs.pieces.any_in_file.Given as goal
 
 abbrev pub ghost-is_in_file : goal.ghost-is_in_file

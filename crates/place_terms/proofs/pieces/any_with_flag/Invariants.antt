@@ -1,10 +1,5 @@
-use Rattle.std.proofs.Common.{◌≡◌, ◌==◌, ◌&&◌, not, drop, map}
-use Rattle.std.specs.Prelude.{bit_and}
-use Rattle.std.specs.List.{list_any}
-use Rattle.ldmodel.specs.Layout.{PlacedPiece}
-use Rattle.ldmodel.specs.Placement.{is_empty}
-use Rattle.place_terms.specs.Keyed.{piece_at}
-use Rattle.place_terms.specs.SectionTable.{keyed_piece}
+use Rattle.place_terms.proofs.Common.{PlacedPiece, bit_and, drop, is_empty, keyed_piece, list_any, map, not, piece_at}
+use Rattle.place_terms.proofs.Common.{◌&&◌, ◌==◌, ◌≡◌}
 use Rattle.place_terms.proofs.pieces.any_with_flag.Given as goal
 
 abbrev pub invariant-loop-at : goal.invariant-loop-at

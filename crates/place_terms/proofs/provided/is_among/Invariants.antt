@@ -1,6 +1,4 @@
-use Rattle.std.proofs.Common.{◌≡◌, drop, bytes_eq}
-use Rattle.std.specs.List.{list_any}
-use Rattle.place_terms.specs.Mentions.{shown_names}
+use Rattle.place_terms.proofs.Common.{bytes_eq, drop, list_any, shown_names, ◌≡◌}
 use Rattle.place_terms.proofs.provided.is_among.Given as goal
 
 abbrev pub invariant-loop-other : goal.invariant-loop-other

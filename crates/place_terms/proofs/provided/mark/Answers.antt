@@ -1,4 +1,4 @@
-use Rattle.std.proofs.Common.{arith, length, ◌≤◌, ◌<◌, sym}
+use Rattle.place_terms.proofs.Common.{arith, length, sym, ◌<◌, ◌≤◌}
 use Rattle.place_terms.proofs.Marking.{marks_there, marks_past, marks_unknown}
 use Rattle.place_terms.proofs.provided.mark.Goals as goal
 

@@ -1,6 +1,4 @@
-use Rattle.std.proofs.Common.{◌≡◌, drop, map}
-use Rattle.ldmodel.specs.Layout.{region_named}
-use Rattle.place_terms.specs.RegionTable.{region_of}
+use Rattle.place_terms.proofs.Common.{drop, map, region_named, region_of, ◌≡◌}
 use Rattle.place_terms.proofs.regions.find_region.Given as goal
 
 abbrev pub invariant-loop-region : goal.invariant-loop-region

@@ -1,6 +1,4 @@
-use Rattle.std.proofs.Common.{◌≡◌, ◌++◌, Some, drop, map, take}
-use Rattle.ldmodel.specs.Placement.{freed_from}
-use Rattle.place_terms.specs.RegionTable.{region_of}
+use Rattle.place_terms.proofs.Common.{Some, drop, freed_from, map, region_of, take, ◌++◌, ◌≡◌}
 use Rattle.place_terms.proofs.regions.free_all.Given as goal
 
 abbrev pub invariant-loop-region : goal.invariant-loop-region

@@ -1,5 +1,4 @@
-use Rattle.std.proofs.Common.{arith, length, refl, sym}
-use Rattle.std.proofs.lemmas.Option.{slice_get_read}
+use Rattle.place_terms.proofs.Common.{arith, length, refl, slice_get_read, sym}
 use Rattle.place_terms.proofs.Found.{region_past, region_there}
 use Rattle.place_terms.proofs.regions.numbered.Goals as goal
 

@@ -1,8 +1,5 @@
-use Rattle.std.proofs.Common.{sym, ap, ◌∙◌, map, Some, if◌then◌else◌}
-use Rattle.ldmodel.specs.Arithmetic.{minus_modulo}
-use Rattle.ldmodel.specs.Placement.{same_region}
+use Rattle.place_terms.proofs.Common.{Some, ap, if◌then◌else◌, keyed_taken, map, minus_modulo, same_region, sym, ◌∙◌}
 use Rattle.place_terms.proofs.FoundSections.{difference_none, placed_next, taken_next}
-use Rattle.place_terms.specs.SectionTable.{keyed_taken}
 use Rattle.place_terms.proofs.sections.last_difference.Goals as goal
 
 pub loop-section-init : goal.loop-section-init

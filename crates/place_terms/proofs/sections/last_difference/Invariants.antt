@@ -1,5 +1,5 @@
-use Rattle.std.proofs.Common.{◌≡◌, ◌++◌, map, take, Some}
-use Rattle.place_terms.specs.SectionTable.{difference_by, keyed, keyed_taken}
+use Rattle.place_terms.proofs.Common.{Some, keyed, keyed_taken, map, take, ◌++◌, ◌≡◌}
+use Rattle.place_terms.specs.SectionTable.{difference_by}
 use Rattle.place_terms.proofs.sections.last_difference.Given as goal
 
 abbrev pub invariant-loop-section : goal.invariant-loop-section

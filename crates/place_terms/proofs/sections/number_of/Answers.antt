@@ -1,6 +1,4 @@
-use Rattle.std.proofs.Common.{◌∙◌, ap, bytes_eq, length, refl, sym}
-use Rattle.std.proofs.lemmas.Option.{slice_get_read}
-use Rattle.ldscript.specs.statements.Given.{section_number}
+use Rattle.place_terms.proofs.Common.{ap, bytes_eq, length, refl, section_number, slice_get_read, sym, ◌∙◌}
 use Rattle.place_terms.proofs.FoundSections.{guessed_right}
 use Rattle.place_terms.proofs.Lists.{same_name}
 use Rattle.place_terms.proofs.sections.number_of.Goals as goal

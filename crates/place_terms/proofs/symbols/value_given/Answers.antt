@@ -1,6 +1,5 @@
-use Rattle.std.proofs.Common.{length, refl, rules, sym}
+use Rattle.place_terms.proofs.Common.{length, refl, rules, slice_get_read, sym}
 use Rattle.std.proofs.lemmas.List.Sorted.{answers_always}
-use Rattle.std.proofs.lemmas.Option.{slice_get_read}
 use Rattle.ldmodel.specs.declared.script_symbol.ScriptSymbol.{ScriptSymbol}
 use Rattle.place_terms.proofs.InTurn.{found_at, found_here, none_at}
 use Rattle.place_terms.proofs.symbols.value_given.Goals as goal

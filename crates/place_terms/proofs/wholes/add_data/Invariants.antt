@@ -1,6 +1,4 @@
-use Rattle.std.proofs.Common.{◌≡◌, ◌++◌, drop, map}
-use Rattle.ldmodel.specs.PlacementView.{data_of}
-use Rattle.place_terms.specs.Wholes.{data_in}
+use Rattle.place_terms.proofs.Common.{data_in, data_of, drop, map, ◌++◌, ◌≡◌}
 use Rattle.place_terms.proofs.wholes.add_data.Given as goal
 
 abbrev pub invariant-loop-at : goal.invariant-loop-at

@@ -1,6 +1,4 @@
-use Rattle.std.proofs.Common.{◌≡◌, ◌++◌, drop, map}
-use Rattle.place_terms.specs.Keyed.{KeyedPiece}
-use Rattle.place_terms.specs.SectionTable.{keyed_piece}
+use Rattle.place_terms.proofs.Common.{KeyedPiece, drop, keyed_piece, map, ◌++◌, ◌≡◌}
 use Rattle.place_terms.proofs.wholes.add_starts.Given as goal
 
 abbrev pub invariant-loop-at : goal.invariant-loop-at

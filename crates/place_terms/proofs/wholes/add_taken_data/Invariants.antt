@@ -1,7 +1,4 @@
-use Rattle.std.proofs.Common.{◌≡◌, ◌++◌, drop, map}
-use Rattle.ldmodel.specs.PlacementView.{data_of}
-use Rattle.place_terms.specs.Keyed.{data_at_of}
-use Rattle.place_terms.specs.Wholes.{data_in}
+use Rattle.place_terms.proofs.Common.{data_at_of, data_in, data_of, drop, map, ◌++◌, ◌≡◌}
 use Rattle.place_terms.proofs.wholes.add_taken_data.Given as goal
 
 abbrev pub invariant-loop-at : goal.invariant-loop-at

@@ -1,6 +1,4 @@
-use Rattle.std.proofs.Common.{◌≡◌, ◌++◌, drop, map}
-use Rattle.place_terms.specs.SectionTable.{keyed}
-use Rattle.place_terms.specs.Wholes.{counts_in}
+use Rattle.place_terms.proofs.Common.{counts_in, drop, keyed, map, ◌++◌, ◌≡◌}
 use Rattle.place_terms.proofs.wholes.counts_of.Given as goal
 
 abbrev pub invariant-loop-section : goal.invariant-loop-section

@@ -1,7 +1,4 @@
-use Rattle.std.proofs.Common.{◌≡◌, ◌+◌, ◌++◌, drop, length, map}
-use Rattle.ldmodel.specs.PlacementView.{data_of}
-use Rattle.place_terms.specs.SectionTable.{both, keyed}
-use Rattle.place_terms.specs.Wholes.{all_data_in}
+use Rattle.place_terms.proofs.Common.{all_data_in, both, data_of, drop, keyed, length, map, ◌++◌, ◌+◌, ◌≡◌}
 use Rattle.place_terms.proofs.wholes.data_commands_of.Given as goal
 
 abbrev pub invariant-loop-section : goal.invariant-loop-section

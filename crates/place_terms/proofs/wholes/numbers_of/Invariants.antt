@@ -1,6 +1,4 @@
-use Rattle.std.proofs.Common.{◌≡◌, ◌++◌, drop, map}
-use Rattle.place_terms.specs.SectionTable.{keyed}
-use Rattle.place_terms.specs.Wholes.{placed_in}
+use Rattle.place_terms.proofs.Common.{drop, keyed, map, placed_in, ◌++◌, ◌≡◌}
 use Rattle.place_terms.proofs.wholes.numbers_of.Given as goal
 
 abbrev pub invariant-loop-section : goal.invariant-loop-section

@@ -1,6 +1,5 @@
-use Rattle.std.proofs.Common.{◌≡◌, ◌++◌, drop, map}
+use Rattle.place_terms.proofs.Common.{drop, map, region_of, ◌++◌, ◌≡◌}
 use Rattle.ldmodel.specs.PlacementView.{region_of as numbers}
-use Rattle.place_terms.specs.RegionTable.{region_of}
 use Rattle.place_terms.proofs.wholes.regions_of.Given as goal
 
 abbrev pub invariant-loop-region : goal.invariant-loop-region

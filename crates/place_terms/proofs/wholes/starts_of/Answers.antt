@@ -1,7 +1,4 @@
-use Rattle.std.proofs.Common.{ap, map, refl, ◌∙◌, ◌++◌}
-use Rattle.place_terms.specs.Keyed.{KeyedPiece}
-use Rattle.place_terms.specs.SectionTable.{keyed, keyed_piece}
-use Rattle.place_terms.specs.Wholes.{starts_in}
+use Rattle.place_terms.proofs.Common.{KeyedPiece, ap, keyed, keyed_piece, map, refl, starts_in, ◌++◌, ◌∙◌}
 use Rattle.place_terms.proofs.Starts.{starts_more}
 use Rattle.place_terms.proofs.wholes.starts_of.Goals as goal
 

@@ -1,6 +1,4 @@
-use Rattle.std.proofs.Common.{◌≡◌, ◌++◌, drop, map}
-use Rattle.place_terms.specs.SectionTable.{keyed}
-use Rattle.place_terms.specs.Wholes.{starts_in}
+use Rattle.place_terms.proofs.Common.{drop, keyed, map, starts_in, ◌++◌, ◌≡◌}
 use Rattle.place_terms.proofs.wholes.starts_of.Given as goal
 
 abbrev pub invariant-loop-section : goal.invariant-loop-section

@@ -1,8 +1,4 @@
-use Rattle.std.proofs.Common.{◌∙◌, ℕ, Option, ap, refl}
-use Rattle.std.specs.Option.{option_copied}
-use Rattle.ldmodel_project.specs.ProjectState.{Listing}
-use Rattle.ldmodel_project.specs.Listing.{found_under}
-use Rattle.relink.specs.Change.{beside}
+use Rattle.relink.proofs.Common.{Listing, Option, ap, beside, found_under, option_copied, refl, ℕ, ◌∙◌}
 use Rattle.relink.proofs.Changing.{is_change, object_or}
 use Rattle.relink.proofs.change.object_change.Goals as goal
 

@@ -1,4 +1,4 @@
-use Rattle.std.proofs.Common.{arith}
+use Rattle.relink.proofs.Common.{arith}
 use Rattle.relink.proofs.counts.counts_fit.Goals as goal
 
 pub returns : goal.returns

@@ -1,11 +1,6 @@
-use Rattle.std.proofs.Common.{◌∙◌, Option, ap, arith, refl, subst, sym}
-use Rattle.std.specs.Prelude.{IfSome, is_some}
-use Rattle.elfobj.specs.Counts.{Counts}
-use Rattle.ldmodel_project.specs.ProjectState.{Listing, held, next_listing, project_of}
-use Rattle.relink_driver.specs.Reads.{ReadsNothing}
-use Rattle.relink_driver.specs.RelinkOutcome.{HasPreviousImage}
-use Rattle.relink_driver.specs.StayedSections.{PreviousState}
-use Rattle.relink.specs.PreviousLink.{HasUpdateOutcome, lent_of}
+use Rattle.relink.proofs.Common.{Counts, HasPreviousImage, HasUpdateOutcome, IfSome, Listing, Option, PreviousState}
+use Rattle.relink.proofs.Common.{ReadsNothing, ap, arith, held, is_some, lent_of, next_listing, project_of, refl, subst}
+use Rattle.relink.proofs.Common.{sym, ◌∙◌}
 use Rattle.relink.specs.Work.{HasPlacedWork, HasWorked}
 use Rattle.relink.proofs.Bounding.{linked_work}
 use Rattle.relink.proofs.DeferredCounts.{leaves_if}
@@ -20,7 +15,7 @@ link_next-updated-requires-clause-previous c =
     let same = c.puts_same-same.result in
     let e = c.lend_previous.result.0 in
     let bytes = c.args.canvas.now.bytes in
-    let x = staged_following h s same bytes c.args.seen.now c.args.previous.now e c.next-next.result
+    let x = staged_following h s same bytes c.args.seen.outcome.now c.args.seen.previous.now e c.next-next.result
     c.keys-keys.result.now c.requires.staged c.next-next.ensures.next c.next-next.ensures.found
     c.keys-keys.ensures.value c.keys-keys.ensures.distinct c.found_where_placed.ensures c.puts_same-same.ensures.same
     c.puts_same-same.ensures.other c.puts_same-same.ensures.named c.lend_previous.ensures.effect c.requires.previous in
@@ -28,7 +23,8 @@ link_next-updated-requires-clause-previous c =
     (sym c.next-next.ensures.next)
     (subst (λ (o : Option PreviousState). IfSome o (HasPreviousImage (project_of (next_listing h s)) bytes))
     (sym c.lend_previous.ensures.lent)
-    (last_lent h s same bytes c.args.seen.now e x.edit c.args.previous.now e.puts_none refl x.kept x.effect))
+    (last_lent h s same bytes c.args.seen.outcome.now e x.edit c.args.seen.previous.now e.keeps_previous refl x.kept
+    x.effect))
 
 pub returns-in-Ok-clause-updated : goal.returns-in-Ok-clause-updated
 returns-in-Ok-clause-updated c =
@@ -38,11 +34,11 @@ returns-in-Ok-clause-updated c =
     let e = c.lend_previous.result.0 in
     let bytes = c.args.canvas.now.bytes in
     let new = c.link_next-updated.new.canvas.bytes in
-    let x = staged_following h s same bytes c.args.seen.now c.args.previous.now e c.next-next.result
+    let x = staged_following h s same bytes c.args.seen.outcome.now c.args.seen.previous.now e c.next-next.result
     c.keys-keys.result.now c.requires.staged c.next-next.ensures.next c.next-next.ensures.found
     c.keys-keys.ensures.value c.keys-keys.ensures.distinct c.found_where_placed.ensures c.puts_same-same.ensures.same
     c.puts_same-same.ensures.other c.puts_same-same.ensures.named c.lend_previous.ensures.effect c.requires.previous in
-    updated_over h s same bytes new c.args.seen.now c.args.previous.now e x c.in-Ok.updated
+    updated_over h s same bytes new c.args.seen.outcome.now c.args.seen.previous.now e x c.in-Ok.updated
     (subst (λ (o : Option PreviousState). HasUpdateOutcome (next_listing h s) o bytes new c.in-Ok.updated)
     c.lend_previous.ensures.lent
     (subst (λ (l : Listing). HasUpdateOutcome l (lent_of c.lend_previous.result.1) bytes new c.in-Ok.updated)
@@ -60,7 +56,7 @@ returns-in-Ok-clause-counted c = λ made change keeps answers.
     let m2 = c.link_next-updated.new.meter in
     let small = c.counts_fit.ensures in
     let none = c.tables_of_next.ensures.kept (ap is_some c.take.ensures.value ∙ made) in
-    let x = staged_following h s same bytes c.args.seen.now c.args.previous.now e c.next-next.result
+    let x = staged_following h s same bytes c.args.seen.outcome.now c.args.seen.previous.now e c.next-next.result
     c.keys-keys.result.now c.requires.staged c.next-next.ensures.next c.next-next.ensures.found
     c.keys-keys.ensures.value c.keys-keys.ensures.distinct c.found_where_placed.ensures c.puts_same-same.ensures.same
     c.puts_same-same.ensures.other c.puts_same-same.ensures.named c.lend_previous.ensures.effect c.requires.previous in
@@ -74,7 +70,8 @@ returns-in-Ok-clause-counted c = λ made change keeps answers.
     c.next-next.ensures.next c.in-Ok.ensures.worked) in
     let q = project_of (next_listing h s) in
     subst (λ (m : Counts). HasPlacedWork (held h) change q m m2) none
-    (linked_work h s same bytes new c.args.seen.now e c.args.previous.now c.in-Ok.updated change m1 m2 x answers
+    (linked_work h s same bytes new c.args.seen.outcome.now e c.args.seen.previous.now c.in-Ok.updated change m1 m2 x
+    answers
     updated worked
     (omega (arith, small.pieces, ap (λ (m : Counts). m.pieces) none))
     (omega (arith, small.fields, ap (λ (m : Counts). m.fields) none))

@@ -1,4 +1,4 @@
-use Rattle.std.proofs.Common.{◌∙◌, arith}
+use Rattle.relink.proofs.Common.{arith, ◌∙◌}
 use Rattle.relink.proofs.LazyTables.{from_places}
 use Rattle.relink.proofs.lazy_tables.are_places.Goals as goal
 

@@ -1,5 +1,4 @@
-use Rattle.std.proofs.Common.{◌≡◌, ◌<◌, ℕ}
-use Rattle.std.specs.Prelude.{slice_index_or}
+use Rattle.relink.proofs.Common.{slice_index_or, ℕ, ◌<◌, ◌≡◌}
 use Rattle.relink.proofs.lazy_tables.are_places.Given as goal
 
 abbrev pub invariant-loop-place : goal.invariant-loop-place

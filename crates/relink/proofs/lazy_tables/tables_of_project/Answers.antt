@@ -1,5 +1,5 @@
+use Rattle.relink.proofs.Common.{listing_of}
 use Rattle.std.proofs.lemmas.Result.{IfOk-weaker}
-use Rattle.ldmodel_project.specs.ProjectState.{listing_of}
 use Rattle.relink.proofs.LazyTables.{tables_not_there}
 use Rattle.relink.proofs.lazy_tables.tables_of_project.Goals as goal
 

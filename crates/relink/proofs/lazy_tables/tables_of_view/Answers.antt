@@ -1,9 +1,5 @@
-use Rattle.std.proofs.Common.{List, ◌∙◌, ap, subst, sym}
-use Rattle.std.specs.List.{enumerate_from}
-use Rattle.gather.specs.declared.matches.Matches.{Matches}
-use Rattle.ldmodel.specs.Names.{symbol_tables}
-use Rattle.ldmodel.specs.Project.{NamedObject}
-use Rattle.relink.specs.KeptTables.{AreTablesOf}
+use Rattle.relink.proofs.Common.{AreTablesOf, List, Matches, NamedObject, ap, enumerate_from, subst, sym, symbol_tables}
+use Rattle.relink.proofs.Common.{◌∙◌}
 use Rattle.relink.proofs.LazyTables.{made_tables}
 use Rattle.relink.proofs.lazy_tables.tables_of_view.Goals as goal
 

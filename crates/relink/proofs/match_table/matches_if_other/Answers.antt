@@ -1,6 +1,4 @@
-use Rattle.std.proofs.Common.{List, subst}
-use Rattle.gather.specs.ProjectMatches.{IsMatched}
-use Rattle.ldscript.specs.statements.declared.statement.Statement.{Statement}
+use Rattle.relink.proofs.Common.{IsMatched, List, Statement, subst}
 use Rattle.relink.proofs.match_table.matches_if_other.Goals as goal
 
 pub returns-then-branch : goal.returns-then-branch

@@ -1,4 +1,4 @@
-use Rattle.relink.proofs.Since.{none_changed}
+use Rattle.relink.proofs.OriginsFollow.{none_changed}
 use Rattle.relink.proofs.previous.changed_key.Goals as goal
 
 pub returns-in-None-removed : goal.returns-in-None-removed

@@ -1,9 +1,4 @@
-use Rattle.std.proofs.Common.{List, subst, sym}
-use Rattle.gather.specs.declared.matches.Matches.{Matches}
-use Rattle.symres.specs.decisions.Decisions.{AreDecisionsOf}
-use Rattle.ldmodel_project.specs.ProjectState.{listing_of}
-use Rattle.ldscript.specs.statements.declared.statement.Statement.{Statement}
-use Rattle.relink.specs.KeptTables.{AreTablesOf}
+use Rattle.relink.proofs.Common.{AreDecisionsOf, AreTablesOf, List, Matches, Statement, listing_of, subst, sym}
 use Rattle.relink.proofs.Following.{tables_of_empty}
 use Rattle.relink.proofs.session.tables_of_empty.Goals as goal
 

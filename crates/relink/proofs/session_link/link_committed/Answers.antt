@@ -1,8 +1,5 @@
-use Rattle.std.proofs.Common.{◌∙◌, ap, map, subst, sym}
-use Rattle.ldmodel.specs.Project.{Project}
-use Rattle.symres.specs.decisions.Change.{Table}
-use Rattle.symres.specs.SymbolTable.{IsSymbolTable, SymbolTableState}
-use Rattle.ldmodel_project.specs.ProjectState.{listing_of, project_of}
+use Rattle.relink.proofs.Common.{IsSymbolTable, Project, SymbolTableState, Table, ap, listing_of, map, project_of}
+use Rattle.relink.proofs.Common.{subst, sym, ◌∙◌}
 use Rattle.relink.proofs.Following.{tables_of_objects}
 use Rattle.relink.proofs.session_link.link_committed.Goals as goal
 

@@ -1,11 +1,5 @@
-use Rattle.std.proofs.Common.{◌≡◌, ◌∙◌, ℕ, Option, ap, map, refl, subst, sym, true}
-use Rattle.std.specs.Global.{Global}
-use Rattle.std.specs.Prelude.{Vec}
-use Rattle.ldmodel.specs.Project.{NamedObject}
-use Rattle.relink_driver.specs.StayedSections.{PreviousState, previous_of}
-use Rattle.relink_driver.specs.InPlace.{IsInPlaceOutcome}
-use Rattle.relink_driver.specs.RelinkOutcome.{HasRelinkOutcome}
-use Rattle.relink.specs.PreviousLink.{lent_of}
+use Rattle.relink.proofs.Common.{Global, HasRelinkOutcome, IsInPlaceOutcome, NamedObject, Option, PreviousState, Vec}
+use Rattle.relink.proofs.Common.{ap, lent_of, map, previous_of, refl, subst, sym, true, ℕ, ◌∙◌, ◌≡◌}
 use Rattle.relink_driver.specs.Rewritable.{IsRewritable}
 use Rattle.relink_driver.specs.Worked.{HasWorked, IsWorkBeside}
 use Rattle.relink_driver.specs.declared.driver.RelinkOutcome.{RelinkOutcome}
@@ -20,7 +14,7 @@ not_rewritten e g m is other = let none : ⊥ = cc in none
 
 pub returns-clause-updated : goal.returns-clause-updated
 returns-clause-updated c = λ l is keys.
-    followed_good l c.args.project.now c.args.keys.now c.relink.new.canvas.bytes
+    followed_good l c.args.project.now c.args.tables.keys.now c.relink.new.canvas.bytes
     (record {
       snapshot = c.in-Ok-Good.snapshot;
       origins = c.in_ok-origins.origins;
@@ -31,7 +25,8 @@ returns-clause-updated c = λ l is keys.
     (subst (HasRelinkOutcome c.args.project.now
     (previous_of c.view_previous-previous.result) c.args.canvas.now.bytes c.relink.new.canvas.bytes)
     c.in-Ok-Good.field-0-is c.in-Ok-Good.ensures.ended)
-    (c.names_in_room.ensures ∙ ap (map (λ (o : NamedObject). o.name)) c.inputs-inputs.ensures.same) c.in_ok-origins.ensures
+    (c.names_in_room.ensures ∙ ap (map (λ (o : NamedObject). o.name)) c.inputs-inputs.ensures.same)
+    c.in_ok-origins.ensures
     (c.found_where_placed.ensures l.entries) refl
 
 pub returns-clause-worked : goal.returns-clause-worked
@@ -47,7 +42,7 @@ returns-clause-worked c = (
 
 pub returns-in-Ok-RewrittenInPlace-clause-updated : goal.returns-in-Ok-RewrittenInPlace-clause-updated
 returns-in-Ok-RewrittenInPlace-clause-updated c = λ l is keys.
-    followed_again l c.args.project.now c.args.keys.now (lent_of c.args.previous) c.relink.new.canvas.bytes
+    followed_again l c.args.project.now c.args.tables.keys.now (lent_of c.args.previous) c.relink.new.canvas.bytes
     c.in_ok-origins.origins.items is keys c.requires.distinct
     (subst (λ (x : Option PreviousState). IsInPlaceOutcome c.args.project.now x c.relink.new.canvas.bytes)
     c.view_previous-previous.ensures

@@ -1,8 +1,5 @@
-use Rattle.std.proofs.Common.{◌∙◌, ap, map, refl, subst, sym}
-use Rattle.ldmodel.specs.Project.{Project}
-use Rattle.symres.specs.decisions.Change.{Table}
-use Rattle.symres.specs.SymbolTable.{IsSymbolTable, SymbolTableState}
-use Rattle.ldmodel_project.specs.ProjectState.{project_of}
+use Rattle.relink.proofs.Common.{IsSymbolTable, Project, SymbolTableState, Table, ap, map, project_of, refl, subst, sym}
+use Rattle.relink.proofs.Common.{◌∙◌}
 use Rattle.relink.proofs.Followed.{of_some}
 use Rattle.relink.proofs.Following.{tables_of_objects}
 use Rattle.relink.proofs.session_link.link_next.Goals as goal

@@ -1,7 +1,6 @@
-use Rattle.std.proofs.Common.{None, Some, sym}
-use Rattle.ldmodel_project.specs.Listing.{objects_of}
+use Rattle.relink.proofs.Common.{None, Some, objects_of, sym}
 use Rattle.relink.proofs.Putting.{puts_other, staged_by_name}
-use Rattle.relink.proofs.Since.{puts_nothing}
+use Rattle.relink.proofs.OriginsFollow.{puts_nothing}
 use Rattle.relink.proofs.unchanged.puts_same.Goals as goal
 
 pub returns-in_default-clause-other : goal.returns-in_default-clause-other

@@ -1,13 +1,7 @@
-use Rattle.std.proofs.Common.{◌≡◌, ◌∙◌, ap, length, refl, subst, sym}
-use Rattle.std.specs.Prelude.{Some, slice_get}
-use Rattle.std.specs.Option.{option_map}
-use Rattle.std.proofs.lemmas.List.{length-map}
-use Rattle.std.proofs.lemmas.Option.{same_Some, slice_get-map, slice_get_read}
-use Rattle.elfobj.specs.Symbols.{NamedSymbol}
-use Rattle.ldmodel.specs.Project.{NamedObject}
-use Rattle.ldmodel_project.specs.Inputs.{shown_input, shown_inputs}
-use Rattle.relink_driver.specs.StayedSections.{previous_of}
-use Rattle.relink_driver.proofs.Unmarked.{MarksSoFar, are_marks, no_marks, one_mark_more}
+use Rattle.relink_driver.proofs.Common.{NamedObject, NamedSymbol, Some, ap, length, length-map, option_map, previous_of}
+use Rattle.relink_driver.proofs.Common.{refl, same_Some, shown_input, shown_inputs, slice_get, slice_get-map}
+use Rattle.relink_driver.proofs.Common.{slice_get_read, subst, sym, ◌∙◌, ◌≡◌}
+use Rattle.relink_driver.proofs.CleanObjectValues.{MarksSoFar, are_marks, no_marks, one_mark_more}
 use Rattle.relink_driver.proofs.dirty.dirty_objects.Goals as goal
 
 pub loop-place-init : goal.loop-place-init
@@ -26,7 +20,7 @@ loop-place-preserved c =
     (slice_get_read inputs (length inputs) c.loop-place.place input refl c.loop-place-test.true
     c.index-inputs-place.is) in
     one_mark_more (previous_of c.args.previous) c.args.symbols.now (shown_inputs inputs) c.loop-place.place
-    c.loop-place.dirty.items c.push.new.self.items c.is_dirty.result _ c.in_ok-push.ensures.items
+    c.loop-place.dirty.items c.push.new.list.items c.is_dirty.result _ c.in_ok-push.ensures.items
     (λ o there. (
     let same : shown_input input ≡ o = same_Some _ _ (sym at ∙ there) in
     ap (λ (v : NamedObject). length v.object.symbols) (sym same)

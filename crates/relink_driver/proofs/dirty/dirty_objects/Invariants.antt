@@ -1,6 +1,5 @@
-use Rattle.relink_driver.specs.StayedSections.{previous_of}
-use Rattle.ldmodel_project.specs.Inputs.{shown_inputs}
-use Rattle.relink_driver.proofs.Unmarked.{MarksSoFar}
+use Rattle.relink_driver.proofs.Common.{previous_of, shown_inputs}
+use Rattle.relink_driver.proofs.CleanObjectValues.{MarksSoFar}
 use Rattle.relink_driver.proofs.dirty.dirty_objects.Given as goal
 
 abbrev pub invariant-loop-place : goal.invariant-loop-place

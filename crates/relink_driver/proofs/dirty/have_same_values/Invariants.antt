@@ -1,4 +1,4 @@
-use Rattle.std.specs.Prelude.{◌≡◌, ◌<◌, ℕ, slice_index_or}
+use Rattle.relink_driver.proofs.Common.{slice_index_or, ℕ, ◌<◌, ◌≡◌}
 use Rattle.emit.specs.relocate.declared.value.SymbolValue.TheVariants.{NotDefined}
 use Rattle.relink_driver.proofs.dirty.have_same_values.Given as goal
 

@@ -1,15 +1,9 @@
-use Rattle.std.proofs.Common.{◌∙◌, subst, sym}
-use Rattle.std.proofs.lemmas.Result.{err_from_is_err_and}
-use Rattle.emit.specs.relocate.KnownLink.{AreNameValues}
-use Rattle.emit.specs.relocate.SymbolValues.{AreSymbolValues}
-use Rattle.emit.specs.relocate.LinkView.{known_link}
-use Rattle.ldmodel.specs.Layout.{Layout}
-use Rattle.relink_driver.specs.Context.{project_of}
-use Rattle.relink_driver.specs.DirtyObjects.{AreDirtyObjects}
+use Rattle.relink_driver.proofs.Common.{AreDirtyObjects, AreNameValues, AreSymbolValues, Layout, err_from_is_err_and}
+use Rattle.relink_driver.proofs.Common.{known_link, project_of, subst, sym, ◌∙◌}
 use Rattle.relink_driver.proofs.Beside.{has_old, one_placement}
 use Rattle.relink_driver.proofs.Reading.{ends_reading, reads_ending, reads_then}
-use Rattle.relink_driver.proofs.Seen.{sources_of}
-use Rattle.relink_driver.proofs.Stopping.{ends_shown}
+use Rattle.relink_driver.proofs.ValuesBySource.{sources_of}
+use Rattle.relink_driver.proofs.EarlyEnds.{ends_shown}
 use Rattle.relink_driver.proofs.Working.{are_drawn, link_work, of_short}
 use Rattle.relink_driver.proofs.driver.run_passes.Goals as goal
 
@@ -31,7 +25,7 @@ pub evaluate_relocations-requires-clause-symbols : goal.evaluate_relocations-req
 evaluate_relocations-requires-clause-symbols c =
     λ s link_layout.
     let p = project_of c.args.context in
-    let h = c.in_ok-values.ensures.good.placed in
+    let h = c.in_ok-name_values.ensures.good.placed in
     let k = h.known in
     let a = c.in_ok-indexed_layout.ensures.good in
     subst (λ (z : Layout). AreSymbolValues p z c.in_ok-symbols.symbols)
@@ -47,7 +41,7 @@ pub evaluate_relocations-requires-clause-beside : goal.evaluate_relocations-requ
 evaluate_relocations-requires-clause-beside c =
     λ s link_layout.
     let p = project_of c.args.context in
-    let h = c.in_ok-values.ensures.good.placed in
+    let h = c.in_ok-name_values.ensures.good.placed in
     let k = h.known in
     let a = c.in_ok-indexed_layout.ensures.good in
     let symbols : AreSymbolValues p s c.in_ok-symbols.symbols =
@@ -74,7 +68,7 @@ returns-clause-ended c =
     let h = f.short.placed in
     let k = h.known in
     let s = k.layout in
-    let v = c.in_ok-values.ensures.good.placed in
+    let v = c.in_ok-name_values.ensures.good.placed in
     let w = v.known in
     let a = c.in_ok-indexed_layout.ensures.good in
     let same = c.in_ok-draw_output.ensures.image s k.link_layout in
@@ -111,7 +105,8 @@ returns-clause-worked c =
     let k = f.short.placed.known in
     link_work (project_of c.args.context) _ _ _ _ c.in_ok-link_layout.ensures.counted
     (are_drawn (project_of c.args.context) k.layout _ c.in_ok-fields.fields _ _ _ k.link_layout.layout f.good
-    (c.in_ok-fields.ensures.counted k.layout k.link_layout) (c.in_ok-draw_output.ensures.counted k.layout k.link_layout))
+    (c.in_ok-fields.ensures.counted k.layout k.link_layout)
+    (c.in_ok-draw_output.ensures.counted k.layout k.link_layout))
 
 pub returns-in_err-fields-clause-early : goal.returns-in_err-fields-clause-early
 returns-in_err-fields-clause-early c =

@@ -1,4 +1,4 @@
-use Rattle.std.proofs.Common.{◌∙◌, arith, codes, string_bytes}
+use Rattle.relink_driver.proofs.Common.{arith, codes, string_bytes, ◌∙◌}
 use Rattle.relink_driver.proofs.Words.{at_none, at_some}
 use Rattle.relink_driver.proofs.exit_report.word_at.Goals as goal
 

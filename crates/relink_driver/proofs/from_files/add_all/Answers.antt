@@ -1,8 +1,5 @@
-use Rattle.std.proofs.Common.{◌≡◌, ◌∷◌, ap, arith, length, sym, ◌∙◌}
-use Rattle.std.proofs.lemmas.Result.{err_from_is_err_and}
+use Rattle.relink_driver.proofs.Common.{ap, arith, err_from_is_err_and, files_of, held, length, sym, ◌∙◌, ◌∷◌, ◌≡◌}
 use Rattle.std.specs.Vec.Iter.{into_iter_items}
-use Rattle.ldmodel_project.specs.ProjectState.{held}
-use Rattle.relink_driver.specs.Answer.{files_of}
 use Rattle.relink_driver.proofs.Courses.{ending, none_left, stepped, stopped}
 use Rattle.relink_driver.proofs.from_files.add_all.Goals as goal
 

@@ -1,7 +1,5 @@
-use Rattle.std.proofs.Common.{◌≡◌, ◌+◌, length}
+use Rattle.relink_driver.proofs.Common.{files_of, held, length, ◌+◌, ◌≡◌}
 use Rattle.std.specs.Vec.Iter.{into_iter_items, into_iter_len}
-use Rattle.ldmodel_project.specs.ProjectState.{held}
-use Rattle.relink_driver.specs.Answer.{files_of}
 use Rattle.relink_driver.proofs.Courses.{Reached}
 use Rattle.relink_driver.proofs.from_files.add_all.Given as goal
 

@@ -1,7 +1,6 @@
-use Rattle.std.proofs.Common.{List, ℕ, subst}
+use Rattle.relink_driver.proofs.Common.{List, answer_of, files_of, subst, ℕ}
 use Rattle.ldmodel.specs.LinkCommand.{LinkAnswers}
-use Rattle.relink_driver.specs.Answer.{answer_of, files_of}
-use Rattle.relink_driver.proofs.Shown.{with_its_map}
+use Rattle.relink_driver.proofs.AnswersWithoutMap.{with_its_map}
 use Rattle.relink_driver.proofs.from_files.link.Goals as goal
 
 pub returns : goal.returns

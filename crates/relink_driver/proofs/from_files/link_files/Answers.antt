@@ -1,6 +1,5 @@
-use Rattle.ldmodel_project.specs.ProjectState.{held}
-use Rattle.relink_driver.specs.Answer.{files_of}
-use Rattle.relink_driver.proofs.Shown.{linked, refused}
+use Rattle.relink_driver.proofs.Common.{files_of, held}
+use Rattle.relink_driver.proofs.AnswersWithoutMap.{linked, refused}
 use Rattle.relink_driver.proofs.from_files.link_files.Goals as goal
 
 pub returns-in-Err : goal.returns-in-Err

@@ -1,6 +1,4 @@
-use Rattle.std.proofs.lemmas.Result.{err_from_is_err_and}
-use Rattle.ldmodel_project.specs.ProjectState.{held}
-use Rattle.relink_driver.specs.Answer.{files_of}
+use Rattle.relink_driver.proofs.Common.{err_from_is_err_and, files_of, held}
 use Rattle.relink_driver.proofs.Courses.{refused_object, refused_script, scripted}
 use Rattle.relink_driver.proofs.from_files.project_of.Goals as goal
 

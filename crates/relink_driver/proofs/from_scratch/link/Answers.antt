@@ -1,5 +1,4 @@
-use Rattle.std.proofs.Common.{subst, sym}
-use Rattle.gather.specs.ProjectMatches.{AreMatched}
+use Rattle.relink_driver.proofs.Common.{AreMatched, ap, map, subst, sym, ◌∙◌}
 use Rattle.relink_driver.proofs.from_scratch.link.Goals as goal
 
 pub link_over-requires-clause-symbol_table : goal.link_over-requires-clause-symbol_table
@@ -8,4 +7,7 @@ link_over-requires-clause-symbol_table c =
 
 pub link_over-requires-clause-matches : goal.link_over-requires-clause-matches
 link_over-requires-clause-matches c =
-    subst (AreMatched c.args.project.now) (sym c.deref.ensures.value) c.in_ok-matches.ensures
+    subst (AreMatched c.args.project.now)
+    (sym c.deref.ensures.value ∙ sym c.in_ok-match_refs.ensures ∙ ap (map (λ x. x.now))
+    (sym c.deref-2.ensures.value))
+    c.in_ok-matches.ensures

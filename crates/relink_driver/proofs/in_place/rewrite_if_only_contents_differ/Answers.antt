@@ -1,13 +1,7 @@
-use Rattle.std.proofs.Common.{◌≡◌, ◌∙◌, ◌<◌, ◌^◌, Option, Some, ap, arith, inr, subst, sym, true}
-use Rattle.std.proofs.lemmas.Option.{same_Some}
-use Rattle.ldmodel.specs.Project.{Project}
-use Rattle.ldmodel.specs.Stayed.{GoodLink}
-use Rattle.relink_driver.specs.Context.{project_of}
-use Rattle.relink_driver.specs.InPlace.{IsNextLink}
-use Rattle.relink_driver.specs.StayedSections.{PreviousState, ReplacedObjectState, previous_of, previous_state}
-use Rattle.relink_driver.specs.StayedSections.{replaced_state}
-use Rattle.relink_driver.specs.Touched.{HasTouched}
-use Rattle.relink_driver.proofs.Touching.{no_fault, touched_work}
+use Rattle.relink_driver.proofs.Common.{GoodLink, HasTouched, IsNextLink, Option, PreviousState, Project}
+use Rattle.relink_driver.proofs.Common.{ReplacedObjectState, Some, ap, arith, inr, previous_of, previous_state}
+use Rattle.relink_driver.proofs.Common.{project_of, replaced_state, same_Some, subst, sym, true, ◌<◌, ◌^◌, ◌∙◌, ◌≡◌}
+use Rattle.relink_driver.proofs.ObjectOverwritten.{no_fault, touched_work}
 use Rattle.relink_driver.proofs.in_place.rewrite_if_only_contents_differ.Goals as goal
 
 pub returns-in-Done-clause-done : goal.returns-in-Done-clause-done
@@ -17,7 +11,7 @@ returns-in-Done-clause-done c =
     let r : ReplacedObjectState = replaced_state c.in-Some-find_replaced.replaced in
     let f = c.in-Some-find_replaced.ensures.found in
     let names = c.inputs-inputs.ensures.distinct in
-    let keeps = λ (o : GoodLink). c.outlines_decide.ensures o p r.new.0 in
+    let keeps = λ (o : GoodLink). c.outlines_decide.ensures o p r.new_place.0 in
     let last_is : previous_of c.args.context.previous ≡ Some x = ap previous_of c.in-Some.is in
     let pieces : c.args.meter.now.pieces < 2 ^ 64 = omega (arith, c.pieces-pieces.type_inv, c.pieces-pieces.ensures) in
     let made = c.in_ok-rewrite_object.ensures in

@@ -1,6 +1,5 @@
-use Rattle.std.proofs.Common.{◌∙◌, List, ℕ, [], ap, sym}
-use Rattle.ldmodel.specs.Link.{Link}
-use Rattle.relink_driver.proofs.Stopping.{entry_line}
+use Rattle.relink_driver.proofs.Common.{Link, List, [], ap, sym, ℕ, ◌∙◌}
+use Rattle.relink_driver.proofs.EarlyEnds.{entry_line}
 use Rattle.relink_driver.proofs.name_faults.entry_fault_line.Goals as goal
 
 pub returns : goal.returns

@@ -1,7 +1,5 @@
-use Rattle.std.proofs.Common.{◌∙◌, ap, subst, sym}
-use Rattle.ldmodel.specs.Link.{gathering_faults, layout, link, name_faults, placed, unless}
-use Rattle.ldmodel_project.specs.ByPlace.{faults_in}
-use Rattle.relink_driver.specs.PassEnds.{IsPassEnd}
+use Rattle.relink_driver.proofs.Common.{IsPassEnd, ap, faults_in, gathering_faults, layout, link, name_faults, placed}
+use Rattle.relink_driver.proofs.Common.{subst, sym, unless, ◌∙◌}
 use Rattle.relink_driver.proofs.name_faults.name_fault_lines.Goals as goal
 
 pub returns-in-Err-Faulty : goal.returns-in-Err-Faulty

@@ -1,4 +1,4 @@
-use Rattle.std.proofs.Common.{◌∙◌, arith, refl, sym}
+use Rattle.relink_driver.proofs.Common.{arith, refl, sym, ◌∙◌}
 use Rattle.relink_driver.proofs.Outlines.{all_mapped, mapped_read, never, one_more, same_symbol_at, symbol_of, symbols_named}
 use Rattle.relink_driver.proofs.outline.same_references.Goals as goal
 
@@ -19,5 +19,6 @@ pub returns-then-not-is_same_index : goal.returns-then-not-is_same_index
 returns-then-not-is_same_index c = (
   never,
   λ same. sym c.if-not-is_same_index.true ∙ c.is_same_index.ensures.1
-      (mapped_read symbol_of c.args.a.now c.args.b.now c.loop-number.number _ c.loop-number-test.true c.if-a-b.false same),
+      (mapped_read symbol_of c.args.a.now c.args.b.now c.loop-number.number _ c.loop-number-test.true c.if-a-b.false
+      same),
 )

@@ -1,7 +1,5 @@
-use Rattle.std.proofs.Common.{◌∙◌, ap, arith, length, map, refl, slice_get, sym}
-use Rattle.std.specs.Prelude.{Some}
-use Rattle.std.proofs.lemmas.Option.{same_Some}
-use Rattle.elfobj.specs.Sections.{LinkedSection, section_of}
+use Rattle.relink_driver.proofs.Common.{LinkedSection, Some, ap, arith, length, map, refl, same_Some, section_of}
+use Rattle.relink_driver.proofs.Common.{slice_get, sym, ◌∙◌}
 use Rattle.relink_driver.proofs.Outlines.{all_same, named_section, never, read_same, same_bare, same_more}
 use Rattle.relink_driver.proofs.Outlines.{same_section_names}
 use Rattle.relink_driver.proofs.outline.same_sections.Goals as goal
@@ -22,7 +20,8 @@ pub returns : goal.returns
 returns c =
     let a = ap length c.sections-before.ensures.value in
     let b = ap length c.sections-now.ensures.value in (
-      λ yes. all_same section_of (λ (x : LinkedSection). x.name) named_section c.args.a.now.sections c.args.b.now.sections
+      λ yes. all_same section_of (λ (x : LinkedSection). x.name) named_section c.args.a.now.sections
+          c.args.b.now.sections
           c.loop-number.number (omega (arith, a, b, c.if-before-now.false))
           (omega (arith, a, c.loop-number-test.false, c.loop-number.auto.number-end)) c.loop-number.invariant,
       λ same. refl,
@@ -36,7 +35,8 @@ returns-then-not-is_same_section c =
       | then-not-is_same_section-via-then-not-is_same_section w ↦ (
         never,
         λ same. sym w.if-not-is_same_section.true ∙ c.is_same_section.ensures.1
-            (same_bare a b _ _ c.loop-number.number _ c.sections-before.ensures.value c.sections-now.ensures.value same),
+            (same_bare a b _ _ c.loop-number.number _ c.sections-before.ensures.value c.sections-now.ensures.value
+            same),
       )
       | then-not-is_same_section-via-else-not-is_same_section+then-not-is_same_name w ↦ (
         never,

@@ -1,5 +1,4 @@
-use Rattle.std.proofs.Common.{map}
-use Rattle.ldmodel_laws.specs.Outline.{section_outline}
+use Rattle.relink_driver.proofs.Common.{map, section_outline}
 use Rattle.relink_driver.proofs.Outlines.{AreSame}
 use Rattle.relink_driver.proofs.outline.same_sections.Given as goal
 

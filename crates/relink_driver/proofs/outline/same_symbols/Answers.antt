@@ -1,6 +1,4 @@
-use Rattle.std.proofs.Common.{◌∙◌, ap, arith, length, map, refl, sym}
-use Rattle.std.specs.Prelude.{Some}
-use Rattle.elfobj.specs.Symbols.{NamedSymbol}
+use Rattle.relink_driver.proofs.Common.{NamedSymbol, Some, ap, arith, length, map, refl, sym, ◌∙◌}
 use Rattle.relink_driver.proofs.Outlines.{again, all_same, named_symbol, read_same, same_more}
 use Rattle.relink_driver.proofs.outline.same_symbols.Goals as goal
 

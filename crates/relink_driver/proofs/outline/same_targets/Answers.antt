@@ -1,9 +1,5 @@
-use Rattle.std.proofs.Common.{◌∙◌, ap, arith, length, map, refl, slice_get, sym}
-use Rattle.std.specs.Prelude.{Some}
-use Rattle.std.proofs.lemmas.List.{length-map}
-use Rattle.std.proofs.lemmas.Option.{same_Some}
-use Rattle.elfobj.specs.Sections.{section_of}
-use Rattle.ldmodel_laws.specs.Outline.{section_targets}
+use Rattle.relink_driver.proofs.Common.{Some, ap, arith, length, length-map, map, refl, same_Some, section_of}
+use Rattle.relink_driver.proofs.Common.{section_targets, slice_get, sym, ◌∙◌}
 use Rattle.relink_driver.proofs.Outlines.{all_mapped, never, one_more, targets_at}
 use Rattle.relink_driver.proofs.outline.same_targets.Goals as goal
 

@@ -1,4 +1,4 @@
-use Rattle.ldmodel.specs.Names.{provided}
+use Rattle.relink_driver.proofs.Common.{provided}
 use Rattle.relink_driver.proofs.Placing.{any_last, are_placed}
 use Rattle.relink_driver.proofs.passes.assign_addresses.Goals as goal
 

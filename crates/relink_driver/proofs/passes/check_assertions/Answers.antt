@@ -1,9 +1,5 @@
-use Rattle.std.proofs.Common.{◌∙◌, ap, subst, sym}
-use Rattle.std.proofs.lemmas.Result.{err_from_is_err_and}
-use Rattle.ldmodel.specs.Assertions.{assertion_faults}
-use Rattle.ldmodel.specs.Link.{Link, good}
-use Rattle.ldmodel_project.specs.ByPlace.{faults_in}
-use Rattle.relink_driver.specs.PassEnds.{IsPassEnd}
+use Rattle.relink_driver.proofs.Common.{IsPassEnd, Link, ap, assertion_faults, err_from_is_err_and, faults_in, good}
+use Rattle.relink_driver.proofs.Common.{subst, sym, ◌∙◌}
 use Rattle.relink_driver.proofs.passes.check_assertions.Goals as goal
 
 pub returns-clause-good : goal.returns-clause-good

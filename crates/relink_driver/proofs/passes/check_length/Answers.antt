@@ -1,11 +1,8 @@
-use Rattle.std.proofs.Common.{◌≡◌, ◌≤◌, ◌∙◌, ℕ, ap, subst, sym, refl}
-use Rattle.std.specs.Prelude.{nat_lt}
+use Rattle.relink_driver.proofs.Common.{ap, faulty_link, image_length, max_image_length, nat_lt, of_length, placed}
+use Rattle.relink_driver.proofs.Common.{refl, relocated, subst, sym, ℕ, ◌∙◌, ◌≡◌, ◌≤◌}
 use Rattle.ldmodel.specs.Fault as model
-use Rattle.ldmodel.specs.Link.{max_image_length, of_length, placed, relocated}
-use Rattle.ldmodel.specs.SectionHeaders.{image_length}
 use Rattle.ldmodel.specs.declared.fault.Fault.TheVariants as variant
-use Rattle.relink_driver.specs.PassEnds.{faulty_link}
-use Rattle.relink_driver.proofs.Stopping.{fitting, short_of, too_long_of}
+use Rattle.relink_driver.proofs.EarlyEnds.{fitting, short_of, too_long_of}
 use Rattle.relink_driver.proofs.passes.check_length.Goals as goal
 
 pub returns-in-None-clause-good : goal.returns-in-None-clause-good

@@ -1,7 +1,5 @@
-use Rattle.std.proofs.Common.{◌∙◌, ap}
-use Rattle.std.proofs.lemmas.Result.{err_from_is_err_and}
-use Rattle.ldmodel.specs.Link.{gathering_faults, layout, link, name_faults, placed, unless}
-use Rattle.ldmodel_project.specs.ByPlace.{faults_in}
+use Rattle.relink_driver.proofs.Common.{ap, err_from_is_err_and, faults_in, gathering_faults, layout, link, name_faults}
+use Rattle.relink_driver.proofs.Common.{placed, unless, ◌∙◌}
 use Rattle.relink_driver.proofs.passes.check_names.Goals as goal
 
 pub returns-clause-rest : goal.returns-clause-rest

@@ -6,5 +6,5 @@ check_length-requires c =
     record {
       symbol_table = c.args.context.symbol_table.now;
       known = k;
-      values = c.in_ok-values.ensures k.layout (c.requires.given.values k.layout k.link_layout) k.view;
+      values = c.in_ok-name_values.ensures k.layout (c.requires.given.values k.layout k.link_layout) k.view;
     }

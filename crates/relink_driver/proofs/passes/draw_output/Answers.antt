@@ -1,18 +1,7 @@
-use Rattle.std.proofs.Common.{◌≡◌, ◌∙◌, ◌+◌, ◌-◌, List, ap, arith, refl, subst, sym}
-use Rattle.std.specs.List.{All}
-use Rattle.elfobj.specs.Raised.{raised}
-use Rattle.elfobj.specs.declared.meter.Count.TheVariants.{Bytes}
-use Rattle.emit.specs.fields.declared.patch.Patch.{Patch}
-use Rattle.emit.specs.image.Redrawings.{ArePatchesOf}
-use Rattle.emit.specs.image.Stretches.{EndsBy, patch_bytes}
-use Rattle.ldmodel.specs.Image.{image}
-use Rattle.ldmodel.specs.Layout.{Layout}
-use Rattle.ldmodel.specs.SectionHeaders.{image_length}
+use Rattle.relink_driver.proofs.Common.{All, ArePatchesOf, Bytes, EndsBy, IsWritten, Layout, List, Patch, ap, arith}
+use Rattle.relink_driver.proofs.Common.{image, image_length, known_link, new_link, patch_bytes, project_of, raised}
+use Rattle.relink_driver.proofs.Common.{refl, subst, sym, ◌+◌, ◌-◌, ◌∙◌, ◌≡◌}
 use Rattle.ldmodel.specs.WorkBound.{bytes_stayed}
-use Rattle.emit.specs.Beside.{new_link}
-use Rattle.emit.specs.relocate.LinkView.{known_link}
-use Rattle.relink_driver.specs.Counted.{IsWritten}
-use Rattle.relink_driver.specs.Context.{project_of}
 use Rattle.relink_driver.proofs.Beside.{drawable_at, drawn_image, end_within, one_placement, stays_of}
 use Rattle.relink_driver.proofs.Reading.{bytes_read_nothing}
 use Rattle.relink_driver.proofs.passes.draw_output.Goals as goal

@@ -1,13 +1,8 @@
-use Rattle.std.proofs.Common.{◌∙◌, ap, arith, subst, sym}
-use Rattle.std.proofs.lemmas.Result.{err_from_is_err_and}
-use Rattle.ldmodel.specs.Assertions.{assertion_faults}
-use Rattle.ldmodel.specs.Link.{Link, good, unless}
-use Rattle.ldmodel.specs.Relocations.{relocation_faults}
-use Rattle.ldmodel_project.specs.ByPlace.{faults_in}
-use Rattle.relink_driver.specs.PassEnds.{IsPassEnd}
+use Rattle.relink_driver.proofs.Common.{IsPassEnd, Link, ap, arith, assertion_faults, err_from_is_err_and, faults_in}
+use Rattle.relink_driver.proofs.Common.{good, relocation_faults, subst, sym, unless, ◌∙◌}
 use Rattle.relink_driver.proofs.Beside.{evaluated_at, known_beside}
 use Rattle.relink_driver.proofs.Reading.{ends_reading}
-use Rattle.relink_driver.proofs.Stopping.{none_of}
+use Rattle.relink_driver.proofs.EarlyEnds.{none_of}
 use Rattle.relink_driver.proofs.passes.evaluate_relocations.Goals as goal
 
 pub returns-clause-good : goal.returns-clause-good

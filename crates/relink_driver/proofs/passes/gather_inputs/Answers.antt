@@ -1,10 +1,7 @@
-use Rattle.std.proofs.Common.{◌∙◌, ap, map, subst, sym}
-use Rattle.std.proofs.lemmas.Result.{err_from_is_err_and}
-use Rattle.ldmodel.specs.Link.{Link, gathering_faults, layout, placed}
+use Rattle.relink_driver.proofs.Common.{IsPassEnd, Link, ap, err_from_is_err_and, faults_in, gathering_faults, layout}
+use Rattle.relink_driver.proofs.Common.{map, placed, subst, sym, ◌∙◌}
 use Rattle.ldmodel.specs.declared.fault.Fault.TheVariants.{Orphan}
-use Rattle.ldmodel_project.specs.ByPlace.{faults_in}
-use Rattle.relink_driver.specs.PassEnds.{IsPassEnd}
-use Rattle.relink_driver.proofs.Stopping.{orphans_as_faults}
+use Rattle.relink_driver.proofs.EarlyEnds.{orphans_as_faults}
 use Rattle.relink_driver.proofs.passes.gather_inputs.Goals as goal
 
 pub returns-clause-rest : goal.returns-clause-rest

@@ -1,6 +1,4 @@
-use Rattle.std.proofs.Common.{subst, sym}
-use Rattle.place.specs.LinkLayout.{IsLinkLayout}
-use Rattle.relink_driver.specs.Context.{project_of}
+use Rattle.relink_driver.proofs.Common.{IsLinkLayout, project_of, subst, sym}
 use Rattle.relink_driver.proofs.passes.index_layout.Goals as goal
 
 pub returns-in-Ok-clause-good : goal.returns-in-Ok-clause-good

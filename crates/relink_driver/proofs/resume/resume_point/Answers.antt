@@ -1,14 +1,7 @@
-use Rattle.std.proofs.Common.{◌≡◌, ◌≤◌, ap, subst, sym, ◌∙◌}
-use Rattle.std.specs.Prelude.{IfSome}
-use Rattle.std.proofs.lemmas.Option.{same_Some}
-use Rattle.ldmodel.specs.Names.{provided}
-use Rattle.ldmodel.specs.Project.{Project}
+use Rattle.relink_driver.proofs.Common.{AreSameBefore, IfSome, IsNext, IsPreviousOf, IsResumable, PreviousState}
+use Rattle.relink_driver.proofs.Common.{Project, ap, entries_from, first_changed, previous_of, previous_state, provided}
+use Rattle.relink_driver.proofs.Common.{same_Some, subst, sym, ◌∙◌, ◌≡◌, ◌≤◌}
 use Rattle.ldmodel.specs.Rows as model
-use Rattle.ldmodel.specs.SessionWork.{entries_from}
-use Rattle.place.specs.sections.Resumable.{IsResumable}
-use Rattle.relink_driver.specs.Resume.{AreSameBefore, IsNext}
-use Rattle.relink_driver.specs.SameRows.{first_changed}
-use Rattle.relink_driver.specs.StayedSections.{IsPreviousOf, PreviousState, previous_of, previous_state}
 use Rattle.relink_driver.proofs.Resumed.{are_same, is_first, is_kept}
 use Rattle.relink_driver.proofs.resume.resume_point.Goals as goal
 

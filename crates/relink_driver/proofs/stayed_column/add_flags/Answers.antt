@@ -1,8 +1,6 @@
-use Rattle.std.proofs.Common.{◌∙◌, None, ap, arith}
-use Rattle.std.specs.Prelude.{is_some, slice_index_or}
-use Rattle.relink_driver.specs.StayedColumn.{stayed_between}
+use Rattle.relink_driver.proofs.Common.{None, ap, arith, is_some, slice_index_or, stayed_between, ◌∙◌}
 use Rattle.relink_driver.proofs.Columns.{row_begun, row_more}
-use Rattle.relink_driver.proofs.Still.{still_begun, still_done, still_more}
+use Rattle.relink_driver.proofs.WhollyStayed.{still_begun, still_done, still_more}
 use Rattle.relink_driver.proofs.stayed_column.add_flags.Goals as goal
 
 pub loop-number-init : goal.loop-number-init

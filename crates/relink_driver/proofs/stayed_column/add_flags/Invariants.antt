@@ -1,8 +1,6 @@
-use Rattle.std.proofs.Common.{◌+◌, ◌≤◌, vec_len}
-use Rattle.std.specs.Prelude.{None, is_some, slice_index_or, vec_capacity}
-use Rattle.relink_driver.specs.StayedColumn.{stayed_between}
+use Rattle.relink_driver.proofs.Common.{None, is_some, slice_index_or, stayed_between, vec_capacity, vec_len, ◌+◌, ◌≤◌}
 use Rattle.relink_driver.proofs.Columns.{RowSoFar}
-use Rattle.relink_driver.proofs.Still.{StillSoFar}
+use Rattle.relink_driver.proofs.WhollyStayed.{StillSoFar}
 use Rattle.relink_driver.proofs.stayed_column.add_flags.Given as goal
 
 abbrev pub invariant-loop-number : goal.invariant-loop-number

@@ -1,8 +1,6 @@
-use Rattle.std.proofs.Common.{sym}
-use Rattle.relink_driver.specs.PreviousLink.{previous_state}
-use Rattle.relink_driver.specs.StayedColumn.{key_at}
+use Rattle.relink_driver.proofs.Common.{key_at, previous_state, sym}
 use Rattle.relink_driver.proofs.Columns.{no_row, none_where_new, row_as, same_number}
-use Rattle.relink_driver.proofs.Still.{still_as}
+use Rattle.relink_driver.proofs.WhollyStayed.{still_as}
 use Rattle.relink_driver.proofs.stayed_column.add_object.Goals as goal
 
 pub returns-in_default-clause-flags : goal.returns-in_default-clause-flags
@@ -15,7 +13,7 @@ pub returns-clause-flags : goal.returns-clause-flags
 returns-clause-flags c =
     let x = previous_state c.args.previous.now in
     row_as _ _ _ _
-    (λ k. same_number x c.args.indexed_layout.now c.args.object.0 k c.in-Some.from _ _ c.in-Some.ensures
+    (λ k. same_number x c.args.indexed_layout.now c.args.object.0 k c.in-Some.origin _ _ c.in-Some.ensures
     (c.addresses_of-before.ensures.are (record { 0 = k })) (c.addresses_of-now.ensures.are (record { 0 = k })))
     c.in_ok-all_stayed.ensures.flags
 
@@ -24,6 +22,6 @@ returns-clause-all_stayed c = λ so k.
     let x = previous_state c.args.previous.now in
     let address_now = c.addresses_of-now.ensures.are (record { 0 = k }) in
     still_as _ _ _ _
-    (same_number x c.args.indexed_layout.now c.args.object.0 k c.in-Some.from _ _ c.in-Some.ensures
+    (same_number x c.args.indexed_layout.now c.args.object.0 k c.in-Some.origin _ _ c.in-Some.ensures
     (c.addresses_of-before.ensures.are (record { 0 = k })) address_now)
     address_now (c.in_ok-all_stayed.ensures.all_stayed so k)

@@ -1,7 +1,6 @@
-use Rattle.relink_driver.specs.PreviousLink.{previous_state}
-use Rattle.relink_driver.specs.StayedColumn.{has_stayed_number}
+use Rattle.relink_driver.proofs.Common.{has_stayed_number, previous_state}
 use Rattle.relink_driver.proofs.Columns.{ColumnSoFar}
-use Rattle.relink_driver.proofs.Still.{StillRows}
+use Rattle.relink_driver.proofs.WhollyStayed.{StillRows}
 use Rattle.relink_driver.proofs.stayed_column.column_beside.Given as goal
 
 abbrev pub invariant-loop-place : goal.invariant-loop-place

@@ -1,6 +1,5 @@
-use Rattle.std.proofs.Common.{◌∙◌, arith, sym}
-use Rattle.std.proofs.lemmas.Bool.{and_parts}
-use Rattle.relink_driver.proofs.Fixed.{stays_fixed}
+use Rattle.relink_driver.proofs.Common.{and_parts, arith, sym, ◌∙◌}
+use Rattle.relink_driver.proofs.StayedAtSameStart.{stays_fixed}
 use Rattle.relink_driver.proofs.stayed_column.has_same_location.Goals as goal
 
 pub returns-then-is_at_same_start : goal.returns-then-is_at_same_start

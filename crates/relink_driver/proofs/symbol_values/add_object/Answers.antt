@@ -1,8 +1,4 @@
-use Rattle.std.proofs.Common.{◌≡◌, ◌∙◌, ap, arith, length, sym}
-use Rattle.std.proofs.lemmas.List.{length-map}
-use Rattle.elfobj.specs.Symbols.{NamedSymbol}
-use Rattle.elfobj.specs.declared.symbol.Symbol.{Symbol}
-use Rattle.ldmodel.specs.Names.{is_local}
+use Rattle.relink_driver.proofs.Common.{NamedSymbol, Symbol, ap, arith, is_local, length, length-map, sym, ◌∙◌, ◌≡◌}
 use Rattle.relink_driver.proofs.Symbols.{all_values, member_at, no_values, one_value_more, symbol_is}
 use Rattle.relink_driver.proofs.symbol_values.add_object.Goals as goal
 

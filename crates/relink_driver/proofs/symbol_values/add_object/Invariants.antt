@@ -1,5 +1,4 @@
-use Rattle.std.proofs.Common.{◌+◌, ◌≤◌, vec_len}
-use Rattle.std.specs.Prelude.{vec_capacity}
+use Rattle.relink_driver.proofs.Common.{vec_capacity, vec_len, ◌+◌, ◌≤◌}
 use Rattle.relink_driver.proofs.Symbols.{ValuesSoFar}
 use Rattle.relink_driver.proofs.symbol_values.add_object.Given as goal
 

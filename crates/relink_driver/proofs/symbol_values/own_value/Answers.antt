@@ -1,9 +1,6 @@
-use Rattle.std.proofs.Common.{None, ap, sym, ◌∙◌}
-use Rattle.std.specs.Prelude.{slice_index_or}
-use Rattle.ldmodel.specs.NameFaults.{object_name}
-use Rattle.ldmodel.specs.SymbolValues.{own_value}
+use Rattle.relink_driver.proofs.Common.{None, ap, object_name, own_value, slice_index_or, sym, ◌∙◌}
 use Rattle.emit.specs.relocate.Values.{address_from}
-use Rattle.relink_driver.proofs.Seen.{address_is}
+use Rattle.relink_driver.proofs.ValuesBySource.{address_is}
 use Rattle.relink_driver.proofs.symbol_values.own_value.Goals as goal
 
 pub returns-in-Section : goal.returns-in-Section

@@ -1,5 +1,5 @@
-use Rattle.std.proofs.Common.{sym, ◌∙◌}
-use Rattle.relink_driver.proofs.Seen.{by_entry, by_name}
+use Rattle.relink_driver.proofs.Common.{sym, ◌∙◌}
+use Rattle.relink_driver.proofs.ValuesBySource.{by_entry, by_name}
 use Rattle.relink_driver.proofs.symbol_values.symbol_value.Goals as goal
 
 pub returns-then-is_local : goal.returns-then-is_local

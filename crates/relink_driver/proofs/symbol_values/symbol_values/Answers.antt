@@ -1,10 +1,7 @@
-use Rattle.std.proofs.Common.{rules, ◌≡◌, length, ℕ, List, [], ◌∷◌, ◌++◌, ◌∙◌, ap, refl, subst, sym}
-use Rattle.std.specs.Prelude.{Some, slice_get}
-use Rattle.std.specs.Option.{option_map}
-use Rattle.std.proofs.lemmas.Option.{slice_get-map, slice_get_read}
-use Rattle.ldmodel_project.specs.Inputs.{shown_input, shown_inputs}
+use Rattle.relink_driver.proofs.Common.{List, Some, [], ap, length, option_map, refl, rules, shown_input, shown_inputs}
+use Rattle.relink_driver.proofs.Common.{slice_get, slice_get-map, slice_get_read, subst, sym, ℕ, ◌++◌, ◌∙◌, ◌∷◌, ◌≡◌}
 use Rattle.emit.specs.relocate.declared.value.SymbolValue.{SymbolValue}
-use Rattle.relink_driver.proofs.Seen.{are_seen}
+use Rattle.relink_driver.proofs.ValuesBySource.{are_seen}
 use Rattle.relink_driver.proofs.Symbols.{TableSoFar, empty_table, one_object_more, whole_table}
 use Rattle.relink_driver.proofs.symbol_values.symbol_values.Goals as goal
 
@@ -36,7 +33,7 @@ pub loop-place-preserved : goal.loop-place-preserved
 loop-place-preserved c =
     let begins : c.len.result ≡ length c.loop-place.values.items = search rules in
     one_object_more c.args.project.now c.args.sources c.inputs-inputs.result.now c.loop-place.place
-    c.loop-place.starts.items c.push.new.self.items c.loop-place.values.items c.add_object.new.values.items
+    c.loop-place.starts.items c.push.new.list.items c.loop-place.values.items c.add_object.new.values.items
     c.index-inputs-place.result c.loop-place-test.true c.index-inputs-place.is
     (c.in_ok-push.ensures.items ∙ ap (λ n. c.loop-place.starts.items ++ n ∷ []) begins)
     c.in_ok-add_object.ensures.long c.in_ok-add_object.ensures.values c.loop-place.invariant

@@ -1,4 +1,4 @@
-use Rattle.ldmodel_project.specs.Inputs.{shown_inputs}
+use Rattle.relink_driver.proofs.Common.{shown_inputs}
 use Rattle.relink_driver.proofs.Symbols.{TableSoFar}
 use Rattle.relink_driver.proofs.symbol_values.symbol_values.Given as goal
 

@@ -1,4 +1,4 @@
-use Rattle.std.proofs.Common.{◌≡◌, take}
+use Rattle.symres.proofs.Common.{take, ◌≡◌}
 use Rattle.symres_decisions.specs.Keyed as keyed
 use Rattle.symres.specs.Entered.{tables_of}
 use Rattle.symres.proofs.entered.by_place.Given as goal

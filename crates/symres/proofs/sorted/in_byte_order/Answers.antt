@@ -1,8 +1,4 @@
-use Rattle.std.proofs.Common.{◌≡◌, map, subst, sym, Vec, Global}
-use Rattle.std.proofs.lemmas.Result.{IfOk-weaker}
-use Rattle.symres.specs.Sorted.{named_number}
-use Rattle.symres.specs.declared.sorted.NamedKey.{NamedKey}
-use Rattle.symres_decisions.specs.NameText.{AreInOrder}
+use Rattle.symres.proofs.Common.{AreInOrder, Global, IfOk-weaker, NamedKey, Vec, map, named_number, subst, sym, ◌≡◌}
 use Rattle.symres.proofs.sorted.in_byte_order.Goals as goal
 
 pub returns-in-Some : goal.returns-in-Some

@@ -1,6 +1,4 @@
-use Rattle.std.proofs.Common.{◌≡◌, ◌≤◌, length, map, take, vec_capacity, vec_len}
-use Rattle.symres.specs.Sorted.{named_number}
-use Rattle.symres_decisions.specs.NameText.{compared_number}
+use Rattle.symres.proofs.Common.{compared_number, length, map, named_number, take, vec_capacity, vec_len, ◌≡◌, ◌≤◌}
 use Rattle.symres.proofs.sorted.named.Given as goal
 
 -- the names before this place, and room for all

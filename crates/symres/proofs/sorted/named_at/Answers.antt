@@ -1,4 +1,4 @@
-use Rattle.std.proofs.Common.{◌∙◌, ℕ, List, ap, get_or, sym}
+use Rattle.symres.proofs.Common.{List, ap, get_or, sym, ℕ, ◌∙◌}
 use Rattle.symres.proofs.sorted.named_at.Goals as goal
 
 pub returns : goal.returns

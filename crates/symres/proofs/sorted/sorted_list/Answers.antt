@@ -1,8 +1,5 @@
-use Rattle.std.proofs.Common.{◌≡◌, ◌∙◌, ap, map, subst, sym, List, Vec, Global}
-use Rattle.std.proofs.lemmas.Result.{IfOk-weaker}
-use Rattle.symres.specs.Sorted.{named_number}
-use Rattle.symres.specs.declared.sorted.NamedKey.{NamedKey}
-use Rattle.symres_decisions.specs.NameText.{AreInOrder, compared_number}
+use Rattle.symres.proofs.Common.{AreInOrder, Global, IfOk-weaker, List, NamedKey, Vec, ap, compared_number, map}
+use Rattle.symres.proofs.Common.{named_number, subst, sym, ◌∙◌, ◌≡◌}
 use Rattle.symres_decisions.specs.declared.sorted_names.ComparedName.{ComparedName}
 use Rattle.symres.proofs.sorted.sorted_list.Goals as goal
 

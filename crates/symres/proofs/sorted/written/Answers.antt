@@ -1,7 +1,6 @@
-use Rattle.std.proofs.Common.{◌∙◌, ◌<◌, ◌++◌, ◌∷◌, [], ℕ, List, ap, arith, length, map, sym, take}
-use Rattle.std.proofs.lemmas.List.{map-append, take_more}
-use Rattle.symres.specs.Sorted.{named_number}
-use Rattle.symres.specs.declared.sorted.NamedKey.{NamedKey}
+use Rattle.symres.proofs.Common.{List, NamedKey, [], ap, arith, length, map, map-append, named_number, sym, take, ℕ}
+use Rattle.symres.proofs.Common.{◌++◌, ◌<◌, ◌∙◌, ◌∷◌}
+use Rattle.std.proofs.lemmas.List.{take_more}
 use Rattle.symres.proofs.Sorting.{Listed}
 use Rattle.symres.proofs.sorted.written.Goals as goal
 

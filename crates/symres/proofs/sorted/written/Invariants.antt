@@ -1,5 +1,4 @@
-use Rattle.std.proofs.Common.{◌≡◌, ◌≤◌, length, map, take, vec_capacity, vec_len}
-use Rattle.symres.specs.Sorted.{named_number}
+use Rattle.symres.proofs.Common.{length, map, named_number, take, vec_capacity, vec_len, ◌≡◌, ◌≤◌}
 use Rattle.symres.proofs.sorted.written.Given as goal
 
 -- the names before this place, and room for all

@@ -1,7 +1,5 @@
-use Rattle.std.proofs.Common.{◌<◌, ◌∙◌, ℕ, List, length, get_or, ap, subst, arith, []}
-use Rattle.elfobj.specs.Raised.{raised}
+use Rattle.symres_decisions.proofs.Common.{IsNamed, List, [], ap, arith, get_or, length, raised, subst, ℕ, ◌<◌, ◌∙◌}
 use Rattle.elfobj.specs.declared.meter.Count.TheVariants as counts
-use Rattle.symres_table.specs.State.{IsNamed}
 use Rattle.symres_decisions.proofs.Counting.{uses_all}
 use Rattle.symres_decisions.proofs.Deciding.{all_complete, all_counted, all_sound, none_decided, one_decided}
 use Rattle.symres_decisions.proofs.Listed.{named_listed}

@@ -1,5 +1,4 @@
-use Rattle.std.proofs.Common.{◌≡◌, ◌∙◌, ℕ, get_or, ap, arith, ⊎_elim, []}
-use Rattle.std.proofs.lemmas.Bool.{cases_lt}
+use Rattle.symres_decisions.proofs.Common.{[], ap, arith, cases_lt, get_or, ℕ, ⊎_elim, ◌∙◌, ◌≡◌}
 use Rattle.symres_decisions.proofs.Listed.{Listed, StandsIn, stands_in}
 use Rattle.symres_decisions.proofs.all.places_for.Goals as goal
 

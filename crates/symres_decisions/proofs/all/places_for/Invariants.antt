@@ -1,5 +1,4 @@
-use Rattle.std.proofs.Common.{◌≡◌, ◌<◌, ℕ, None, length, get_or}
-use Rattle.symres_decisions.specs.Decided.{case_at}
+use Rattle.symres_decisions.proofs.Common.{None, case_at, get_or, length, ℕ, ◌<◌, ◌≡◌}
 use Rattle.symres_decisions.proofs.Listed.{Listed}
 use Rattle.symres_decisions.proofs.all.places_for.Given as goal
 

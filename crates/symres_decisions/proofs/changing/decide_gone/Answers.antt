@@ -1,7 +1,4 @@
-use Rattle.std.proofs.Common.{Option, subst}
-use Rattle.symres_decisions.specs.Change.{declared_by}
-use Rattle.symres_decisions.specs.Texts.{AreOpen}
-use Rattle.symres_decisions.specs.declared.change.ObjectAt.{ObjectAt}
+use Rattle.symres_decisions.proofs.Common.{AreOpen, ObjectAt, Option, declared_by, subst}
 use Rattle.symres_decisions.proofs.Changed.{decided_some}
 use Rattle.symres_decisions.proofs.changing.decide_gone.Goals as goal
 

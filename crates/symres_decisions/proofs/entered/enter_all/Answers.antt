@@ -1,9 +1,5 @@
-use Rattle.std.proofs.Common.{◌≡◌, ◌∙◌, ℕ, ◌≤◌, ◌<◌, List, ap, sym, subst, take, length, get_or, arith, false}
-use Rattle.std.specs.List.{insert}
-use Rattle.std.specs.Prelude.{◌==◌}
-use Rattle.std.proofs.lemmas.List.{length-map, take_all}
-use Rattle.symres_table.specs.State.{State}
-use Rattle.symres_decisions.specs.Keyed.{table_of, tables_of}
+use Rattle.symres_decisions.proofs.Common.{List, State, ap, arith, false, get_or, insert, length, length-map, subst}
+use Rattle.symres_decisions.proofs.Common.{sym, table_of, tables_of, take, take_all, ℕ, ◌<◌, ◌==◌, ◌∙◌, ◌≡◌, ◌≤◌}
 use Rattle.symres_decisions.proofs.Entering.{Table, fresh_at, length-first, one_entered}
 use Rattle.symres_decisions.proofs.entered.enter_all.Goals as goal
 

@@ -1,5 +1,4 @@
-use Rattle.std.proofs.Common.{◌≡◌, take}
-use Rattle.symres_decisions.specs.Keyed.{tables_of}
+use Rattle.symres_decisions.proofs.Common.{tables_of, take, ◌≡◌}
 use Rattle.symres_decisions.proofs.entered.enter_all.Given as goal
 
 -- the objects before this place are entered

@@ -1,4 +1,4 @@
-use Rattle.std.proofs.Common.{◌≡◌}
+use Rattle.symres_decisions.proofs.Common.{◌≡◌}
 use Rattle.symres_decisions.proofs.entered.expect_all.Given as goal
 
 abbrev pub invariant-loop-keyed : goal.invariant-loop-keyed

@@ -1,5 +1,4 @@
-use Rattle.std.proofs.Common.{◌≡◌, ◌∙◌, ℕ, List, [], ap, get_or, subst}
-use Rattle.symres_table.specs.State.{IsNamed}
+use Rattle.symres_decisions.proofs.Common.{IsNamed, List, [], ap, get_or, subst, ℕ, ◌∙◌, ◌≡◌}
 use Rattle.symres_decisions.proofs.ByteOrder.{one_listed}
 use Rattle.symres_decisions.proofs.Listed.{Listed, named_listed, some_name}
 use Rattle.symres_decisions.proofs.OneName.{one_name}
@@ -24,7 +23,8 @@ returns-in-Some c =
     let there : IsNamed s.names key (get_or s.order place e).0 =
     subst (λ (k : ℕ). IsNamed s.names k (get_or s.order place e).0) (c.key_listed-key.ensures e)
     (c.known-known.ensures.listing.sound place e c.requires.place) in
-    ap (λ (n : List ℕ). (n, (get_or s.order place e).1)) (one_name s.names key (get_or s.order place e).0 name there named)
+    ap (λ (n : List ℕ). (n, (get_or s.order place e).1))
+    (one_name s.names key (get_or s.order place e).0 name there named)
     ∙ ap (λ (k : ℕ). (name, k)) (c.key_listed-key.ensures e) in
     one_listed s.order c.args.text c.insert.new.self place (name, key) c.requires.place is c.requires.text
     c.in-Some.ensures

@@ -1,5 +1,4 @@
-use Rattle.std.proofs.Common.{take}
-use Rattle.symres_decisions.specs.NameText.{AreInOrder}
+use Rattle.symres_decisions.proofs.Common.{AreInOrder, take}
 use Rattle.symres_decisions.proofs.kept_text.with_new_names.Given as goal
 
 -- the names before this place

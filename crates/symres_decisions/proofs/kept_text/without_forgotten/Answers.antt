@@ -1,5 +1,4 @@
-use Rattle.std.proofs.Common.{List, Option, subst}
-use Rattle.symres_decisions.specs.Decisions.{IsTextOf}
+use Rattle.symres_decisions.proofs.Common.{IsTextOf, List, Option, subst}
 use Rattle.symres_decisions.proofs.ByteOrder.{text_forgotten}
 use Rattle.symres_decisions.proofs.Listed.{Listed}
 use Rattle.symres_decisions.proofs.kept_text.without_forgotten.Goals as goal

@@ -1,5 +1,4 @@
-use Rattle.std.proofs.Common.{◌≡◌, length}
-use Rattle.symres_decisions.specs.Texts.{AreNoted}
+use Rattle.symres_decisions.proofs.Common.{AreNoted, length, ◌≡◌}
 use Rattle.symres_decisions.proofs.noted.note_all.Given as goal
 
 -- the keys of the symbols before this one are noted

@@ -1,6 +1,4 @@
-use Rattle.std.proofs.Common.{◌≡◌, ◌∙◌, ℕ, [], get_or, ap, arith, subst, sym, ⊎_elim}
-use Rattle.std.proofs.lemmas.Bool.{cases_lt}
-use Rattle.symres_decisions.specs.Decided.{HasCase}
+use Rattle.symres_decisions.proofs.Common.{HasCase, [], ap, arith, cases_lt, get_or, subst, sym, ℕ, ⊎_elim, ◌∙◌, ◌≡◌}
 use Rattle.symres_decisions.proofs.Listed.{named_listed}
 use Rattle.symres_decisions.proofs.MakingRoom.{unused_at}
 use Rattle.symres_decisions.proofs.room.add_all_given.Goals as goal

@@ -1,5 +1,4 @@
-use Rattle.std.proofs.Common.{◌<◌, ◌≤◌, ℕ, get_or}
-use Rattle.symres_decisions.specs.Decided.{AreCases, HasCase}
+use Rattle.symres_decisions.proofs.Common.{AreCases, HasCase, get_or, ℕ, ◌<◌, ◌≤◌}
 use Rattle.symres_decisions.proofs.Listed.{Listed}
 use Rattle.symres_decisions.proofs.room.add_all_given.Given as goal
 

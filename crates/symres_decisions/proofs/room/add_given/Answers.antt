@@ -1,7 +1,4 @@
-use Rattle.std.proofs.Common.{List, Option, subst, sym}
-use Rattle.ldmodel.specs.declared.names.Case.{Case}
-use Rattle.ldmodel.specs.declared.names.ObjectKey.{ObjectKey}
-use Rattle.symres_decisions.specs.Decided.{AreCases, HasCase}
+use Rattle.symres_decisions.proofs.Common.{AreCases, Case, HasCase, List, ObjectKey, Option, subst, sym}
 use Rattle.symres_decisions.proofs.MakingRoom.{has_given, kept_given, sound_given}
 use Rattle.symres_decisions.proofs.OneName.{case_unused}
 use Rattle.symres_decisions.proofs.room.add_given.Goals as goal

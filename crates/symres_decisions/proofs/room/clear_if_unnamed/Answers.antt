@@ -1,7 +1,4 @@
-use Rattle.std.proofs.Common.{◌∙◌, List, Option, ap}
-use Rattle.ldmodel.specs.declared.names.Case.{Case}
-use Rattle.ldmodel.specs.declared.names.ObjectKey.{ObjectKey}
-use Rattle.symres_decisions.specs.Decided.{case_at}
+use Rattle.symres_decisions.proofs.Common.{Case, List, ObjectKey, Option, ap, case_at, ◌∙◌}
 use Rattle.symres_decisions.proofs.MakingRoom.{cleared_if, kept_if}
 use Rattle.symres_decisions.proofs.room.clear_if_unnamed.Goals as goal
 

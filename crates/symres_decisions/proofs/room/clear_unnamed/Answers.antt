@@ -1,4 +1,4 @@
-use Rattle.std.proofs.Common.{arith}
+use Rattle.symres_decisions.proofs.Common.{arith}
 use Rattle.symres_decisions.proofs.MakingRoom.{all_cleaned, none_cleaned, one_cleaned}
 use Rattle.symres_decisions.proofs.room.clear_unnamed.Goals as goal
 

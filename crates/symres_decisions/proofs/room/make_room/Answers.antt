@@ -1,4 +1,4 @@
-use Rattle.std.proofs.Common.{length, arith, refl}
+use Rattle.symres_decisions.proofs.Common.{arith, length, refl}
 use Rattle.symres_decisions.proofs.MakingRoom.{below_after, complete_refused, old_again, old_or_new}
 use Rattle.symres_decisions.proofs.MakingRoom.{text_none_more, unused_after, used_twice, whole_same}
 use Rattle.symres_decisions.proofs.Used.{used_more}

@@ -1,5 +1,4 @@
-use Rattle.std.proofs.Common.{◌∙◌, ap, sym}
-use Rattle.ldmodel.specs.ScriptNames.{is_assigned, is_assignment, is_provided}
+use Rattle.symres_decisions.proofs.Common.{ap, is_assigned, is_assignment, is_provided, sym, ◌∙◌}
 use Rattle.symres_decisions.proofs.OneName.{assigned_only, other_only}
 use Rattle.symres_decisions.proofs.single.given_case.Goals as goal
 

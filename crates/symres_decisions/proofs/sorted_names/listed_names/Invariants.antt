@@ -1,6 +1,5 @@
-use Rattle.std.proofs.Common.{◌≡◌, ◌++◌, map}
+use Rattle.symres_decisions.proofs.Common.{compared_number, map, ◌++◌, ◌≡◌}
 use Rattle.symres_table.specs.Known.{entry_spelled}
-use Rattle.symres_decisions.specs.NameText.{compared_number}
 use Rattle.symres_decisions.proofs.sorted_names.listed_names.Given as goal
 
 -- the names so far, and those that are left

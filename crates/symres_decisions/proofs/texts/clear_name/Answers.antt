@@ -1,8 +1,5 @@
-use Rattle.std.proofs.Common.{◌++◌, ◌∷◌, [], List, Option, get_or, subst, sym}
-use Rattle.elfobj.specs.Symbols.{NamedSymbol, null_symbol}
-use Rattle.ldmodel.specs.declared.names.Case.{Case}
-use Rattle.ldmodel.specs.declared.names.ObjectKey.{ObjectKey}
-use Rattle.symres_decisions.specs.Texts.{IsCleared}
+use Rattle.symres_decisions.proofs.Common.{Case, IsCleared, List, NamedSymbol, ObjectKey, Option, [], get_or}
+use Rattle.symres_decisions.proofs.Common.{null_symbol, subst, sym, ◌++◌, ◌∷◌}
 use Rattle.symres_decisions.proofs.Clearing.{cleared_local, cleared_seen}
 use Rattle.symres_decisions.proofs.Keys.{has_name}
 use Rattle.symres_decisions.proofs.texts.clear_name.Goals as goal

@@ -1,7 +1,5 @@
-use Rattle.std.proofs.Common.{◌<◌, List, ap, arith, length, subst, take}
-use Rattle.std.proofs.lemmas.List.{length-map, take_all}
-use Rattle.elfobj.specs.Symbols.{NamedSymbol, null_symbol}
-use Rattle.symres_decisions.specs.Texts.{IsCleared}
+use Rattle.symres_decisions.proofs.Common.{IsCleared, List, NamedSymbol, ap, arith, length, length-map, null_symbol}
+use Rattle.symres_decisions.proofs.Common.{subst, take, take_all, ◌<◌}
 use Rattle.symres_decisions.proofs.Clearing.{next_symbols, none_cleared}
 use Rattle.symres_decisions.proofs.texts.clear_names.Goals as goal
 

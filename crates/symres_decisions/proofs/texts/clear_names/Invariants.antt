@@ -1,5 +1,4 @@
-use Rattle.std.proofs.Common.{take}
-use Rattle.symres_decisions.specs.Texts.{IsCleared}
+use Rattle.symres_decisions.proofs.Common.{IsCleared, take}
 use Rattle.symres_decisions.proofs.texts.clear_names.Given as goal
 
 -- the names of the symbols before this one are cleared

@@ -1,6 +1,4 @@
-use Rattle.std.proofs.Common.{get_or}
-use Rattle.elfobj.specs.Symbols.{NamedSymbol, null_symbol}
-use Rattle.symres_decisions.specs.Counted.{declared_in}
+use Rattle.symres_decisions.proofs.Common.{NamedSymbol, declared_in, get_or, null_symbol}
 use Rattle.symres_decisions.proofs.Clearing.{declares_at}
 use Rattle.symres_decisions.proofs.Keys.{has_name}
 use Rattle.symres_decisions.proofs.NamesDecided.{named_local, named_seen}
@@ -21,7 +19,8 @@ pub returns-in-Some-clause-decided : goal.returns-in-Some-clause-decided
 returns-in-Some-clause-decided c = λ start m seen before d free h.
     let x : NamedSymbol = get_or c.args.object.now.symbols c.args.number d in
     named_seen c.args.script.now c.args.names.now start c.args.cases.now c.decide_once.new.cases m c.args.meter.now
-    c.decide_once.new.meter (declared_in c.args.object.now.symbols) seen before x c.in-Some.key.0 c.requires.distinct (c.in-Some.ensures d).0
+    c.decide_once.new.meter (declared_in c.args.object.now.symbols) seen before x c.in-Some.key.0 c.requires.distinct
+    (c.in-Some.ensures d).0
     (c.in-Some.ensures d).1
     (c.requires.room c.in-Some.key.0 (has_name c.args.names.now.names x c.in-Some.key (c.in-Some.ensures d)))
     free (declares_at c.args.object.now.symbols c.args.number d c.requires.number (c.in-Some.ensures d).0)

@@ -1,7 +1,5 @@
-use Rattle.std.proofs.Common.{◌<◌, ◌∙◌, List, ap, arith, length, refl, subst, take}
-use Rattle.std.proofs.lemmas.List.{length-map, take_all}
-use Rattle.elfobj.specs.Symbols.{NamedSymbol, null_symbol}
-use Rattle.symres_decisions.specs.Texts.{DecidedFor}
+use Rattle.symres_decisions.proofs.Common.{DecidedFor, List, NamedSymbol, ap, arith, length, length-map, null_symbol}
+use Rattle.symres_decisions.proofs.Common.{refl, subst, take, take_all, ◌<◌, ◌∙◌}
 use Rattle.symres_decisions.proofs.Clearing.{next_symbols}
 use Rattle.symres_decisions.proofs.NamesDecided.{none_named}
 use Rattle.symres_decisions.proofs.texts.decide_names.Goals as goal

@@ -1,7 +1,5 @@
-use Rattle.std.proofs.Common.{◌≡◌, ℕ, List, length, take}
-use Rattle.symres_decisions.specs.Decided.{AreCases}
-use Rattle.symres_decisions.specs.Counted.{declared_in}
-use Rattle.symres_decisions.specs.Texts.{AreDone, AreOpen, DecidedFor}
+use Rattle.symres_decisions.proofs.Common.{AreCases, AreDone, AreOpen, DecidedFor, List, declared_in, length, take, ℕ}
+use Rattle.symres_decisions.proofs.Common.{◌≡◌}
 use Rattle.symres_decisions.proofs.texts.decide_names.Given as goal
 
 -- the names of the symbols before this one are decided

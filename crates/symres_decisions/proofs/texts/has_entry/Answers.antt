@@ -1,5 +1,4 @@
-use Rattle.std.proofs.Common.{get_or, length}
-use Rattle.elfobj.specs.Symbols.{NamedSymbol}
+use Rattle.symres_decisions.proofs.Common.{NamedSymbol, get_or, length}
 use Rattle.symres_table.specs.Tally.{declaration_of}
 use Rattle.symres_decisions.proofs.Used.{local_lost, seen_used, some_there, used_row}
 use Rattle.symres_decisions.proofs.texts.has_entry.Goals as goal
@@ -10,7 +9,8 @@ returns-in-Some c = λ sure before d h.
     let tables = c.args.names.now.objects in
     seen_used tables before x (c.in-Some.ensures d).0
     (used_row tables x.name c.entries.result.now (declaration_of x.name)
-    (c.entries.ensures x.name (c.in-Some.ensures d).1) (some_there (length c.entries.result.now) c.is_empty.result c.is_empty.ensures sure))
+    (c.entries.ensures x.name (c.in-Some.ensures d).1)
+    (some_there (length c.entries.result.now) c.is_empty.result c.is_empty.ensures sure))
     h
 
 pub returns-in-None : goal.returns-in-None

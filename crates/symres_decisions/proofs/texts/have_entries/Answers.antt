@@ -1,7 +1,5 @@
-use Rattle.std.proofs.Common.{◌<◌, List, ap, arith, length, subst, take}
-use Rattle.std.proofs.lemmas.List.{length-map, take_all}
-use Rattle.elfobj.specs.Symbols.{NamedSymbol, null_symbol}
-use Rattle.symres_decisions.specs.Room.{HaveEntries}
+use Rattle.symres_decisions.proofs.Common.{HaveEntries, List, NamedSymbol, ap, arith, length, length-map, null_symbol}
+use Rattle.symres_decisions.proofs.Common.{subst, take, take_all, ◌<◌}
 use Rattle.symres_decisions.proofs.Clearing.{next_symbols}
 use Rattle.symres_decisions.proofs.Used.{none_lost}
 use Rattle.symres_decisions.proofs.texts.have_entries.Goals as goal

@@ -1,5 +1,4 @@
-use Rattle.std.proofs.Common.{take}
-use Rattle.symres_decisions.specs.Room.{HaveEntries}
+use Rattle.symres_decisions.proofs.Common.{HaveEntries, take}
 use Rattle.symres_decisions.proofs.texts.have_entries.Given as goal
 
 -- the names of the symbols before this one have entries

@@ -1,4 +1,4 @@
-use Rattle.std.proofs.Common.{◌∙◌, sym}
+use Rattle.symres_decisions.proofs.Common.{sym, ◌∙◌}
 use Rattle.symres_decisions.proofs.Keys.{is_hidden, is_seen}
 use Rattle.symres_decisions.proofs.texts.key_of.Goals as goal
 

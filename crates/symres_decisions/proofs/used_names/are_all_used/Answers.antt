@@ -1,5 +1,4 @@
-use Rattle.std.proofs.Common.{◌∙◌}
-use Rattle.std.proofs.lemmas.Bool.{eqb-true}
+use Rattle.symres_decisions.proofs.Common.{eqb-true, ◌∙◌}
 use Rattle.symres_decisions.proofs.Used.{used_named}
 use Rattle.symres_decisions.proofs.used_names.are_all_used.Goals as goal
 

@@ -1,4 +1,4 @@
-use Rattle.symres_decisions.specs.Decisions.{AreUsedBelow}
+use Rattle.symres_decisions.proofs.Common.{AreUsedBelow}
 use Rattle.symres_decisions.proofs.used_names.count_used.Given as goal
 
 -- the names before this place have entries

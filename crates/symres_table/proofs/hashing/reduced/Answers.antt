@@ -1,5 +1,4 @@
-use Rattle.std.proofs.Common.{arith, refl}
-use Rattle.symres_table.specs.Hashing.{reduced}
+use Rattle.symres_table.proofs.Common.{arith, reduced, refl}
 use Rattle.symres_table.proofs.hashing.reduced.Goals as goal
 
 pub overflow_add-once : goal.overflow_add-once

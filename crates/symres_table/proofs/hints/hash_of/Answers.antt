@@ -1,5 +1,4 @@
-use Rattle.std.proofs.Common.{arith, sym}
-use Rattle.std.proofs.lemmas.List.{length-take-le}
+use Rattle.symres_table.proofs.Common.{arith, length-take-le, sym}
 use Rattle.symres_table.proofs.hints.hash_of.Goals as goal
 
 pub slice_bounds-add_bytes-end : goal.slice_bounds-add_bytes-end

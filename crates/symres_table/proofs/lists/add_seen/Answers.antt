@@ -1,10 +1,5 @@
-use Rattle.std.proofs.Common.{◌≡◌, ◌∙◌, ◌+◌, ◌++◌, ◌∷◌, [], true, false, not, ap, sym, subst, take, get_or}
-use Rattle.std.proofs.lemmas.List.{take_more}
-use Rattle.elfobj.specs.declared.symbol.Symbol.{Symbol}
-use Rattle.ldmodel.specs.Names.{is_local}
-use Rattle.symres_table.specs.State.{IsNamed}
-use Rattle.symres_table.specs.declared.symbol.Numbered.{Numbered}
-use Rattle.symres_table.specs.Spelled.{SpellsSeen, is_seen}
+use Rattle.symres_table.proofs.Common.{IsNamed, Numbered, SpellsSeen, Symbol, [], ap, false, get_or, is_local, is_seen}
+use Rattle.symres_table.proofs.Common.{not, subst, sym, take, take_more, true, ◌++◌, ◌+◌, ◌∙◌, ◌∷◌, ◌≡◌}
 use Rattle.symres_table.proofs.Naming.{nothing, visible_is}
 use Rattle.symres_table.proofs.Spelling.{symbol_is, spelled_seen, seen_skip, seen_push, no_symbol}
 use Rattle.symres_table.proofs.lists.add_seen.Goals as goal

@@ -1,5 +1,5 @@
-use Rattle.std.proofs.Common.{arith}
-use Rattle.symres_table.proofs.Parked.{none_long}
+use Rattle.symres_table.proofs.Common.{arith}
+use Rattle.symres_table.proofs.ListSetAside.{none_long}
 use Rattle.symres_table.proofs.lists.find.Goals as goal
 
 pub unreachable-requires : goal.unreachable-requires

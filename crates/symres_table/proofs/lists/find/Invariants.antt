@@ -1,6 +1,5 @@
-use Rattle.std.proofs.Common.{◌<◌, ℕ, get_or, Vec, Global}
-use Rattle.std.specs.Vec.{vec_capacity}
-use Rattle.symres_table.specs.declared.symbol.Numbered.{Numbered}
+use Rattle.symres_table.proofs.Common.{Numbered, Vec, get_or, vec_capacity, ℕ, ◌<◌}
+use Rattle.std.proofs.Common.{Global}
 use Rattle.symres_table.proofs.lists.find.Given as goal
 
 abbrev pub invariant-loop-at : goal.invariant-loop-at

@@ -1,7 +1,5 @@
-use Rattle.std.proofs.Common.{◌∙◌, ◌<◌, ◌+◌, length, ap, arith, subst, sym, take, get_or}
-use Rattle.std.proofs.lemmas.List.{take_more, length-map}
-use Rattle.elfobj.specs.Symbols.{NamedSymbol}
-use Rattle.symres_table.specs.Spelled.{AreOf}
+use Rattle.symres_table.proofs.Common.{AreOf, NamedSymbol, ap, arith, get_or, length, length-map, subst, sym, take}
+use Rattle.symres_table.proofs.Common.{take_more, ◌+◌, ◌<◌, ◌∙◌}
 use Rattle.symres_table.proofs.Repeating.{of_push}
 use Rattle.symres_table.proofs.Spelling.{spells_push, no_symbol}
 use Rattle.symres_table.proofs.lists.number_all.Goals as goal

@@ -1,6 +1,4 @@
-use Rattle.std.proofs.Common.{◌≡◌, take}
-use Rattle.std.specs.Vec.{vec_len, vec_capacity}
-use Rattle.symres_table.specs.Spelled.{AreOf, Spells}
+use Rattle.symres_table.proofs.Common.{AreOf, Spells, take, vec_capacity, vec_len, ◌≡◌}
 use Rattle.symres_table.proofs.lists.number_all.Given as goal
 
 abbrev pub invariant-loop-index : goal.invariant-loop-index

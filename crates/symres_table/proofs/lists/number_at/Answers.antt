@@ -1,7 +1,5 @@
-use Rattle.std.proofs.Common.{◌≡◌, ◌∙◌, ◌<◌, arith, ap, false, get_or, length, refl, subst, sym}
-use Rattle.std.specs.Prelude.{slice_range}
-use Rattle.ldmodel.specs.Names.{is_local}
-use Rattle.symres_table.specs.State.{IsNamed}
+use Rattle.symres_table.proofs.Common.{IsNamed, ap, arith, false, get_or, is_local, length, refl, slice_range, subst}
+use Rattle.symres_table.proofs.Common.{sym, ◌<◌, ◌∙◌, ◌≡◌}
 use Rattle.symres_table.proofs.Naming.{nothing, visible_is}
 use Rattle.symres_table.proofs.Spelling.{name_is}
 use Rattle.symres_table.proofs.lists.number_at.Goals as goal

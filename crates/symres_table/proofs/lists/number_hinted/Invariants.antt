@@ -1,4 +1,4 @@
-use Rattle.symres_table.specs.Spelled.{AreOf}
+use Rattle.symres_table.proofs.Common.{AreOf}
 use Rattle.symres_table.proofs.lists.number_hinted.Given as goal
 
 abbrev pub invariant-loop-number : goal.invariant-loop-number

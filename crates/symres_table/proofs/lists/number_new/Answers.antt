@@ -1,5 +1,4 @@
-use Rattle.std.proofs.Common.{rules, subst, sym}
-use Rattle.symres_table.specs.Spelled.{AreOf}
+use Rattle.symres_table.proofs.Common.{AreOf, rules, subst, sym}
 use Rattle.symres_table.proofs.Spelling.{adds_both}
 use Rattle.symres_table.proofs.lists.number_new.Goals as goal
 

@@ -1,7 +1,4 @@
-use Rattle.std.proofs.Common.{take}
-use Rattle.symres_table.specs.Known.{AddsNames}
-use Rattle.symres_table.specs.Spelled.{AreOf, SpellsSeen}
-use Rattle.symres_table.specs.State.{KeepsNames}
+use Rattle.symres_table.proofs.Common.{AddsNames, AreOf, KeepsNames, SpellsSeen, take}
 use Rattle.symres_table.proofs.lists.number_new.Given as goal
 
 abbrev pub invariant-loop-number : goal.invariant-loop-number

@@ -1,9 +1,6 @@
-use Rattle.std.proofs.Common.{◌∙◌, ◌<◌, ◌+◌, length, ap, arith, cond, not, take, get_or}
-use Rattle.std.proofs.lemmas.List.{take_more, length-map}
-use Rattle.elfobj.specs.Symbols.{NamedSymbol}
-use Rattle.elfobj.specs.declared.symbol.Symbol.{Symbol}
-use Rattle.ldmodel.specs.Names.{is_local}
-use Rattle.symres_table.proofs.Seen.{seen_few, seen_next}
+use Rattle.symres_table.proofs.Common.{NamedSymbol, Symbol, ap, arith, cond, get_or, is_local, length, length-map, not}
+use Rattle.symres_table.proofs.Common.{take, take_more, ◌+◌, ◌<◌, ◌∙◌}
+use Rattle.symres_table.proofs.VisibleSymbols.{seen_few, seen_next}
 use Rattle.symres_table.proofs.Spelling.{spells_push, no_symbol}
 use Rattle.symres_table.proofs.lists.number_seen.Goals as goal
 

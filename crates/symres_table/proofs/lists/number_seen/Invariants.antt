@@ -1,6 +1,5 @@
-use Rattle.std.proofs.Common.{◌≡◌, ℕ, List, Option, filter, length, take}
-use Rattle.std.specs.Vec.{vec_len, vec_capacity}
-use Rattle.symres_table.specs.Spelled.{is_seen, Spells, SpellsSeen}
+use Rattle.symres_table.proofs.Common.{List, Option, Spells, SpellsSeen, filter, is_seen, length, take, vec_capacity}
+use Rattle.symres_table.proofs.Common.{vec_len, ℕ, ◌≡◌}
 use Rattle.symres_table.proofs.lists.number_seen.Given as goal
 
 abbrev pub invariant-loop-index : goal.invariant-loop-index

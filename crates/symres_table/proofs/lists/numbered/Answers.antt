@@ -1,9 +1,5 @@
-use Rattle.std.proofs.Common.{◌≡◌, ◌∙◌, false, ap, sym, subst, get_or, Some}
-use Rattle.std.specs.Prelude.{IfSome}
-use Rattle.elfobj.specs.Symbols.{NamedSymbol}
-use Rattle.symres_table.specs.State.{IsNamed}
-use Rattle.elfobj.specs.declared.symbol.Symbol.{Symbol}
-use Rattle.ldmodel.specs.Names.{is_local}
+use Rattle.symres_table.proofs.Common.{IfSome, IsNamed, NamedSymbol, Some, Symbol, ap, false, get_or, is_local, subst}
+use Rattle.symres_table.proofs.Common.{sym, ◌∙◌, ◌≡◌}
 use Rattle.symres_table.proofs.Naming.{nothing, visible_is}
 use Rattle.symres_table.proofs.Spelling.{symbol_is, name_is, spelled_seen, no_symbol}
 use Rattle.symres_table.proofs.lists.numbered.Goals as goal

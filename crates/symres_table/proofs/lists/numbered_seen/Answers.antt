@@ -1,10 +1,7 @@
-use Rattle.std.proofs.Common.{◌≡◌, ◌∙◌, true, not, ap, arith, sym, subst, get_or}
-use Rattle.elfobj.specs.declared.symbol.Symbol.{Symbol}
-use Rattle.ldmodel.specs.Names.{is_local}
-use Rattle.symres_table.specs.Spelled.{is_seen}
-use Rattle.symres_table.specs.State.{IsNamed}
+use Rattle.symres_table.proofs.Common.{IsNamed, Symbol, ap, arith, get_or, is_local, is_seen, not, subst, sym, true}
+use Rattle.symres_table.proofs.Common.{◌∙◌, ◌≡◌}
 use Rattle.symres_table.proofs.Naming.{nothing, visible_is}
-use Rattle.symres_table.proofs.Seen.{seen_named, seen_within}
+use Rattle.symres_table.proofs.VisibleSymbols.{seen_named, seen_within}
 use Rattle.symres_table.proofs.Spelling.{symbol_is, spelled_seen, no_symbol}
 use Rattle.symres_table.proofs.lists.numbered_seen.Goals as goal
 

@@ -1,7 +1,5 @@
-use Rattle.std.proofs.Common.{◌∙◌, ap, ◌++◌, ◌∷◌, []}
-use Rattle.std.specs.Vec.{vec_capacity}
-use Rattle.symres_table.specs.Lists.{rooms}
-use Rattle.symres_table.proofs.Parked.{rooms_push}
+use Rattle.symres_table.proofs.Common.{[], ap, rooms, vec_capacity, ◌++◌, ◌∙◌, ◌∷◌}
+use Rattle.symres_table.proofs.ListSetAside.{rooms_push}
 use Rattle.symres_table.proofs.lists.park.Goals as goal
 
 pub returns-clause-same : goal.returns-clause-same

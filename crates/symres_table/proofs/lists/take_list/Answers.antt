@@ -1,8 +1,6 @@
-use Rattle.std.proofs.Common.{◌<◌, ◌∙◌, ap, sym, arith, length}
-use Rattle.std.proofs.lemmas.List.{get_or-map, length-map}
-use Rattle.indexmap.proofs.SetLemmas.{map-remove}
-use Rattle.symres_table.specs.Lists.{rooms}
-use Rattle.symres_table.proofs.Parked.{room_of}
+use Rattle.symres_table.proofs.Common.{ap, arith, length, length-map, map-remove, rooms, sym, ◌<◌, ◌∙◌}
+use Rattle.std.proofs.lemmas.List.{get_or-map}
+use Rattle.symres_table.proofs.ListSetAside.{room_of}
 use Rattle.symres_table.proofs.lists.take_list.Goals as goal
 
 pub returns-clause-taken : goal.returns-clause-taken

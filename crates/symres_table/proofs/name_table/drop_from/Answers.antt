@@ -1,4 +1,4 @@
-use Rattle.std.proofs.Common.{rules, nat_lt}
+use Rattle.symres_table.proofs.Common.{nat_lt, rules}
 use Rattle.symres_table.proofs.Cutting.{retained_by}
 use Rattle.symres_table.proofs.name_table.drop_from.Goals as goal
 

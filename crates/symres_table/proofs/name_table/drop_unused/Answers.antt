@@ -1,5 +1,4 @@
-use Rattle.std.proofs.Common.{rules, ◌≡◌, ◌∙◌, ap, arith, ◌+◌, cond, get_or, None}
-use Rattle.symres_table.specs.Numbers.{is_used}
+use Rattle.symres_table.proofs.Common.{None, ap, arith, cond, get_or, is_used, rules, ◌+◌, ◌∙◌, ◌≡◌}
 use Rattle.symres_table.proofs.Forgetting.{retained}
 use Rattle.symres_table.proofs.name_table.drop_unused.Goals as goal
 

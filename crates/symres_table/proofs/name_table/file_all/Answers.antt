@@ -1,5 +1,5 @@
-use Rattle.std.proofs.Common.{◌<◌, arith, length}
-use Rattle.symres_table.proofs.Filed.{file_slot, files_more}
+use Rattle.symres_table.proofs.Common.{arith, length, ◌<◌}
+use Rattle.symres_table.proofs.PlacesByNumber.{file_slot, files_more}
 use Rattle.symres_table.proofs.name_table.file_all.Goals as goal
 
 pub file-requires : goal.file-requires

@@ -1,4 +1,4 @@
-use Rattle.symres_table.specs.Known.{Files}
+use Rattle.symres_table.proofs.Common.{Files}
 use Rattle.symres_table.proofs.name_table.file_all.Given as goal
 
 abbrev pub invariant-loop-place : goal.invariant-loop-place

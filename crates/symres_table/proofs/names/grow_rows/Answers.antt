@@ -1,10 +1,6 @@
-use Rattle.std.proofs.Common.{◌≡◌, ◌<◌, ◌≤◌, length, take, arith, subst}
-use Rattle.std.specs.List.{All}
-use Rattle.std.proofs.lemmas.List.{take_all}
-use Rattle.std.proofs.lemmas.List.Elements.{All-more}
+use Rattle.symres_table.proofs.Common.{All, All-more, Numbered, arith, length, subst, take, take_all, ◌<◌, ◌≡◌, ◌≤◌}
 use Rattle.symres_table.proofs.Naming.{nothing}
-use Rattle.symres_table.specs.declared.symbol.Numbered.{Numbered}
-use Rattle.symres_table.proofs.Ready.{grows_trans}
+use Rattle.symres_table.proofs.RowsOnlyGrow.{grows_trans}
 use Rattle.symres_table.proofs.names.grow_rows.Goals as goal
 
 pub loop-at-preserved : goal.loop-at-preserved

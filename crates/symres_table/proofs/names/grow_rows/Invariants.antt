@@ -1,7 +1,4 @@
-use Rattle.std.proofs.Common.{◌<◌, length, take}
-use Rattle.std.specs.List.{All}
-use Rattle.symres_table.specs.declared.symbol.Numbered.{Numbered}
-use Rattle.symres_table.specs.Objects.{GrowsRoom}
+use Rattle.symres_table.proofs.Common.{All, GrowsRoom, Numbered, length, take, ◌<◌}
 use Rattle.symres_table.proofs.names.grow_rows.Given as goal
 
 abbrev pub invariant-loop-at : goal.invariant-loop-at

@@ -1,6 +1,5 @@
-use Rattle.std.proofs.Common.{◌≡◌, ◌∙◌, ap, length, take}
+use Rattle.symres_table.proofs.Common.{[], ap, append-nil, length, sym, take, ◌∙◌, ◌≡◌}
 use Rattle.symres_table.proofs.Joined.{take_first}
-use Rattle.std.proofs.Common.{[], append-nil, sym}
 use Rattle.symres_table.proofs.Pairs.{same_names}
 use Rattle.symres_table.proofs.names.make_ready_or_not.Goals as goal
 

@@ -1,6 +1,4 @@
-use Rattle.std.proofs.Common.{◌<◌, ◌+◌, ◌-◌, ◌/◌, ℕ, length, arith, ap}
-use Rattle.std.proofs.lemmas.List.{get_or_default}
-use Rattle.symres_table.specs.declared.places.PlacedKey.{PlacedKey}
+use Rattle.symres_table.proofs.Common.{PlacedKey, ap, arith, get_or_default, length, ℕ, ◌+◌, ◌-◌, ◌/◌, ◌<◌}
 use Rattle.symres_table.proofs.Finding.{below_middle, above_middle}
 use Rattle.symres_table.proofs.places.count_below.Goals as goal
 

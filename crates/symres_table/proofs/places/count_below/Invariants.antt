@@ -1,5 +1,4 @@
-use Rattle.std.proofs.Common.{◌<◌, ◌≤◌, ◌-◌, ℕ, length, get_or}
-use Rattle.symres_table.specs.declared.places.PlacedKey.{PlacedKey}
+use Rattle.symres_table.proofs.Common.{PlacedKey, get_or, length, ℕ, ◌-◌, ◌<◌, ◌≤◌}
 use Rattle.symres_table.proofs.places.count_below.Given as goal
 
 abbrev pub invariant-loop-low : goal.invariant-loop-low

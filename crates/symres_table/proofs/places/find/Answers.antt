@@ -1,5 +1,4 @@
-use Rattle.std.proofs.Common.{sym, rules, ◌≡◌, ◌<◌, get_or, length, arith}
-use Rattle.std.proofs.lemmas.Bool.{eqb-false, eqb-true}
+use Rattle.symres_table.proofs.Common.{arith, eqb-false, eqb-true, get_or, length, rules, sym, ◌<◌, ◌≡◌}
 use Rattle.symres_table.proofs.Finding.{found_here, found_other, found_past}
 use Rattle.symres_table.proofs.places.find.Goals as goal
 

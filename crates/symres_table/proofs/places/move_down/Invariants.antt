@@ -1,6 +1,4 @@
-use Rattle.std.proofs.Common.{◌≡◌, ◌<◌, ◌≤◌, ℕ, length, get_or}
-use Rattle.symres_table.specs.declared.places.PlacedKey.{PlacedKey}
-use Rattle.symres_table.specs.Places.{down}
+use Rattle.symres_table.proofs.Common.{PlacedKey, down, get_or, length, ℕ, ◌<◌, ◌≡◌, ◌≤◌}
 use Rattle.symres_table.proofs.places.move_down.Given as goal
 
 abbrev pub invariant-loop-place : goal.invariant-loop-place

@@ -1,4 +1,4 @@
-use Rattle.std.proofs.Common.{arith}
+use Rattle.symres_table.proofs.Common.{arith}
 use Rattle.symres_table.proofs.Settling.{table_added, table_last, all_grow, appended_grows}
 use Rattle.symres_table.proofs.rows.add_all.Goals as goal
 

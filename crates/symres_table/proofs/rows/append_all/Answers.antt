@@ -1,6 +1,5 @@
-use Rattle.std.proofs.Common.{◌≡◌, take, arith, subst, get_or, sym}
-use Rattle.std.proofs.lemmas.List.{take_more, take_all, get_or_default}
-use Rattle.symres_table.specs.Steps.{Appended}
+use Rattle.symres_table.proofs.Common.{Appended, arith, get_or, get_or_default, subst, sym, take, take_all, take_more}
+use Rattle.symres_table.proofs.Common.{◌≡◌}
 use Rattle.symres_table.proofs.Adding.{room_left}
 use Rattle.symres_table.proofs.Settling.{appended_start, appended_grows}
 use Rattle.symres_table.proofs.Naming.{nothing}

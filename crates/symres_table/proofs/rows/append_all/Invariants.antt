@@ -1,5 +1,4 @@
-use Rattle.std.proofs.Common.{take}
-use Rattle.symres_table.specs.Steps.{Appended}
+use Rattle.symres_table.proofs.Common.{Appended, take}
 use Rattle.symres_table.proofs.rows.append_all.Given as goal
 
 abbrev pub invariant-loop-symbol : goal.invariant-loop-symbol

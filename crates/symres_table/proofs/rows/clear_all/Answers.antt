@@ -1,6 +1,4 @@
-use Rattle.std.proofs.Common.{◌≡◌, take, subst, sym}
-use Rattle.std.proofs.lemmas.List.{take_more, take_all}
-use Rattle.symres_table.specs.Steps.{ClearedWhere}
+use Rattle.symres_table.proofs.Common.{ClearedWhere, subst, sym, take, take_all, take_more, ◌≡◌}
 use Rattle.symres_table.proofs.Cleared.{cleared_start}
 use Rattle.symres_table.proofs.Naming.{nothing}
 use Rattle.symres_table.proofs.rows.clear_all.Goals as goal

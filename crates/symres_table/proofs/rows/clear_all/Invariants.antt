@@ -1,5 +1,4 @@
-use Rattle.std.proofs.Common.{take}
-use Rattle.symres_table.specs.Steps.{ClearedWhere}
+use Rattle.symres_table.proofs.Common.{ClearedWhere, take}
 use Rattle.symres_table.proofs.rows.clear_all.Given as goal
 
 abbrev pub invariant-loop-symbol : goal.invariant-loop-symbol

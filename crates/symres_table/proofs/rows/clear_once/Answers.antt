@@ -1,5 +1,4 @@
-use Rattle.std.proofs.Common.{◌∙◌, ap, sym}
-use Rattle.symres_table.specs.Steps.{ends_in}
+use Rattle.symres_table.proofs.Common.{ap, ends_in, sym, ◌∙◌}
 use Rattle.symres_table.proofs.Cleared.{marked_stays}
 use Rattle.symres_table.proofs.rows.clear_once.Goals as goal
 

@@ -1,5 +1,4 @@
-use Rattle.std.proofs.Common.{◌≡◌, false}
-use Rattle.ldmodel.specs.Names.{is_local}
+use Rattle.symres_table.proofs.Common.{false, is_local, ◌≡◌}
 use Rattle.symres_table.proofs.Cleared.{cleared_step}
 use Rattle.symres_table.proofs.Naming.{visible_is}
 use Rattle.symres_table.proofs.rows.clear_visible.Goals as goal

@@ -1,6 +1,5 @@
-use Rattle.std.proofs.Common.{rules, eqb, not}
+use Rattle.symres_table.proofs.Common.{Declared, eqb, not, rules}
 use Rattle.std.proofs.lemmas.Fn.{filter_same}
-use Rattle.symres_table.specs.declared.symbol.Declared.{Declared}
 use Rattle.symres_table.proofs.rows.drop_key.Goals as goal
 
 pub returns-clause-items : goal.returns-clause-items

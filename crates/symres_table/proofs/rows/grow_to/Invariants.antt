@@ -1,5 +1,4 @@
-use Rattle.std.proofs.Common.{◌+◌, ◌-◌, length}
-use Rattle.symres_table.specs.Numbers.{RowsGrow}
+use Rattle.symres_table.proofs.Common.{RowsGrow, length, ◌+◌, ◌-◌}
 use Rattle.symres_table.proofs.rows.grow_to.Given as goal
 
 abbrev pub invariant-loop-table : goal.invariant-loop-table

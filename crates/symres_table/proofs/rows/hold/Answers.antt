@@ -1,5 +1,5 @@
+use Rattle.symres_table.proofs.Common.{declared}
 use Rattle.symres_table.proofs.Growing.{both_ok}
-use Rattle.symres_table.specs.Numbers.{declared}
 use Rattle.symres_table.proofs.Holding.{holds_push}
 use Rattle.symres_table.proofs.rows.hold.Goals as goal
 

@@ -1,6 +1,4 @@
-use Rattle.std.proofs.Common.{take, subst, sym}
-use Rattle.std.proofs.lemmas.List.{take_more}
-use Rattle.symres_table.specs.Steps.{Holds}
+use Rattle.symres_table.proofs.Common.{Holds, subst, sym, take, take_more}
 use Rattle.symres_table.proofs.Naming.{nothing}
 use Rattle.symres_table.proofs.rows.hold_all.Goals as goal
 

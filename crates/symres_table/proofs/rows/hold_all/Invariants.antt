@@ -1,5 +1,4 @@
-use Rattle.std.proofs.Common.{take}
-use Rattle.symres_table.specs.Steps.{Holds}
+use Rattle.symres_table.proofs.Common.{Holds, take}
 use Rattle.symres_table.proofs.rows.hold_all.Given as goal
 
 abbrev pub invariant-loop-at : goal.invariant-loop-at

@@ -1,6 +1,4 @@
-use Rattle.std.proofs.Common.{◌∙◌, ◌∷◌, ◌++◌, [], ap, refl}
-use Rattle.symres_table.specs.Numbers.{others}
-use Rattle.symres_table.specs.declared.symbol.Declared.{Declared}
+use Rattle.symres_table.proofs.Common.{Declared, [], ap, others, refl, ◌++◌, ◌∙◌, ◌∷◌}
 use Rattle.symres_table.proofs.Cleared.{marked, unmarked}
 use Rattle.symres_table.proofs.rows.mark_last.Goals as goal
 

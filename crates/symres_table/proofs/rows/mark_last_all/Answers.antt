@@ -1,6 +1,4 @@
-use Rattle.std.proofs.Common.{◌≡◌, take, subst, sym}
-use Rattle.std.proofs.lemmas.List.{take_more, take_all}
-use Rattle.symres_table.specs.Steps.{AllMarkedLast}
+use Rattle.symres_table.proofs.Common.{AllMarkedLast, subst, sym, take, take_all, take_more, ◌≡◌}
 use Rattle.symres_table.proofs.Cleared.{marked_start}
 use Rattle.symres_table.proofs.Naming.{nothing}
 use Rattle.symres_table.proofs.rows.mark_last_all.Goals as goal

@@ -1,5 +1,4 @@
-use Rattle.std.proofs.Common.{take}
-use Rattle.symres_table.specs.Steps.{AllMarkedLast}
+use Rattle.symres_table.proofs.Common.{AllMarkedLast, take}
 use Rattle.symres_table.proofs.rows.mark_last_all.Given as goal
 
 abbrev pub invariant-loop-symbol : goal.invariant-loop-symbol

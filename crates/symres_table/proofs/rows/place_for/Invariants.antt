@@ -1,6 +1,4 @@
-use Rattle.std.proofs.Common.{◌≡◌, ◌<◌, ◌≤◌, ℕ, length, get_or, false}
-use Rattle.symres_table.specs.declared.symbol.Declared.{Declared}
-use Rattle.symres_table.specs.Numbers.{before}
+use Rattle.symres_table.proofs.Common.{Declared, before, false, get_or, length, ℕ, ◌<◌, ◌≡◌, ◌≤◌}
 use Rattle.symres_table.proofs.rows.place_for.Given as goal
 
 abbrev pub invariant-loop-number : goal.invariant-loop-number

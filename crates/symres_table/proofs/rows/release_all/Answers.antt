@@ -1,6 +1,4 @@
-use Rattle.std.proofs.Common.{◌+◌, drop, subst}
-use Rattle.std.proofs.lemmas.List.{drop_more}
-use Rattle.symres_table.specs.Steps.{Holds}
+use Rattle.symres_table.proofs.Common.{Holds, drop, drop_more, subst, ◌+◌}
 use Rattle.symres_table.proofs.Cleared.{keeps_both}
 use Rattle.symres_table.proofs.Naming.{nothing}
 use Rattle.symres_table.proofs.rows.release_all.Goals as goal

@@ -1,7 +1,5 @@
-use Rattle.std.proofs.Common.{drop, List, Vec, Global}
-use Rattle.symres_table.specs.declared.symbol.Declared.{Declared}
-use Rattle.symres_table.specs.Numbers.{KeepsRoom}
-use Rattle.symres_table.specs.Steps.{Holds}
+use Rattle.symres_table.proofs.Common.{Declared, Holds, KeepsRoom, List, Vec, drop}
+use Rattle.std.proofs.Common.{Global}
 use Rattle.symres_table.proofs.rows.release_all.Given as goal
 
 abbrev pub invariant-loop-symbol : goal.invariant-loop-symbol

@@ -1,5 +1,4 @@
-use Rattle.std.proofs.Common.{◌∙◌, take, drop, sym}
-use Rattle.std.proofs.lemmas.List.{take-append-drop, length-take-le}
+use Rattle.symres_table.proofs.Common.{drop, length-take-le, sym, take, take-append-drop, ◌∙◌}
 use Rattle.symres_table.proofs.Settling.{settle_is}
 use Rattle.symres_table.proofs.rows.settle.Goals as goal
 

@@ -1,7 +1,5 @@
-use Rattle.std.proofs.Common.{◌≡◌, ◌∙◌, ◌++◌, ◌∷◌, ◌+◌, take, drop, subst, get_or, sym, ap, List}
-use Rattle.std.proofs.lemmas.List.{drop_more, drop_all, take-append-drop}
-use Rattle.symres_table.specs.declared.symbol.Numbered.{Numbered}
-use Rattle.symres_table.specs.Steps.{Settling}
+use Rattle.symres_table.proofs.Common.{List, Numbered, Settling, ap, drop, drop_all, drop_more, get_or, subst, sym}
+use Rattle.symres_table.proofs.Common.{take, take-append-drop, ◌++◌, ◌+◌, ◌∙◌, ◌∷◌, ◌≡◌}
 use Rattle.symres_table.proofs.Settling.{settling_start}
 use Rattle.symres_table.proofs.Naming.{nothing}
 use Rattle.symres_table.proofs.rows.settle_all.Goals as goal

@@ -1,5 +1,4 @@
-use Rattle.std.proofs.Common.{drop}
-use Rattle.symres_table.specs.Steps.{Settling}
+use Rattle.symres_table.proofs.Common.{Settling, drop}
 use Rattle.symres_table.proofs.rows.settle_all.Given as goal
 
 abbrev pub invariant-loop-symbol : goal.invariant-loop-symbol

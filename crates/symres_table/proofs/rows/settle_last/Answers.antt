@@ -1,5 +1,4 @@
-use Rattle.std.proofs.Common.{◌∙◌, sym}
-use Rattle.std.proofs.lemmas.Bool.{false≢true}
+use Rattle.symres_table.proofs.Common.{false≢true, sym, ◌∙◌}
 use Rattle.symres_table.proofs.Settling.{settled_same, last_found}
 use Rattle.symres_table.proofs.rows.settle_last.Goals as goal
 

@@ -1,8 +1,6 @@
-use Rattle.std.proofs.Common.{◌≡◌, ◌∙◌, false, refl, ⊎_elim, inl, inr, Vec, Global}
+use Rattle.symres_table.proofs.Common.{Declared, Vec, false, inl, inr, is_local, refl, with_items_is, ⊎_elim, ◌∙◌, ◌≡◌}
+use Rattle.std.proofs.Common.{Global}
 use Rattle.std.specs.Vec.{with_items}
-use Rattle.std.proofs.lemmas.List.{with_items_is}
-use Rattle.ldmodel.specs.Names.{is_local}
-use Rattle.symres_table.specs.declared.symbol.Declared.{Declared}
 use Rattle.symres_table.proofs.Settling.{Step, settling_step}
 use Rattle.symres_table.proofs.Naming.{visible_is}
 use Rattle.symres_table.proofs.rows.settle_visible.Goals as goal

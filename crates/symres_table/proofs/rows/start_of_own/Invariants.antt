@@ -1,5 +1,4 @@
-use Rattle.std.proofs.Common.{◌≡◌, ◌<◌, ◌≤◌, ℕ, length, get_or, eqb, true}
-use Rattle.symres_table.specs.declared.symbol.Declared.{Declared}
+use Rattle.symres_table.proofs.Common.{Declared, eqb, get_or, length, true, ℕ, ◌<◌, ◌≡◌, ◌≤◌}
 use Rattle.symres_table.proofs.rows.start_of_own.Given as goal
 
 abbrev pub invariant-loop-start : goal.invariant-loop-start

@@ -1,6 +1,4 @@
-use Rattle.std.proofs.Common.{◌∙◌, ap, sym, map, take}
-use Rattle.std.proofs.lemmas.List.{take_more, map-append}
-use Rattle.symres_table.specs.Tally.{declaration_of, tally_of}
+use Rattle.symres_table.proofs.Common.{ap, declaration_of, map, map-append, sym, take, take_more, tally_of, ◌∙◌}
 use Rattle.symres_table.proofs.tally.decide.Goals as goal
 
 pub loop-entry-preserved : goal.loop-entry-preserved

@@ -1,5 +1,4 @@
-use Rattle.std.proofs.Common.{◌≡◌, ℕ, List, map, take}
-use Rattle.symres_table.specs.Tally.{declaration_of, tally_of}
+use Rattle.symres_table.proofs.Common.{List, declaration_of, map, take, tally_of, ℕ, ◌≡◌}
 use Rattle.symres_table.proofs.tally.decide.Given as goal
 
 abbrev pub invariant-loop-entry : goal.invariant-loop-entry

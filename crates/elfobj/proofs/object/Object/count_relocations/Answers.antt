@@ -1,7 +1,4 @@
-use Rattle.std.proofs.Common.{arith, ◌≤◌, length, subst}
-use Rattle.std.specs.List.{All}
-use Rattle.elfobj.specs.Object.{ObjectData}
-use Rattle.elfobj_file.specs.Sections.{LinkedSection}
+use Rattle.elfobj.proofs.Common.{All, LinkedSection, ObjectData, arith, length, subst, ◌≤◌}
 use Rattle.elfobj.proofs.Relocated.{at_most}
 use Rattle.elfobj.proofs.object.Object.count_relocations.Goals as goal
 

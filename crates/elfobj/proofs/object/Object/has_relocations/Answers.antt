@@ -1,8 +1,4 @@
-use Rattle.std.proofs.Common.{◌≡◌, ◌<◌, Some, length, map, subst}
-use Rattle.std.specs.List.{slice_get}
-use Rattle.std.specs.Prelude.{nat_lt}
-use Rattle.elfobj.specs.Object.{ObjectData}
-use Rattle.elfobj_file.specs.Sections.{LinkedSection}
+use Rattle.elfobj.proofs.Common.{LinkedSection, ObjectData, Some, length, map, nat_lt, slice_get, subst, ◌<◌, ◌≡◌}
 use Rattle.elfobj.proofs.Relocated.{flag_at}
 use Rattle.elfobj.proofs.object.Object.has_relocations.Goals as goal
 

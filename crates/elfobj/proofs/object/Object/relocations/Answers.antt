@@ -1,7 +1,4 @@
-use Rattle.std.proofs.Common.{length, subst}
-use Rattle.std.specs.List.{All}
-use Rattle.elfobj.specs.Object.{ObjectData}
-use Rattle.elfobj.specs.Profile.{HasRelocationsOfProfile}
+use Rattle.elfobj.proofs.Common.{All, HasRelocationsOfProfile, ObjectData, length, subst}
 use Rattle.elfobj.proofs.RelocationLimits.{relocation_limits_of}
 use Rattle.elfobj.proofs.object.Object.relocations.Goals as goal
 

@@ -1,7 +1,4 @@
-use Rattle.std.proofs.Common.{◌∙◌, subst, sym}
-use Rattle.std.specs.List.{All, AllPairs}
-use Rattle.elfobj.specs.Profile.{IsSectionOfProfile}
-use Rattle.elfobj.specs.Object.{ObjectData}
+use Rattle.elfobj.proofs.Common.{All, AllPairs, IsSectionOfProfile, ObjectData, subst, sym, ◌∙◌}
 use Rattle.elfobj.proofs.Ascending.{IsBefore, ascending}
 use Rattle.elfobj.proofs.Limits.{limits}
 use Rattle.elfobj.proofs.object.Object.sections.Goals as goal

@@ -1,9 +1,5 @@
-use Rattle.std.proofs.Common.{◌<◌, length, subst}
-use Rattle.std.specs.List.{All}
-use Rattle.elfobj_file.specs.ElfHeader.{e_shnum}
-use Rattle.elfobj.specs.Object.{ObjectData}
-use Rattle.elfobj_file.specs.Symbols.{NamedSymbol}
-use Rattle.elfobj.specs.Profile.{IsSectionBelow, IsSymbolOfProfile}
+use Rattle.elfobj.proofs.Common.{All, IsSectionBelow, IsSymbolOfProfile, NamedSymbol, ObjectData, e_shnum, length}
+use Rattle.elfobj.proofs.Common.{subst, ◌<◌}
 use Rattle.elfobj.proofs.SymbolLimits.{few_symbols, symbol_limits_of, symbol_sections_of}
 use Rattle.elfobj.proofs.object.Object.symbols.Goals as goal
 

@@ -1,13 +1,6 @@
-use Rattle.std.proofs.Common.{refl, subst, sym}
-use Rattle.std.proofs.lemmas.Slice.Eq.{bytes_eq-Decides}
-use Rattle.ldmodel.specs.Edits.{has_name}
+use Rattle.emit.proofs.Common.{EndBelow, KnownLink, bytes_eq-Decides, faults_in, has_name, known_link, refl, value_of}
 use Rattle.ldmodel.specs.Stayed.{GoodLink}
-use Rattle.ldmodel_project.specs.ByPlace.{faults_in}
-use Rattle.emit_relocate.specs.Filled.{EndBelow, IsOrder}
-use Rattle.emit_relocate.specs.KnownLink.{KnownLink}
 use Rattle.emit_relocate.specs.SymbolValues.{HasSymbolValues}
-use Rattle.emit_relocate.specs.Values.{value_of}
-use Rattle.emit_relocate.specs.LinkView.{known_link}
 use Rattle.emit.proofs.Beside.{are_runs}
 use Rattle.emit.proofs.Faulting.{all_faults}
 use Rattle.emit.proofs.RelocatedLists.{one_place}
@@ -21,13 +14,11 @@ returns g c =
     let p = c.args.project.now in
     let l : KnownLink = known_link p s a in
     let new : GoodLink = record { project = p; layout = s } in
-    let read = c.in_ok-keys.ensures.read in
-    let distinct = c.in_ok-keys.ensures.distinct in
+    let read = c.objects_are_read.ensures.read in
+    let distinct = c.objects_are_read.ensures.distinct in
     let below : EndBelow l = c.sections_end_below.ensures p s a distinct (ascending p read) e in
     let symbols : HasSymbolValues l c.args.symbols.now = λ key j o x. worth key.0 j o x in
-    let order : IsOrder l c.deref.result.now =
-    subst (IsOrder l) (sym c.deref.ensures.value) c.in_ok-keys.ensures.keys in
-    let changed = c.in_ok-fields.ensures old l v k symbols below order in
+    let changed = c.in_ok-fields.ensures old l v k symbols below in
     let range = g.E.PreviousLinkInfo.range c.args.previous.now in
     let once = placed_once p read s distinct e in
     let profile = of_profile p read in

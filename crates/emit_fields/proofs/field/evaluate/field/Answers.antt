@@ -1,5 +1,4 @@
-use Rattle.std.proofs.Common.{◌∙◌, ℕ, List, Result, Ok, sym, ap}
-use Rattle.emit_fields.specs.declared.field.Overflow.{Overflow}
+use Rattle.emit_fields.proofs.Common.{List, Ok, Overflow, Result, ap, sym, ℕ, ◌∙◌}
 use Rattle.emit_fields.proofs.FieldBytes.{field_of_fitting, field_of_overflowing}
 use Rattle.emit_fields.proofs.field.evaluate.field.Goals as goal
 

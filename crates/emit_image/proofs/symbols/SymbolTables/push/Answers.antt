@@ -1,6 +1,5 @@
 -- An entry more, and a name.
-use Rattle.std.proofs.Common.{◌∙◌, ◌++◌, ap, sym, length, ℕ, List}
-use Rattle.emit_image.specs.Tables.{symbol_table_of}
+use Rattle.emit_image.proofs.Common.{List, ap, length, sym, symbol_table_of, ℕ, ◌++◌, ◌∙◌}
 use Rattle.emit_image.proofs.Entries.{entry_more, names_more}
 use Rattle.emit_image.proofs.symbols.SymbolTables.push.Goals as goal
 

@@ -1,6 +1,5 @@
 -- The null entry, and no names.
-use Rattle.std.proofs.Common.{◌∙◌, ◌++◌, ap, ℕ, List}
-use Rattle.std.specs.Prelude.{replicate}
+use Rattle.emit_image.proofs.Common.{List, ap, replicate, ℕ, ◌++◌, ◌∙◌}
 use Rattle.emit_image.proofs.Entries.{no_entries}
 use Rattle.emit_image.proofs.symbols.SymbolTables.with_capacity.Goals as goal
 

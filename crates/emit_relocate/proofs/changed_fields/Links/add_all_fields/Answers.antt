@@ -1,5 +1,4 @@
-use Rattle.std.proofs.Common.{arith, refl}
-use Rattle.emit_relocate.specs.Changes.{results_of}
+use Rattle.emit_relocate.proofs.Common.{arith, refl, results_of}
 use Rattle.emit_relocate.proofs.Filling.{renewed_none, renewed_some}
 use Rattle.emit_relocate.proofs.changed_fields.Links.add_all_fields.Goals as goal
 

@@ -1,10 +1,9 @@
-use Rattle.std.proofs.Common.{None, Some, ap, arith, refl, subst, ◌∙◌}
-use Rattle.emit_relocate.specs.Changes.{results_of}
-use Rattle.emit_relocate.specs.PreviousLinkInfo.{HasStayedAt}
-use Rattle.emit_relocate.proofs.Bare.{bare_added, bare_at_hand}
+use Rattle.emit_relocate.proofs.Common.{HasStayedAt, Some, ap, arith, refl, results_of, subst, ◌∙◌}
+use Rattle.std.proofs.Common.{None}
+use Rattle.emit_relocate.proofs.NoRelocations.{bare_added, bare_at_hand}
 use Rattle.emit_relocate.proofs.Changing.{known_as, retained, retained_as}
 use Rattle.emit_relocate.proofs.Moving.{moved_in_none}
-use Rattle.emit_relocate.proofs.Settled.{settled_added}
+use Rattle.emit_relocate.proofs.NothingToEvaluate.{settled_added}
 use Rattle.emit_relocate.proofs.changed_fields.Links.add_evaluated.Goals as goal
 
 pub returns-then-needs_none : goal.returns-then-needs_none
@@ -38,14 +37,14 @@ returns-in_ok-add_all_fields-in-None g c =
     λ old l s k h _.
     let range = g.E.PreviousLinkInfo.range c.args.self.now.previous.now in
     known_as old l range s c.args.section.now.place h.object_is None
-    (c.in-None.ensures.range ∙ ap range (c.section_key.ensures l s h)) _ _
+    (c.in-None.ensures.range ∙ ap range (c.section_ref.ensures l s h)) _ _
     (c.in_ok-add_all_fields-in-None.ensures old l s k h)
 
 pub returns-in_ok-add_retargeted-in-Some : goal.returns-in_ok-add_retargeted-in-Some
 returns-in_ok-add_retargeted-in-Some g c =
     λ old l s k h _.
     let range = g.E.PreviousLinkInfo.range c.args.self.now.previous.now in
-    let same = c.section_key.ensures l s h in
+    let same = c.section_ref.ensures l s h in
     let known = c.in-Some.ensures.range ∙ ap range same in
     known_as old l range s c.args.section.now.place h.object_is (Some c.in-Some.range) known _ _
     (c.in_ok-add_retargeted-in-Some.ensures old l s k h (record {

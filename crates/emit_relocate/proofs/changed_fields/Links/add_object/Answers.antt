@@ -1,11 +1,7 @@
-use Rattle.std.proofs.Common.{ap, arith, length, refl, ◌∙◌}
-use Rattle.std.specs.Prelude.{slice_get}
-use Rattle.std.proofs.lemmas.List.{length-map}
-use Rattle.elfobj.specs.Object.{ObjectData}
-use Rattle.elfobj.specs.Sections.{section_of}
+use Rattle.emit_relocate.proofs.Common.{ObjectData, ap, arith, length, length-map, refl, section_of, slice_get, ◌∙◌}
 use Rattle.emit_relocate.specs.SymbolValues.{IsRow}
 use Rattle.emit_relocate.proofs.Changing.{changed_none, next_section, whole_object}
-use Rattle.emit_relocate.proofs.Rowed.{row_is}
+use Rattle.emit_relocate.proofs.SymbolValueRows.{row_is}
 use Rattle.emit_relocate.proofs.changed_fields.Links.add_object.Goals as goal
 
 pub loop-index-init : goal.loop-index-init

@@ -1,8 +1,5 @@
-use Rattle.std.proofs.Common.{◌≡◌, ◌∙◌, ap, arith, length, refl, subst, sym}
-use Rattle.std.proofs.lemmas.List.{length-map}
-use Rattle.elfobj.specs.Symbols.{NamedSymbol}
-use Rattle.emit_relocate.specs.Changes.{results_of}
-use Rattle.emit_relocate.specs.PreviousLinkInfo.{HasSomeStayed}
+use Rattle.emit_relocate.proofs.Common.{HasSomeStayed, NamedSymbol, ap, arith, length, length-map, refl, results_of}
+use Rattle.emit_relocate.proofs.Common.{subst, sym, ◌∙◌, ◌≡◌}
 use Rattle.emit_relocate.proofs.Changing.{kept_by, retained}
 use Rattle.emit_relocate.proofs.Moving.{moved_placed, moved_unplaced}
 use Rattle.emit_relocate.proofs.changed_fields.Links.add_retargeted.Goals as goal

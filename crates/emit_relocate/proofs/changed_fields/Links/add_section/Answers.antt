@@ -1,4 +1,4 @@
-use Rattle.std.proofs.Common.{arith}
+use Rattle.emit_relocate.proofs.Common.{arith}
 use Rattle.emit_relocate.proofs.Changing.{changed_one}
 use Rattle.emit_relocate.proofs.changed_fields.Links.add_section.Goals as goal
 

@@ -1,6 +1,4 @@
-use Rattle.std.proofs.Common.{List, subst, sym}
-use Rattle.ldscript.specs.statements.declared.statement.Statement.{Statement}
-use Rattle.place.specs.sections.Places.{AreOf}
+use Rattle.emit_relocate.proofs.Common.{AreOf, List, Statement, subst, sym}
 use Rattle.emit_relocate.proofs.given.GivenValues.of.Goals as goal
 
 pub returns : goal.returns

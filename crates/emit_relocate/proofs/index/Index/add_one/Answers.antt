@@ -1,8 +1,5 @@
-use Rattle.std.proofs.Common.{◌<◌, ◌-◌, [], arith, length, map, refl, vec_capacity, vec_len}
-use Rattle.std.proofs.lemmas.List.{length-map}
-use Rattle.slab.specs.Slab.{values}
-use Rattle.emit_relocate.specs.Index.{room_of}
-use Rattle.emit_relocate.specs.declared.bucket.Bucket.{Bucket}
+use Rattle.emit_relocate.proofs.Common.{Bucket, [], arith, length, length-map, map, refl, room_of, values, vec_capacity}
+use Rattle.emit_relocate.proofs.Common.{vec_len, ◌-◌, ◌<◌}
 use Rattle.emit_relocate.proofs.Kept.{added_sound, filled_bucket, in_range}
 use Rattle.emit_relocate.proofs.Places.{mapped_at, mapped_set, written_at, written_elsewhere}
 use Rattle.emit_relocate.proofs.index.Index.add_one.Goals as goal

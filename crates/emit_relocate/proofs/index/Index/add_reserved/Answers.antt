@@ -1,5 +1,5 @@
-use Rattle.std.proofs.Common.{◌+◌, arith, length-drop, slice_index}
-use Rattle.emit_relocate.specs.Index.{site_of, sites_at}
+use Rattle.emit_relocate.proofs.Common.{arith, length-drop, site_of, slice_index, ◌+◌}
+use Rattle.emit_relocate.specs.Index.{sites_at}
 use Rattle.emit_relocate.proofs.Kept.{rooms_left, sites_added}
 use Rattle.emit_relocate.proofs.index.Index.add_reserved.Goals as goal
 

@@ -1,6 +1,6 @@
-use Rattle.std.proofs.Common.{◌≤◌, ◌++◌, ℕ, count_by, drop, filter, length, map, slice_index, take}
-use Rattle.std.specs.List.Sorted.{IsPermutation}
-use Rattle.emit_relocate.specs.Index.{is_against, site_of, sites_at}
+use Rattle.emit_relocate.proofs.Common.{IsPermutation, count_by, drop, filter, is_against, length, map, site_of}
+use Rattle.emit_relocate.proofs.Common.{slice_index, take, ℕ, ◌++◌, ◌≤◌}
+use Rattle.emit_relocate.specs.Index.{sites_at}
 use Rattle.emit_relocate.proofs.index.Index.add_reserved.Given as goal
 
 abbrev pub invariant-loop-site : goal.invariant-loop-site

@@ -1,6 +1,5 @@
-use Rattle.std.proofs.Common.{[], ◌<◌, ap, arith, length, map, sym, ◌∙◌}
-use Rattle.std.proofs.lemmas.List.{length-map}
-use Rattle.emit_relocate.specs.Index.{cleared, slot}
+use Rattle.emit_relocate.proofs.Common.{[], ap, arith, cleared, length, length-map, map, sym, ◌<◌, ◌∙◌}
+use Rattle.emit_relocate.specs.Index.{slot}
 use Rattle.emit_relocate.proofs.Places.{bucket_room, dropped_sites, dropped_sound, mapped_at, mapped_set}
 use Rattle.emit_relocate.proofs.Places.{no_less_room, nothing_dropped}
 use Rattle.emit_relocate.proofs.index.Index.drop_object.Goals as goal

@@ -1,4 +1,4 @@
-use Rattle.std.proofs.Common.{◌≡◌, ◌≤◌, vec_capacity, vec_len}
+use Rattle.emit_relocate.proofs.Common.{vec_capacity, vec_len, ◌≡◌, ◌≤◌}
 use Rattle.emit_relocate.specs.ObjectTable.{AreObjects}
 use Rattle.emit_relocate.proofs.object_table.ObjectTable.of.Given as goal
 

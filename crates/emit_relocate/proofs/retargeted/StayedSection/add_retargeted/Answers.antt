@@ -1,5 +1,4 @@
-use Rattle.std.proofs.Common.{arith, pos}
-use Rattle.std.proofs.lemmas.Option.{slice_get-get_or}
+use Rattle.emit_relocate.proofs.Common.{arith, pos, slice_get-get_or}
 use Rattle.elfobj.specs.declared.relocation.RelocationKind.TheVariants.{None}
 use Rattle.emit_relocate.proofs.Moving.{moved_all, moved_next, moved_nothing}
 use Rattle.emit_relocate.proofs.retargeted.StayedSection.add_retargeted.Goals as goal

@@ -1,9 +1,5 @@
-use Rattle.std.proofs.Common.{take}
-use Rattle.ldmodel.specs.Stayed.{GoodLink}
-use Rattle.emit_relocate.specs.Changes.{AreRetargetedFiled}
-use Rattle.emit_relocate.specs.Filled.{ObjectSection}
-use Rattle.emit_relocate.specs.KnownLink.{KnownLink}
-use Rattle.emit_relocate.specs.Links.{IsStayedAt, sites_at_hand}
+use Rattle.emit_relocate.proofs.Common.{AreRetargetedFiled, GoodLink, IsStayedAt, KnownLink, ObjectSection}
+use Rattle.emit_relocate.proofs.Common.{sites_at_hand, take}
 use Rattle.emit_relocate.proofs.retargeted.StayedSection.add_retargeted.Given as goal
 
 abbrev pub invariant-loop-entry : goal.invariant-loop-entry

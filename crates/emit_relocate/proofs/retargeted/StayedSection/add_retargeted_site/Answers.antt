@@ -1,4 +1,4 @@
-use Rattle.std.proofs.Common.{arith, refl, sym, ◌∙◌}
+use Rattle.emit_relocate.proofs.Common.{arith, refl, sym, ◌∙◌}
 use Rattle.emit_relocate.proofs.Moving.{moved_filed, moved_none, moved_same}
 use Rattle.emit_relocate.proofs.retargeted.StayedSection.add_retargeted_site.Goals as goal
 

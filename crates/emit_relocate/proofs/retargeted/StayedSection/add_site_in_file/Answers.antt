@@ -1,10 +1,7 @@
-use Rattle.std.proofs.Common.{◌≡◌, ◌++◌, ◌∷◌, [], length, refl, arith}
-use Rattle.std.proofs.lemmas.List.{length_push}
-use Rattle.std.proofs.lemmas.Option.{slice_get_within}
-use Rattle.emit_fields.specs.declared.patch.Patch.{Patch}
-use Rattle.emit_relocate.specs.Sites.{fault_with}
+use Rattle.emit_relocate.proofs.Common.{Patch, [], arith, fault_with, length, length_push, refl, slice_get_within, ◌++◌}
+use Rattle.emit_relocate.proofs.Common.{◌∷◌, ◌≡◌}
 use Rattle.emit_relocate.proofs.Added.{at_entry, tried_fault, tried_field}
-use Rattle.emit_relocate.proofs.Filed.{filed_none, filed_one}
+use Rattle.emit_relocate.proofs.FieldsInFile.{filed_none, filed_one}
 use Rattle.emit_relocate.proofs.retargeted.StayedSection.add_site_in_file.Goals as goal
 
 pub overflow_cast-entry : goal.overflow_cast-entry

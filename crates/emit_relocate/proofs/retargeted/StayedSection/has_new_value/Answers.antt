@@ -1,14 +1,7 @@
-use Rattle.std.proofs.Common.{◌∙◌, ap, not, sym}
-use Rattle.std.specs.Prelude.{slice_get}
-use Rattle.std.specs.Option.{option_map_or}
+use Rattle.emit_relocate.proofs.Common.{IsSite, Site, ap, is_same_value, not, option_map_or, referenced_value, refl}
+use Rattle.emit_relocate.proofs.Common.{site_at_hand, site_value, slice_get, sym, ◌∙◌, ◌≡◌}
 use Rattle.elfobj.specs.declared.relocation.SymbolIndex.{SymbolIndex}
-use Rattle.ldmodel.specs.Relocations.{Site, site_value}
 use Rattle.ldmodel.specs.SymbolValues.{NotDefined}
-use Rattle.ldmodel.specs.Targets.{referenced_value}
-use Rattle.std.proofs.Common.{◌≡◌, refl}
-use Rattle.emit_relocate.specs.PreviousLinkInfo.{is_same_value}
-use Rattle.emit_relocate.specs.Links.{site_at_hand}
-use Rattle.emit_relocate.specs.Sites.{IsSite}
 use Rattle.emit_relocate.specs.Values.{value_of}
 use Rattle.emit_relocate.proofs.retargeted.StayedSection.has_new_value.Goals as goal
 

@@ -1,6 +1,5 @@
-use Rattle.std.proofs.Common.{◌∙◌, ap, arith, get_or, length, map, refl, subst, sym, take}
-use Rattle.std.proofs.lemmas.List.{get_or_default}
-use Rattle.ldmodel.specs.PlacementView.{symbol_of}
+use Rattle.emit_relocate.proofs.Common.{ap, arith, get_or, get_or_default, length, map, refl, subst, sym, symbol_of}
+use Rattle.emit_relocate.proofs.Common.{take, ◌∙◌}
 use Rattle.ldmodel.specs.declared.script_symbol.ScriptSymbol.{ScriptSymbol}
 use Rattle.place.specs.terms.LayoutSymbols.{AreFound, AreValuesOf}
 use Rattle.emit_relocate.proofs.Giving.{all_values, more_values}

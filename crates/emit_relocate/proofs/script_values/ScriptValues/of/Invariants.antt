@@ -1,6 +1,4 @@
-use Rattle.std.proofs.Common.{◌≡◌, length, map, take}
-use Rattle.ldscript.specs.statements.Numbering.{all_directives}
-use Rattle.ldmodel.specs.PlacementView.{symbol_of}
+use Rattle.emit_relocate.proofs.Common.{all_directives, length, map, symbol_of, take, ◌≡◌}
 use Rattle.place.specs.terms.LayoutSymbols.{AreFound, AreValuesOf}
 use Rattle.emit_relocate.proofs.script_values.ScriptValues.of.Given as goal
 

@@ -1,4 +1,4 @@
-use Rattle.std.proofs.Common.{refl}
+use Rattle.emit_relocate.proofs.Common.{refl}
 use Rattle.emit_relocate.proofs.Found.{apart, ends, numbered, relocations_of}
 use Rattle.emit_relocate.proofs.site.PlacedInput.new.Goals as goal
 

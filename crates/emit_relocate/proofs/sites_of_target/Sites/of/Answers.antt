@@ -1,4 +1,4 @@
-use Rattle.std.proofs.Common.{ap, ◌∙◌, map}
+use Rattle.emit_relocate.proofs.Common.{ap, map, ◌∙◌}
 use Rattle.emit_relocate.proofs.Places.{entry_values}
 use Rattle.emit_relocate.proofs.sites_of_target.Sites.of.Goals as goal
 

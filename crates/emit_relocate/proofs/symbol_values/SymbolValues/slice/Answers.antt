@@ -1,4 +1,4 @@
-use Rattle.emit_relocate.proofs.Rowed.{row_of}
+use Rattle.emit_relocate.proofs.SymbolValueRows.{row_of}
 use Rattle.emit_relocate.proofs.symbol_values.SymbolValues.slice.Goals as goal
 
 pub returns-clause-values : goal.returns-clause-values

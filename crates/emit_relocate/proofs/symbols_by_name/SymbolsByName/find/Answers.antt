@@ -1,5 +1,4 @@
-use Rattle.std.proofs.Common.{rules, ap, sym, ◌∙◌, option_copied}
-use Rattle.std.proofs.lemmas.List.Sorted.{IsPartitionPoint-from_clause}
+use Rattle.emit_relocate.proofs.Common.{IsPartitionPoint-from_clause, ap, option_copied, rules, sym, ◌∙◌}
 use Rattle.emit_relocate.proofs.Searching.{found, missed, missed_at_end, parted, precedes}
 use Rattle.emit_relocate.proofs.symbols_by_name.SymbolsByName.find.Goals as goal
 

@@ -1,6 +1,5 @@
 -- Both ends of the part are the part.
-use Rattle.std.proofs.Common.{◌≡◌, ◌∙◌, ◌++◌, ap, arith, length, take}
-use Rattle.std.proofs.lemmas.List.{length-take-le}
+use Rattle.emit_text.proofs.Common.{ap, arith, length, length-take-le, take, ◌++◌, ◌∙◌, ◌≡◌}
 use Rattle.emit_text.proofs.Ends.{ends_put}
 use Rattle.emit_text.proofs.line_buffer.LineBuffer.put_ends.Goals as goal
 

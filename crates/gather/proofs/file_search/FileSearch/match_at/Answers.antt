@@ -1,9 +1,5 @@
-use Rattle.std.proofs.Common.{◌<◌, ◌∙◌, ℕ, List, map, length, arith, ap, sym, Some, None}
-use Rattle.std.specs.Option.{option_map}
-use Rattle.std.proofs.lemmas.List.{length-map}
-use Rattle.std.proofs.lemmas.Option.{slice_get-map}
-use Rattle.elfobj.specs.Sections.{LinkedSection}
-use Rattle.gather.specs.FileTables.{first_in}
+use Rattle.gather.proofs.Common.{LinkedSection, List, None, Some, ap, arith, first_in, length, length-map, map}
+use Rattle.gather.proofs.Common.{option_map, slice_get-map, sym, ℕ, ◌<◌, ◌∙◌}
 use Rattle.gather.specs.Matches.{number_of}
 use Rattle.gather.proofs.NamedLists.{found_before, same_name}
 use Rattle.gather.proofs.file_search.FileSearch.match_at.Goals as goal

@@ -1,5 +1,4 @@
-use Rattle.std.proofs.Common.{refl, rules}
-use Rattle.std.proofs.lemmas.Result.{on_ok_weaker}
+use Rattle.gather.proofs.Common.{on_ok_weaker, refl, rules}
 use Rattle.gather.proofs.OwnWords.{adds_more, adds_own}
 use Rattle.gather.proofs.file_tables.FileTables.add_statement.Goals as goal
 

@@ -1,5 +1,4 @@
-use Rattle.std.proofs.Common.{sym, subst}
-use Rattle.gather.specs.Blocks.{AreBlocks}
+use Rattle.gather.proofs.Common.{AreBlocks, subst, sym}
 use Rattle.gather.proofs.gathering.Gathering.of.Goals as goal
 
 pub of-requires : goal.of-requires

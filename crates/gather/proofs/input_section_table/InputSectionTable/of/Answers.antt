@@ -1,6 +1,4 @@
-use Rattle.std.proofs.Common.{rules, arith}
-use Rattle.std.proofs.lemmas.List.Sorted.{answers_always}
-use Rattle.gather.specs.Ranks.{rank_self}
+use Rattle.gather.proofs.Common.{answers_always, arith, rank_self, rules}
 use Rattle.gather.proofs.Numbering.{are_numbered}
 use Rattle.gather.proofs.input_section_table.InputSectionTable.of.Goals as goal
 
@@ -13,5 +11,6 @@ invariant_of-result c = record {
 
 pub returns : goal.returns
 returns c =
-    are_numbered _ c.args.project.now c.in_ok-laid.ensures.counted c.in_ok-laid.ensures.linked c.args.ranks.items c.requires
+    are_numbered _ c.args.project.now c.in_ok-laid.ensures.counted c.in_ok-laid.ensures.linked c.args.ranks.items
+    c.requires
     c.sort_unstable_by_key.ensures.permutation

@@ -1,5 +1,4 @@
-use Rattle.std.proofs.Common.{◌≡◌, ◌∙◌, subst}
-use Rattle.ldmodel.specs.FirstMatch.{first_match}
+use Rattle.gather.proofs.Common.{first_match, subst, ◌∙◌, ◌≡◌}
 use Rattle.gather.specs.Matches.{number_of}
 use Rattle.gather.proofs.FirstTakers.{first_in_tables}
 use Rattle.gather.proofs.matcher.Matcher.first_match.Goals as goal

@@ -1,6 +1,4 @@
-use Rattle.std.proofs.Common.{◌≡◌, ◌∙◌, ap, map}
-use Rattle.std.proofs.lemmas.Result.{IfOk-weaker}
-use Rattle.gather.specs.FileSearches.{matches_by}
+use Rattle.gather.proofs.Common.{IfOk-weaker, ap, map, matches_by, ◌∙◌, ◌≡◌}
 use Rattle.gather.specs.Matches.{matches_of, number_of}
 use Rattle.gather.proofs.FirstTakers.{matches_by_tables}
 use Rattle.gather.proofs.matcher.Matcher.matches_of.Goals as goal

@@ -1,9 +1,5 @@
-use Rattle.std.proofs.Common.{subst, List, [], ap, sym, ◌∙◌}
-use Rattle.std.specs.Prelude.{OnOk, option_copied}
-use Rattle.elfobj.specs.Sections.{LinkedSection}
-use Rattle.elfobj.specs.declared.relocation.Relocation.{Relocation}
-use Rattle.gather.specs.Found.{relocations_of}
-use Rattle.gather.specs.SectionPlaces.{AddsTargets}
+use Rattle.gather.proofs.Common.{AddsTargets, LinkedSection, List, OnOk, Relocation, [], ap, option_copied}
+use Rattle.gather.proofs.Common.{relocations_of, subst, sym, ◌∙◌}
 use Rattle.gather.proofs.ByNumber.{asked_at}
 use Rattle.gather.proofs.referring.ProjectReferences.add_row.Goals as goal
 

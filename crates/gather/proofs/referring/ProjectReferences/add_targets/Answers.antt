@@ -1,4 +1,4 @@
-use Rattle.std.proofs.Common.{◌<◌, length, arith}
+use Rattle.gather.proofs.Common.{arith, length, ◌<◌}
 use Rattle.gather.proofs.Refers.{next_targets, no_targets}
 use Rattle.gather.proofs.referring.ProjectReferences.add_targets.Goals as goal
 

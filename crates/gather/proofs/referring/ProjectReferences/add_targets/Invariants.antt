@@ -1,6 +1,5 @@
 -- The targets of the relocations so far are added.
-use Rattle.std.proofs.Common.{take}
-use Rattle.gather.specs.SectionPlaces.{AddsTargets}
+use Rattle.gather.proofs.Common.{AddsTargets, take}
 use Rattle.gather.proofs.referring.ProjectReferences.add_targets.Given as goal
 
 abbrev pub invariant-loop-relocation : goal.invariant-loop-relocation

@@ -1,10 +1,5 @@
-use Rattle.std.proofs.Common.{◌∙◌, ◌<◌, length, ap, sym, arith}
-use Rattle.std.specs.Prelude.{true, false}
-use Rattle.std.proofs.lemmas.List.{length-map}
-use Rattle.elfobj.specs.Symbols.{NamedSymbol}
-use Rattle.elfobj.specs.declared.symbol.Symbol.{Symbol}
-use Rattle.ldmodel.specs.Live.{section_of_place}
-use Rattle.gather.specs.SectionPlaces.{place_in}
+use Rattle.gather.proofs.Common.{NamedSymbol, Symbol, ap, arith, false, length, length-map, place_in, section_of_place}
+use Rattle.gather.proofs.Common.{sym, true, ◌<◌, ◌∙◌}
 use Rattle.gather.proofs.InLists.{there}
 use Rattle.gather.proofs.KeyPlaces.{place_of_named}
 use Rattle.gather.proofs.Refers.{local_target, no_target, symbol_target}

@@ -1,4 +1,4 @@
-use Rattle.std.proofs.lemmas.Result.{on_ok_weaker}
+use Rattle.gather.proofs.Common.{on_ok_weaker}
 use Rattle.gather.proofs.Starting.{refers_at}
 use Rattle.gather.proofs.referring.ProjectReferencesReferences.find_targets.Goals as goal
 

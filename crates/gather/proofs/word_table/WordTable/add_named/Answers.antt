@@ -1,10 +1,6 @@
-use Rattle.std.proofs.Common.{◌++◌, ◌∷◌, [], ℕ, List, ap, ◌∙◌, subst, rules, Option, Some, Vec, Global, Bor}
-use Rattle.std.specs.Prelude.{is_some}
-use Rattle.std.specs.Ordering.{nat_cmp}
-use Rattle.std.specs.Cmp.Lexicographic.{slice_cmp}
-use Rattle.std.specs.BTreeMap.{BTreeMap, get_by, is_at, UpdatesBy}
+use Rattle.gather.proofs.Common.{BTreeMap, Bor, Global, List, Option, Some, UpdatesBy, Vec, [], ap, get_by, is_at}
+use Rattle.gather.proofs.Common.{is_some, nat_cmp, option_map_or, rules, slice_cmp, subst, ℕ, ◌++◌, ◌∙◌, ◌∷◌}
 use Rattle.std.specs.Map.{lookup}
-use Rattle.std.specs.Option.{option_map_or}
 use Rattle.std.proofs.lemmas.Map.Text.{btree_map_updates_str}
 use Rattle.gather.specs.declared.word.WordAt as code
 use Rattle.gather.proofs.NamedLists.{by_result, listed_more, still_none}
@@ -17,10 +13,10 @@ pub returns-in_ok-push-in-Some-clause-named : goal.returns-in_ok-push-in-Some-cl
 returns-in_ok-push-in-Some-clause-named c = λ q.
     listed_more items_of (λ n. get_by (λ (k : Bor (List ℕ)). slice_cmp nat_cmp n k.now) c.args.self.now.named)
     c.args.name.now q
-    (get_by (λ (k : Bor (List ℕ)). slice_cmp nat_cmp q k.now) (c.get_mut.follows.lender c.push.new.self))
-    c.push.new.self (c.args.word ∷ [])
-    (btree_map_updates_str c.args.name.now c.args.self.now.named (c.get_mut.follows.lender c.push.new.self)
-    (Some c.push.new.self) ((c.get_mut.follows.holds c.push.new.self).3 (search rules)) q)
+    (get_by (λ (k : Bor (List ℕ)). slice_cmp nat_cmp q k.now) (c.get_mut.follows.lender c.push.new.list))
+    c.push.new.list (c.args.word ∷ [])
+    (btree_map_updates_str c.args.name.now c.args.self.now.named (c.get_mut.follows.lender c.push.new.list)
+    (Some c.push.new.list) ((c.get_mut.follows.holds c.push.new.list).3 (search rules)) q)
     (c.in_ok-push-in-Some.ensures.items
     ∙ ap (λ o. option_map_or items_of o [] ++ c.args.word ∷ []) c.in-Some.ensures.value)
 
@@ -28,11 +24,11 @@ pub returns-in_ok-insert-in-None-clause-named : goal.returns-in_ok-insert-in-Non
 returns-in_ok-insert-in-None-clause-named c = λ q.
     listed_more items_of (λ n. get_by (λ (k : Bor (List ℕ)). slice_cmp nat_cmp n k.now) c.args.self.now.named)
     c.args.name.now q
-    (get_by (λ (k : Bor (List ℕ)). slice_cmp nat_cmp q k.now) c.insert.new.self)
-    c.push-in-None.new.self (c.args.word ∷ [])
-    (btree_map_updates_str c.args.name.now c.args.self.now.named c.insert.new.self (Some c.push-in-None.new.self)
+    (get_by (λ (k : Bor (List ℕ)). slice_cmp nat_cmp q k.now) c.insert.new.map)
+    c.push-in-None.new.list (c.args.word ∷ [])
+    (btree_map_updates_str c.args.name.now c.args.self.now.named c.insert.new.map (Some c.push-in-None.new.list)
     (subst (λ m. UpdatesBy (λ (x y : Bor (List ℕ)). slice_cmp nat_cmp x.now y.now) (λ (k : Bor (List ℕ)).
-    slice_cmp nat_cmp c.args.name.now k.now) m c.insert.new.self (Some c.push-in-None.new.self))
+    slice_cmp nat_cmp c.args.name.now k.now) m c.insert.new.map (Some c.push-in-None.new.list))
     c.get_mut.follows.holds-at-none c.in_ok-insert-in-None.ensures.updates) q)
     (c.in_ok-push-in-None.ensures.items ∙ ap (λ xs. xs ++ c.args.word ∷ []) c.new-words.ensures.items
     ∙ ap (λ o. option_map_or items_of o [] ++ c.args.word ∷ []) c.in-None.ensures.value)
@@ -44,10 +40,10 @@ pub invariant_of-self : goal.invariant_of-self
 invariant_of-self c = record {
   known = λ q off.
       let was = c.args.self.now.named in
-      let now = c.get_mut.follows.lender c.push.new.self in
-      still_none c.args.name.now q c.push.new.self (found q was) (found q now) (c.note.ensures.name q off)
-      (btree_map_updates_str c.args.name.now was now (Some c.push.new.self)
-      ((c.get_mut.follows.holds c.push.new.self).3 (search rules)) q)
+      let now = c.get_mut.follows.lender c.push.new.list in
+      still_none c.args.name.now q c.push.new.list (found q was) (found q now) (c.note.ensures.name q off)
+      (btree_map_updates_str c.args.name.now was now (Some c.push.new.list)
+      ((c.get_mut.follows.holds c.push.new.list).3 (search rules)) q)
       (c.args.self.now.known q (c.note.ensures.others q off));
 }
 
@@ -55,8 +51,8 @@ pub invariant_of-self-in-None : goal.invariant_of-self-in-None
 invariant_of-self-in-None c = record {
   known = λ q off.
       let was = c.args.self.now.named in
-      let now = c.insert.new.self in
-      let v = c.push-in-None.new.self in
+      let now = c.insert.new.map in
+      let v = c.push-in-None.new.list in
       let none = c.args.self.now.known q (c.note.ensures.others q off) in
       by_result c.insert.result c.insert.ensures.updates c.insert.ensures.err
       (λ put. still_none c.args.name.now q v (found q was) (found q now) (c.note.ensures.name q off)

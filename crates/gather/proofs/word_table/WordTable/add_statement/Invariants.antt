@@ -1,7 +1,6 @@
 -- What is added, with what is still to be added, is all.
-use Rattle.std.proofs.Common.{◌≡◌, ◌++◌, ℕ, List, drop, filter}
-use Rattle.gather.specs.Words.{is_named, is_wild, shown_words, words_of}
-use Rattle.gather.specs.WordTables.{shown_listed}
+use Rattle.gather.proofs.Common.{List, drop, filter, is_named, is_wild, shown_listed, shown_words, words_of, ℕ, ◌++◌}
+use Rattle.gather.proofs.Common.{◌≡◌}
 use Rattle.gather.proofs.word_table.WordTable.add_statement.Given as goal
 
 abbrev pub invariant-loop-word : goal.invariant-loop-word

@@ -1,6 +1,4 @@
-use Rattle.std.proofs.Common.{ap, subst, sym, List}
-use Rattle.ldmodel_project.specs.Listing.{Contents, Listed}
-use Rattle.ldmodel_project.specs.Next.{KeysAreStable}
+use Rattle.ldmodel_project.proofs.Common.{Contents, KeysAreStable, List, Listed, ap, subst, sym}
 use Rattle.ldmodel_project.proofs.Steps.{Fits-stable, Stepped-entries, Stepped-ordered}
 use Rattle.ldmodel_project.proofs.keyed_objects.KeyedObjects.commit.Goals as goal
 

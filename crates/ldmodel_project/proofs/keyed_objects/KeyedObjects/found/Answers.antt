@@ -1,5 +1,4 @@
-use Rattle.std.proofs.Common.{◌∙◌, ap, sym}
-use Rattle.ldmodel_project.specs.Listing.{Contents, found_under}
+use Rattle.ldmodel_project.proofs.Common.{Contents, ap, found_under, sym, ◌∙◌}
 use Rattle.ldmodel_project.proofs.Found.{found_under-entries}
 use Rattle.ldmodel_project.proofs.keyed_objects.KeyedObjects.found.Goals as goal
 

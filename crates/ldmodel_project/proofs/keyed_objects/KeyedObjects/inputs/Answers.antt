@@ -1,7 +1,5 @@
-use Rattle.std.proofs.Common.{◌≡◌, ◌∙◌, ◌≤◌, ap, arith, length, map, sym}
-use Rattle.std.proofs.lemmas.List.{take_all}
-use Rattle.ldmodel_project.specs.Listing.{Contents, objects_of}
-use Rattle.ldmodel_project.specs.Slots.{named_at}
+use Rattle.ldmodel_project.proofs.Common.{Contents, ap, arith, length, map, named_at, objects_of, sym, take_all, ◌∙◌}
+use Rattle.ldmodel_project.proofs.Common.{◌≡◌, ◌≤◌}
 use Rattle.ldmodel_project.proofs.Places.{objects-entries}
 use Rattle.ldmodel_project.proofs.keyed_objects.KeyedObjects.inputs.Goals as goal
 

@@ -1,6 +1,4 @@
-use Rattle.std.proofs.Common.{◌≡◌, map, take}
-use Rattle.ldmodel_project.specs.Inputs.{shown_inputs}
-use Rattle.ldmodel_project.specs.Slots.{named_at}
+use Rattle.ldmodel_project.proofs.Common.{map, named_at, shown_inputs, take, ◌≡◌}
 use Rattle.ldmodel_project.proofs.keyed_objects.KeyedObjects.inputs.Given as goal
 
 -- the objects so far

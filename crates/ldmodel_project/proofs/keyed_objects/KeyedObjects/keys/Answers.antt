@@ -1,8 +1,5 @@
-use Rattle.std.proofs.Common.{◌≤◌, ◌∙◌, ℕ, List, ap, sym, subst}
-use Rattle.std.specs.Prelude.{nat_eq}
-use Rattle.std.specs.List.{count_by}
-use Rattle.ldmodel_project.specs.Listing.{Contents, keys_of}
-use Rattle.ldmodel_project.specs.Slots.{named_at}
+use Rattle.ldmodel_project.proofs.Common.{Contents, List, ap, count_by, keys_of, named_at, nat_eq, subst, sym, ℕ, ◌∙◌}
+use Rattle.ldmodel_project.proofs.Common.{◌≤◌}
 use Rattle.ldmodel_project.proofs.Arranged.{listed_once}
 use Rattle.ldmodel_project.proofs.Touching.{keys-map}
 use Rattle.ldmodel_project.proofs.keyed_objects.KeyedObjects.keys.Goals as goal

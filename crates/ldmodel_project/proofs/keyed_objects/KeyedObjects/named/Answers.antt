@@ -1,10 +1,5 @@
-use Rattle.std.proofs.Common.{◌<◌, ◌∙◌, ap, sym, subst, arith, nat_eq}
-use Rattle.std.specs.Prelude.{Option, unwrap_or}
-use Rattle.std.specs.List.{count_by}
-use Rattle.ldmodel.specs.Edits.{unnamed}
-use Rattle.ldmodel.specs.Project.{NamedObject}
-use Rattle.ldmodel_project.specs.Listing.{Contents, key_count}
-use Rattle.ldmodel_project.specs.Next.{named_under}
+use Rattle.ldmodel_project.proofs.Common.{Contents, NamedObject, Option, ap, arith, count_by, key_count, named_under}
+use Rattle.ldmodel_project.proofs.Common.{nat_eq, subst, sym, unnamed, unwrap_or, ◌<◌, ◌∙◌}
 use Rattle.ldmodel_project.proofs.Keys.{key_count-entries, named_under-entries}
 use Rattle.ldmodel_project.proofs.keyed_objects.KeyedObjects.named.Goals as goal
 

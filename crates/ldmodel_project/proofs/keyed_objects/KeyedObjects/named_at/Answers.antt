@@ -1,6 +1,4 @@
-use Rattle.std.proofs.Common.{◌∙◌, ap, sym, arith}
-use Rattle.std.specs.Prelude.{slice_get}
-use Rattle.ldmodel_project.specs.Listing.{Contents, objects_of}
+use Rattle.ldmodel_project.proofs.Common.{Contents, ap, arith, objects_of, slice_get, sym, ◌∙◌}
 use Rattle.ldmodel_project.proofs.Found.{object_at, object_past}
 use Rattle.ldmodel_project.proofs.keyed_objects.KeyedObjects.named_at.Goals as goal
 

@@ -1,7 +1,5 @@
-use Rattle.std.proofs.Common.{List, ◌∙◌, ap, subst, sym}
-use Rattle.ldmodel.specs.Edits.{AreNamesDistinct}
-use Rattle.ldmodel.specs.Project.{NamedObject}
-use Rattle.ldmodel_project.specs.Listing.{Contents, objects_of}
+use Rattle.ldmodel_project.proofs.Common.{AreNamesDistinct, Contents, List, NamedObject, ap, objects_of, subst, sym}
+use Rattle.ldmodel_project.proofs.Common.{◌∙◌}
 use Rattle.ldmodel_project.proofs.Places.{objects-entries}
 use Rattle.ldmodel_project.proofs.keyed_objects.KeyedObjects.names_differ.Goals as goal
 

@@ -1,7 +1,5 @@
-use Rattle.std.proofs.Common.{rules, ◌≡◌, ap, sym, ◌∙◌, true, arith, map}
-use Rattle.std.specs.Prelude.{is_some}
-use Rattle.ldmodel.specs.Edits.{place_of}
-use Rattle.ldmodel_project.specs.Listing.{Contents, Listed, objects_of}
+use Rattle.ldmodel_project.proofs.Common.{Contents, Listed, ap, arith, is_some, map, objects_of, place_of, rules, sym}
+use Rattle.ldmodel_project.proofs.Common.{true, ◌∙◌, ◌≡◌}
 use Rattle.ldmodel_project.proofs.Places.{in_use, place_of-some, place_of-none, is_named_at}
 use Rattle.ldmodel_project.proofs.Tagged.{none_named}
 use Rattle.ldmodel_project.proofs.keyed_objects.KeyedObjects.place_of.Goals as goal

@@ -1,6 +1,4 @@
-use Rattle.std.proofs.Common.{◌≡◌, ◌<◌, ℕ, get_or, false}
-use Rattle.std.specs.Prelude.{bytes_eq}
-use Rattle.ldmodel_project.specs.Slots.{named_at}
+use Rattle.ldmodel_project.proofs.Common.{bytes_eq, false, get_or, named_at, ℕ, ◌<◌, ◌≡◌}
 use Rattle.ldmodel_project.proofs.keyed_objects.KeyedObjects.place_of.Given as goal
 
 -- no object so far has the name

@@ -1,8 +1,4 @@
-use Rattle.std.proofs.Common.{◌≡◌, ◌<◌, ℕ, true}
-use Rattle.std.specs.Prelude.{Some}
-use Rattle.slab.specs.Slab.{get}
-use Rattle.ldmodel.specs.Project.{NamedObject}
-use Rattle.ldmodel_project.specs.Tags.{may_have}
+use Rattle.ldmodel_project.proofs.Common.{NamedObject, Some, get, may_have, true, ℕ, ◌<◌, ◌≡◌}
 use Rattle.ldmodel_project.proofs.keyed_objects.tagged.more_tags.Given as goal
 
 -- the names under the keys so far are noted

@@ -1,7 +1,4 @@
-use Rattle.std.proofs.Common.{◌∙◌, ap}
-use Rattle.std.specs.List.{fold}
-use Rattle.std.proofs.lemmas.List.{take_all}
-use Rattle.ldmodel_project.specs.Tags.{hash_of, mixed}
+use Rattle.ldmodel_project.proofs.Common.{ap, fold, hash_of, mixed, take_all, ◌∙◌}
 use Rattle.ldmodel_project.proofs.keyed_objects.tags.hash_of.Goals as goal
 
 pub returns : goal.returns

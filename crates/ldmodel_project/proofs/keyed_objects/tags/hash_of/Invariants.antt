@@ -1,6 +1,4 @@
-use Rattle.std.proofs.Common.{◌≡◌, take}
-use Rattle.std.specs.List.{fold}
-use Rattle.ldmodel_project.specs.Tags.{mixed}
+use Rattle.ldmodel_project.proofs.Common.{fold, mixed, take, ◌≡◌}
 use Rattle.ldmodel_project.proofs.keyed_objects.tags.hash_of.Given as goal
 
 -- the hash of the bytes so far

@@ -1,5 +1,4 @@
-use Rattle.std.proofs.Common.{refl}
-use Rattle.ldmodel_project.specs.Tags.{mixed}
+use Rattle.ldmodel_project.proofs.Common.{mixed, refl}
 use Rattle.ldmodel_project.proofs.keyed_objects.tags.mixed.Goals as goal
 
 pub returns : goal.returns

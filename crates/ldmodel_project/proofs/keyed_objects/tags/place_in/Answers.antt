@@ -1,4 +1,4 @@
-use Rattle.std.proofs.Common.{◌/◌, ◌%◌, ap}
+use Rattle.ldmodel_project.proofs.Common.{ap, ◌%◌, ◌/◌}
 use Rattle.ldmodel_project.specs.Tags.{place_in}
 use Rattle.ldmodel_project.proofs.keyed_objects.tags.place_in.Goals as goal
 

@@ -1,5 +1,4 @@
-use Rattle.std.proofs.Common.{ℕ, List, subst, sym}
-use Rattle.ldmodel_project.specs.Listing.{AreKeysDistinct}
+use Rattle.ldmodel_project.proofs.Common.{AreKeysDistinct, List, subst, sym, ℕ}
 use Rattle.ldmodel_project.proofs.order.Order.index.Goals as goal
 
 pub places_of-requires : goal.places_of-requires

@@ -1,5 +1,4 @@
-use Rattle.std.proofs.Common.{List, ℕ, subst}
-use Rattle.ldmodel_project.specs.Listing.{AreKeysDistinct}
+use Rattle.ldmodel_project.proofs.Common.{AreKeysDistinct, List, subst, ℕ}
 use Rattle.ldmodel_project.proofs.order.Order.keys.Goals as goal
 
 pub returns-clause-distinct : goal.returns-clause-distinct

@@ -1,5 +1,4 @@
-use Rattle.std.proofs.Common.{ℕ, List, subst, sym}
-use Rattle.ldmodel_project.specs.Listing.{AreKeysDistinct}
+use Rattle.ldmodel_project.proofs.Common.{AreKeysDistinct, List, subst, sym, ℕ}
 use Rattle.ldmodel_project.proofs.order.Order.of.Goals as goal
 
 pub invariant_of-result : goal.invariant_of-result

@@ -1,11 +1,6 @@
-use Rattle.std.proofs.Common.{◌≡◌, ◌<◌, ◌∙◌, ap, sym, subst, arith, nat_eq, length, get_or, eq-eqb}
-use Rattle.std.specs.Prelude.{Option, unwrap_or, slice_get}
-use Rattle.std.specs.List.{count_by}
-use Rattle.std.proofs.lemmas.List.{length-map, get_or_read}
-use Rattle.ldmodel.specs.Project.{NamedObject}
-use Rattle.ldmodel_project.specs.ProjectState.{ProjectState, Listing}
-use Rattle.ldmodel_project.specs.Listing.{key_count}
-use Rattle.ldmodel_project.specs.Next.{named_under, next_count}
+use Rattle.ldmodel_project.proofs.Common.{Listing, NamedObject, Option, ProjectState, ap, arith, count_by, eq-eqb}
+use Rattle.ldmodel_project.proofs.Common.{get_or, get_or_read, key_count, length, length-map, named_under, nat_eq}
+use Rattle.ldmodel_project.proofs.Common.{next_count, slice_get, subst, sym, unwrap_or, ◌<◌, ◌∙◌, ◌≡◌}
 use Rattle.ldmodel_project.proofs.Counts.{count_by_at}
 use Rattle.ldmodel_project.proofs.Shown.{next_entry_at, listed_before}
 use Rattle.ldmodel_project.proofs.project.Next.entry.Goals as goal

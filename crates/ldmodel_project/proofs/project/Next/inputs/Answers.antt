@@ -1,9 +1,5 @@
-use Rattle.std.proofs.Common.{◌∙◌, ◌∷◌, [], ◌++◌, List, ap, arith, sym, take}
-use Rattle.std.proofs.lemmas.List.{map-append}
-use Rattle.ldmodel.specs.Project.{NamedObject}
-use Rattle.ldmodel_project.specs.Inputs.{shown_input, shown_inputs}
-use Rattle.ldmodel_project.specs.Listing.{objects_of}
-use Rattle.ldmodel_project.specs.declared.input.InputObject.{InputObject}
+use Rattle.ldmodel_project.proofs.Common.{InputObject, List, NamedObject, [], ap, arith, map-append, objects_of}
+use Rattle.ldmodel_project.proofs.Common.{shown_input, shown_inputs, sym, take, ◌++◌, ◌∙◌, ◌∷◌}
 use Rattle.ldmodel_project.proofs.Shown.{take_entry}
 use Rattle.ldmodel_project.proofs.project.Next.inputs.Goals as goal
 

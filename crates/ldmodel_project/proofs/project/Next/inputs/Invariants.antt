@@ -1,7 +1,5 @@
-use Rattle.std.proofs.Common.{◌≡◌, ◌≤◌, length, take, vec_len}
+use Rattle.ldmodel_project.proofs.Common.{length, objects_of, shown_inputs, take, vec_len, ◌≡◌, ◌≤◌}
 use Rattle.std.specs.Vec.{vec_capacity}
-use Rattle.ldmodel_project.specs.Inputs.{shown_inputs}
-use Rattle.ldmodel_project.specs.Listing.{objects_of}
 use Rattle.ldmodel_project.proofs.project.Next.inputs.Given as goal
 
 -- the objects so far, and room for all

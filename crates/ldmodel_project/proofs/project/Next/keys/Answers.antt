@@ -1,9 +1,5 @@
-use Rattle.std.proofs.Common.{◌≤◌, ◌∙◌, ℕ, List, ap, sym, subst}
-use Rattle.std.specs.Prelude.{nat_eq}
-use Rattle.std.specs.List.{count_by}
-use Rattle.ldmodel_project.specs.ProjectState.{Listing}
-use Rattle.ldmodel_project.specs.Listing.{AreKeysDistinct, keys_of}
-use Rattle.ldmodel_project.specs.Next.{next_named}
+use Rattle.ldmodel_project.proofs.Common.{AreKeysDistinct, List, Listing, ap, count_by, keys_of, nat_eq, next_named}
+use Rattle.ldmodel_project.proofs.Common.{subst, sym, ℕ, ◌∙◌, ◌≤◌}
 use Rattle.ldmodel_project.proofs.Found.{next_distinct}
 use Rattle.ldmodel_project.proofs.Touching.{keys-map}
 use Rattle.ldmodel_project.proofs.project.Next.keys.Goals as goal

@@ -1,7 +1,4 @@
-use Rattle.std.proofs.Common.{◌∙◌, ap, sym}
-use Rattle.ldmodel_project.specs.ProjectState.{ProjectState, Listing}
-use Rattle.ldmodel_project.specs.Listing.{found_under}
-use Rattle.ldmodel_project.specs.Next.{next_found}
+use Rattle.ldmodel_project.proofs.Common.{Listing, ProjectState, ap, found_under, next_found, sym, ◌∙◌}
 use Rattle.ldmodel_project.proofs.Found.{found_under-next}
 use Rattle.ldmodel_project.proofs.project.Next.named.Goals as goal
 

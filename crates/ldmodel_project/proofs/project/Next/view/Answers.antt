@@ -1,7 +1,4 @@
-use Rattle.std.proofs.Common.{◌∙◌, ap, subst, sym}
-use Rattle.ldmodel.specs.Edits.{AreNamesDistinct}
-use Rattle.ldmodel_project.specs.ProjectState.{Listing}
-use Rattle.ldmodel_project.specs.Listing.{objects_of}
+use Rattle.ldmodel_project.proofs.Common.{AreNamesDistinct, Listing, ap, objects_of, subst, sym, ◌∙◌}
 use Rattle.ldmodel_project.proofs.project.Next.view.Goals as goal
 
 pub new-requires : goal.new-requires

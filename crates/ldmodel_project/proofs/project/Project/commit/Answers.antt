@@ -1,7 +1,4 @@
-use Rattle.std.proofs.Common.{◌∙◌, List, ap}
-use Rattle.ldmodel_project.specs.ProjectState.{ProjectState}
-use Rattle.ldmodel_project.specs.Listing.{Listed, found_under}
-use Rattle.ldmodel_project.specs.Next.{next_entries}
+use Rattle.ldmodel_project.proofs.Common.{List, Listed, ProjectState, ap, found_under, next_entries, ◌∙◌}
 use Rattle.ldmodel_project.proofs.Found.{found_under-next}
 use Rattle.ldmodel_project.proofs.project.Project.commit.Goals as goal
 

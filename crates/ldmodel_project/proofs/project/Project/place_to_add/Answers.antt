@@ -1,6 +1,5 @@
-use Rattle.std.proofs.Common.{◌∙◌, sym}
+use Rattle.ldmodel_project.proofs.Common.{objects_of, sym, ◌∙◌}
 use Rattle.ldmodel.specs.Edits.{is_full, is_object_name, is_too_long}
-use Rattle.ldmodel_project.specs.Listing.{objects_of}
 use Rattle.ldmodel_project.proofs.Naming.{has_bytes, within_limit}
 use Rattle.ldmodel_project.proofs.project.Project.place_to_add.Goals as goal
 

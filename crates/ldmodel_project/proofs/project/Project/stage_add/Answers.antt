@@ -1,17 +1,9 @@
-use Rattle.std.proofs.Common.{◌≡◌, ◌∙◌, ℕ, List, ap, sym, subst}
-use Rattle.std.specs.Prelude.{None, Some, Ok, Err, Result, IfOk}
+use Rattle.ldmodel_project.proofs.Common.{Contents, EditRefusal, Err, IfOk, IsEditing, List, Listed, NamedObject, None}
+use Rattle.ldmodel_project.proofs.Common.{ObjectData, Ok, Project, ProjectState, Result, Some, Staged, ap, held, insert}
+use Rattle.ldmodel_project.proofs.Common.{objects_of, subst, sym, ℕ, ◌∙◌, ◌≡◌}
 use Rattle.ldmodel.specs.Edits.{Change, Add, early_refusal, new_object, with_objects}
-use Rattle.ldmodel.specs.Project.{NamedObject, Project}
-use Rattle.ldmodel_project.specs.ProjectState.{ProjectState, held}
-use Rattle.ldmodel_project.specs.Listing.{Listed, objects_of}
 use Rattle.ldmodel_project.proofs.Leading.{stages_objects}
 use Rattle.ldmodel_project.proofs.project.Project.stage_add.Goals as goal
-use Rattle.std.specs.List.{insert}
-use Rattle.elfobj.specs.Object.{ObjectData}
-use Rattle.ldmodel_project.specs.Listing.{Contents}
-use Rattle.ldmodel_project.specs.Staging.{IsEditing}
-use Rattle.ldmodel_project.specs.declared.staged.Staged.{Staged}
-use Rattle.ldmodel.specs.declared.edit.EditRefusal.{EditRefusal}
 
 pub returns-in-Ok-clause-staged : goal.returns-in-Ok-clause-staged
 returns-in-Ok-clause-staged c =
@@ -22,7 +14,7 @@ returns-in-Ok-clause-staged c =
           c.self.inside.options;
     } in
     let h : ProjectState = record {
-      contents = c.grow_add.new.self;
+      contents = c.reserve_add.new.self;
       script = c.self.inside.script;
       options =
           c.self.inside.options;
@@ -32,7 +24,7 @@ returns-in-Ok-clause-staged c =
     let o : NamedObject = record { name = c.args.name.now; object = c.in-Ok.object } in
     let next : List NamedObject = insert objects c.in_ok-place.place o in
     let same : old.contents.entries ≡ h.contents.entries =
-    sym (ap (λ (k : Contents). k.entries) c.grow_add.ensures.same.same) in
+    sym (ap (λ (k : Contents). k.entries) c.reserve_add.ensures.same.same) in
     let project : held old ≡ held h =
     ap (λ (es : List Listed). let p : Project =
     record { objects = objects_of es; script = c.self.inside.script; options = c.self.inside.options } in p) same in
@@ -51,7 +43,7 @@ returns-in-Ok-clause-staged c =
     ∙ ap (λ (es : List Listed). insert (objects_of es) c.args.at
     (new_object c.args.name.now c.args.bytes.items)) same) in
     stages_objects h change next c.staged.result early (c.in-Ok.ensures.ok.0, ap (with_objects (held h)) made)
-    (c.staged.ensures.ok h next c.grow_add.ensures.staged)
+    (c.staged.ensures.ok h next c.reserve_add.ensures.staged)
 
 -- a new object is touched, and stands at its place
 new_stands : (r : Result Staged EditRefusal) (at place : ℕ) → place ≡ at → IfOk r (λ s. IsEditing None s.objects)
@@ -63,5 +55,5 @@ new_stands (Err r) at place e touching after = touching
 pub returns-in-Ok-clause-named : goal.returns-in-Ok-clause-named
 returns-in-Ok-clause-named c =
     new_stands c.staged.result c.args.at c.in_ok-place.place c.in_ok-place.ensures.place.0
-    (c.staged.ensures.touching None c.grow_add.ensures.touching)
-    (c.staged.ensures.after (Some c.in_ok-place.place) c.grow_add.ensures.after)
+    (c.staged.ensures.touching None c.reserve_add.ensures.touching)
+    (c.staged.ensures.after (Some c.in_ok-place.place) c.reserve_add.ensures.after)

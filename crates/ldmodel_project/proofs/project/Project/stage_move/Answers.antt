@@ -1,12 +1,8 @@
-use Rattle.std.proofs.Common.{◌≡◌, ℕ, List, ap, sym, subst}
-use Rattle.std.specs.Prelude.{Option, None, Some, slice_index_or}
-use Rattle.ldmodel.specs.Edits.{place_of, Change, Move, early_refusal, moved, unnamed, with_objects}
-use Rattle.ldmodel.specs.Project.{NamedObject}
-use Rattle.ldmodel_project.specs.ProjectState.{ProjectState, Stages, held}
-use Rattle.ldmodel_project.specs.Listing.{objects_of}
+use Rattle.ldmodel_project.proofs.Common.{List, NamedObject, None, Option, ProjectState, Some, Stages, ap, held, insert}
+use Rattle.ldmodel_project.proofs.Common.{objects_of, place_of, remove, slice_index_or, subst, sym, unnamed, ℕ, ◌≡◌}
+use Rattle.ldmodel.specs.Edits.{Change, Move, early_refusal, moved, with_objects}
 use Rattle.ldmodel_project.proofs.Leading.{stages_objects}
 use Rattle.ldmodel_project.proofs.project.Project.stage_move.Goals as goal
-use Rattle.std.specs.List.{insert, remove}
 
 pub returns-in-Ok-clause-staged : goal.returns-in-Ok-clause-staged
 returns-in-Ok-clause-staged c =
@@ -26,4 +22,5 @@ returns-in-Ok-clause-staged c =
     ≡ Some c.in-Ok.place) (sym c.self.view_is) c.in-Ok.ensures.place in
     let accepts = ap (λ (m : Option ℕ). with_objects (held h) (moved objects c.args.to m)) (sym place) in
     subst (λ (x : ProjectState). Stages x change c.staged.result) c.self.view_is
-    (stages_objects h change next c.staged.result early accepts (c.staged.ensures.ok h next c.grow_move.ensures.staged))
+    (stages_objects h change next c.staged.result early accepts
+    (c.staged.ensures.ok h next c.reserve_move.ensures.staged))

@@ -1,12 +1,8 @@
-use Rattle.std.proofs.Common.{◌≡◌, ℕ, List, ap, sym, subst}
-use Rattle.std.specs.Prelude.{Option, None, Some}
-use Rattle.ldmodel.specs.Edits.{place_of, Change, Remove, early_refusal, removed, with_objects}
-use Rattle.ldmodel.specs.Project.{NamedObject}
-use Rattle.ldmodel_project.specs.ProjectState.{ProjectState, Stages, held}
-use Rattle.ldmodel_project.specs.Listing.{objects_of}
+use Rattle.ldmodel_project.proofs.Common.{List, NamedObject, None, Option, ProjectState, Some, Stages, ap, held}
+use Rattle.ldmodel_project.proofs.Common.{objects_of, place_of, remove, subst, sym, ℕ, ◌≡◌}
+use Rattle.ldmodel.specs.Edits.{Change, Remove, early_refusal, removed, with_objects}
 use Rattle.ldmodel_project.proofs.Leading.{stages_objects}
 use Rattle.ldmodel_project.proofs.project.Project.stage_remove.Goals as goal
-use Rattle.std.specs.List.{remove}
 
 pub returns-in-Ok-clause-staged : goal.returns-in-Ok-clause-staged
 returns-in-Ok-clause-staged c =
@@ -25,4 +21,4 @@ returns-in-Ok-clause-staged c =
     let accepts = ap (λ (m : Option ℕ). with_objects (held h) (removed (held h).objects m)) (sym place) in
     subst (λ (x : ProjectState). Stages x change c.staged.result) c.self.view_is
     (stages_objects h change next c.staged.result early accepts
-    (c.staged.ensures.ok h next c.grow_remove.ensures.staged))
+    (c.staged.ensures.ok h next c.reserve_remove.ensures.staged))

@@ -1,12 +1,8 @@
-use Rattle.std.proofs.Common.{◌≡◌, ◌∙◌, ℕ, List, ap, sym, subst}
-use Rattle.std.specs.Prelude.{Option, None, Some, slice_set}
-use Rattle.ldmodel.specs.Edits.{place_of, Change, Replace, early_refusal, new_object, replaced, with_objects}
-use Rattle.ldmodel.specs.Project.{NamedObject}
-use Rattle.ldmodel_project.specs.ProjectState.{ProjectState, Stages, held}
-use Rattle.ldmodel_project.specs.Listing.{objects_of}
+use Rattle.ldmodel_project.proofs.Common.{List, NamedObject, None, ObjectData, Option, ProjectState, Some, Stages, ap}
+use Rattle.ldmodel_project.proofs.Common.{held, objects_of, place_of, slice_set, subst, sym, ℕ, ◌∙◌, ◌≡◌}
+use Rattle.ldmodel.specs.Edits.{Change, Replace, early_refusal, new_object, replaced, with_objects}
 use Rattle.ldmodel_project.proofs.Leading.{stages_objects}
 use Rattle.ldmodel_project.proofs.project.Project.stage_replace.Goals as goal
-use Rattle.elfobj.specs.Object.{ObjectData}
 
 pub returns-in-Ok-clause-staged : goal.returns-in-Ok-clause-staged
 returns-in-Ok-clause-staged c =
@@ -34,4 +30,4 @@ returns-in-Ok-clause-staged c =
     (sym place) in
     subst (λ (x : ProjectState). Stages x change c.staged.result) c.self.view_is
     (stages_objects h change next c.staged.result early (c.in-Ok.ensures.ok.0, accepts)
-    (c.staged.ensures.ok h next c.grow_replace.ensures.staged))
+    (c.staged.ensures.ok h next c.reserve_replace.ensures.staged))

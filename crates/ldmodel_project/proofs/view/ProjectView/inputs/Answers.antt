@@ -1,6 +1,4 @@
-use Rattle.std.proofs.Common.{ap, subst}
-use Rattle.ldmodel.specs.Edits.{AreNamesDistinct}
-use Rattle.ldmodel.specs.Project.{Project}
+use Rattle.ldmodel_project.proofs.Common.{AreNamesDistinct, Project, ap, subst}
 use Rattle.ldmodel_project.proofs.view.ProjectView.inputs.Goals as goal
 
 pub returns-clause-distinct : goal.returns-clause-distinct

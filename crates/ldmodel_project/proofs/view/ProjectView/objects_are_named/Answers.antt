@@ -1,7 +1,4 @@
-use Rattle.std.proofs.Common.{ap, subst}
-use Rattle.ldmodel.specs.Edits.{AreNamesDistinct}
-use Rattle.ldmodel.specs.Project.{Project}
-use Rattle.ldmodel_project.specs.Inputs.{AreObjectsNamed}
+use Rattle.ldmodel_project.proofs.Common.{AreNamesDistinct, AreObjectsNamed, Project, ap, subst}
 use Rattle.ldmodel_project.proofs.Naming.{all_named}
 use Rattle.ldmodel_project.proofs.view.ProjectView.objects_are_named.Goals as goal
 

@@ -1,5 +1,4 @@
-use Rattle.std.proofs.Common.{take}
-use Rattle.ldmodel_project.specs.Inputs.{shown_inputs}
+use Rattle.ldmodel_project.proofs.Common.{shown_inputs, take}
 use Rattle.ldmodel_project.specs.Read.{AreObjectsRead}
 use Rattle.ldmodel_project.proofs.view.ProjectView.objects_are_read.Given as goal
 

@@ -1,7 +1,4 @@
-use Rattle.std.proofs.Common.{◌==◌, ◌∙◌, ap}
-use Rattle.std.specs.Int.{bit_at}
-use Rattle.std.proofs.lemmas.Nat.Bits.{shr_and_one}
-use Rattle.ldscript_statements.specs.NameKinds.{has_kind, kind_of}
+use Rattle.ldscript_statements.proofs.Common.{ap, bit_at, has_kind, kind_of, shr_and_one, ◌==◌, ◌∙◌}
 use Rattle.ldscript_statements.proofs.name_kinds.NameKinds.has_kind_of.Goals as goal
 
 pub returns : goal.returns

@@ -1,6 +1,4 @@
-use Rattle.std.proofs.Common.{◌==◌, ap}
-use Rattle.std.proofs.lemmas.Nat.Bits.{bit_at-zero}
-use Rattle.ldscript_statements.specs.NameKinds.{has_kind, kind_of}
+use Rattle.ldscript_statements.proofs.Common.{ap, bit_at-zero, has_kind, kind_of, ◌==◌}
 use Rattle.ldscript_statements.proofs.name_kinds.NameKinds.none.Goals as goal
 
 pub returns : goal.returns

@@ -1,9 +1,5 @@
-use Rattle.std.proofs.Common.{◌≡◌, ◌==◌, ◌<◌, ◌*◌, ◌%◌, ◌^◌, true, ap, arith, sym, ◌∙◌}
-use Rattle.std.specs.Int.{bit_at, w64}
-use Rattle.std.specs.Int.Bits.{bit_or}
-use Rattle.std.proofs.lemmas.Bool.{false≢true}
-use Rattle.std.proofs.lemmas.Nat.Bits.{bit_at_set_same}
-use Rattle.ldscript_statements.specs.NameKinds.{has_kind, kind_of}
+use Rattle.ldscript_statements.proofs.Common.{ap, arith, bit_at, bit_at_set_same, bit_or, false≢true, has_kind, kind_of}
+use Rattle.ldscript_statements.proofs.Common.{sym, true, w64, ◌%◌, ◌*◌, ◌<◌, ◌==◌, ◌^◌, ◌∙◌, ◌≡◌}
 use Rattle.ldscript_statements.proofs.KindsNoted.{was_off}
 use Rattle.ldscript_statements.proofs.name_kinds.NameKinds.note.Goals as goal
 

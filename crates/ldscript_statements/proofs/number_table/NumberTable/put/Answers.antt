@@ -1,11 +1,7 @@
-use Rattle.std.proofs.Common.{◌≡◌, ℕ, List, ap, ◌∙◌, cond, Some}
-use Rattle.std.specs.Prelude.{bytes_eq, is_some}
-use Rattle.std.specs.Ordering.{nat_cmp}
-use Rattle.std.specs.Cmp.Lexicographic.{slice_cmp}
+use Rattle.ldscript_statements.proofs.Common.{List, Some, ap, bytes_eq, cond, is_some, lookup, nat_cmp, number_at}
+use Rattle.ldscript_statements.proofs.Common.{slice_cmp, ℕ, ◌∙◌, ◌≡◌}
 use Rattle.std.specs.BTreeMap.{is_at}
-use Rattle.std.specs.Map.{lookup}
 use Rattle.std.specs.Vec.{vec_items}
-use Rattle.ldscript_statements.specs.NumberTables.{number_at}
 use Rattle.ldscript_statements.proofs.KindsNoted.{by_result, still_absent}
 use Rattle.ldscript_statements.proofs.NameTables.{lookup_put}
 use Rattle.ldscript_statements.proofs.number_table.NumberTable.put.Goals as goal
@@ -23,7 +19,8 @@ invariant_of-self c = record {
       let finds = is_at (λ k. slice_cmp nat_cmp q (vec_items k)) in
       let none = c.args.self.now.known q (c.note.ensures.others q off) in
       by_result c.insert.result c.insert.ensures.entries c.insert.ensures.err
-      (λ put. still_absent q c.args.name.now c.args.number (lookup finds old.entries) (lookup finds c.insert.new.self.entries)
+      (λ put. still_absent q c.args.name.now c.args.number (lookup finds old.entries)
+      (lookup finds c.insert.new.map.entries)
       (c.note.ensures.name q off)
       (ap (lookup finds) put ∙ lookup_put vec_items q c.in_ok-key.key c.args.number old.entries
       ∙ ap (λ b. cond (bytes_eq q b) (Some c.args.number) (lookup finds old.entries)) c.in_ok-key.ensures.items)

@@ -1,6 +1,4 @@
-use Rattle.std.proofs.Common.{Some, sym, ◌∙◌, ap}
-use Rattle.ldscript_terms.specs.Forms.{parts_in}
-use Rattle.ldscript_terms.specs.CodeTerms.{exact_name}
+use Rattle.ldscript_terms.proofs.Common.{Some, ap, exact_name, parts_in, sym, ◌∙◌}
 use Rattle.ldscript_terms.proofs.Exact.{exact_of_bytes, only_exact}
 use Rattle.ldscript_terms.proofs.pattern.Pattern.exact_name.Goals as goal
 

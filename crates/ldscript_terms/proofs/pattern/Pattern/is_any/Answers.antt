@@ -1,6 +1,4 @@
-use Rattle.std.proofs.Common.{sym, ◌∙◌, ap, subst}
-use Rattle.std.proofs.lemmas.Bool.{false≢true}
-use Rattle.ldscript_terms.specs.Forms.{IsForm, parts_in}
+use Rattle.ldscript_terms.proofs.Common.{IsForm, ap, false≢true, parts_in, subst, sym, ◌∙◌}
 use Rattle.ldscript_terms.proofs.Exact.{any_matches, no_star}
 use Rattle.ldscript_terms.proofs.Patterns.{star_is}
 use Rattle.ldscript_terms.proofs.pattern.Pattern.is_any.Goals as goal

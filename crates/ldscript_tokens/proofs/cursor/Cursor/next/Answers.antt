@@ -1,7 +1,4 @@
-use Rattle.std.proofs.Common.{length, subst}
-use Rattle.std.specs.List.{All}
-use Rattle.std.proofs.lemmas.List.Elements.{All-tail}
-use Rattle.ldscript_tokens.specs.CodeTokens.{IsInText}
+use Rattle.ldscript_tokens.proofs.Common.{All, All-tail, IsInText, length, subst}
 use Rattle.ldscript_tokens.proofs.cursor.Cursor.next.Goals as goal
 
 pub invariant_of-result : goal.invariant_of-result

@@ -1,6 +1,5 @@
 -- Each case is a step of its own.
-use Rattle.std.proofs.Common.{◌∙◌, Some, sym, subst}
-use Rattle.place.specs.Grouping.{Takes}
+use Rattle.place.proofs.Common.{Some, Takes, subst, sym, ◌∙◌}
 use Rattle.place.proofs.Steps.{take_begins, take_goes_on, take_ends}
 use Rattle.place.proofs.group.Grouping.take.Goals as goal
 
@@ -14,7 +13,7 @@ returns-then-is_shared c =
 
 pub returns-in_ok-push-in-Some : goal.returns-in_ok-push-in-Some
 returns-in_ok-push-in-Some c =
-    subst (λ r. Takes c.args.self.now.done.items r c.args.number c.args.section.now c.push.new.self.items
+    subst (λ r. Takes c.args.self.now.done.items r c.args.number c.args.section.now c.push.new.list.items
     (Some (record { group = c.begin.result; last = c.args.section.now }))) (sym c.in-Some.is)
     (subst (λ l. Takes c.args.self.now.done.items (Some c.in-Some.running) c.args.number c.args.section.now l
     (Some (record { group = c.begin.result; last = c.args.section.now }))) (sym (c.in_ok-push-in-Some.ensures.items))

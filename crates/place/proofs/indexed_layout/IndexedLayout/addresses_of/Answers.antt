@@ -1,5 +1,4 @@
-use Rattle.std.proofs.Common.{arith, subst, sym}
-use Rattle.place.specs.IndexedLayout.{IsSectionAddress, table_key}
+use Rattle.place.proofs.Common.{IsSectionAddress, arith, subst, sym, table_key}
 use Rattle.place.proofs.ObjectAddresses.{in_range, out_of_range}
 use Rattle.place.proofs.indexed_layout.IndexedLayout.addresses_of.Goals as goal
 

@@ -1,5 +1,4 @@
-use Rattle.std.proofs.Common.{subst, sym}
-use Rattle.place.specs.IndexedLayout.{IsSectionAddress}
+use Rattle.place.proofs.Common.{IsSectionAddress, subst, sym}
 use Rattle.place.proofs.indexed_layout.IndexedLayout.find.Goals as goal
 
 pub returns : goal.returns

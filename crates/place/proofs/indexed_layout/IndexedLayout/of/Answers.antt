@@ -1,12 +1,7 @@
-use Rattle.std.proofs.Common.{◌∙◌, ap, flat_map, subst, sym, List, Vec, Global}
+use Rattle.place.proofs.Common.{Each, EachLater, Global, IsColumn, IsOwned, List, Vec, all_entries, ap, flat_map}
+use Rattle.place.proofs.Common.{provided, rows, subst, sym, ◌∙◌}
 use Rattle.ldmodel_laws.specs.PlacedOnce.{Differ}
-use Rattle.ldmodel_laws.specs.Spread.{EachLater}
-use Rattle.ldmodel.specs.Each.{Each}
-use Rattle.ldmodel.specs.Names.{provided}
-use Rattle.ldmodel.specs.Rows.{Piece, rows}
-use Rattle.place.specs.Columns.{IsColumn}
-use Rattle.place.specs.Entries.{all_entries}
-use Rattle.place.specs.InPlace.{IsOwned}
+use Rattle.ldmodel.specs.Rows.{Piece}
 use Rattle.ldmodel.specs.declared.rows.Piece as code
 use Rattle.place.proofs.AllNumbered.{all_numbered}
 use Rattle.place.proofs.Owned.{all_inputs, all_owned}
@@ -31,7 +26,7 @@ returns-clause-indexed_layout c = λ s placement.
     (record {
       once = subst (EachLater Differ) (ap flat (sym placed)) (c.once_in_rows.ensures p distinct c.are_numbered.ensures);
       owned = subst (Each (IsOwned p)) (ap flat (sym placed)) owned;
-      spread = c.nothing_meets.ensures p.script (rows p) (provided p) s placement.placed;
+      spread = c.nothing_overlaps.ensures p.script (rows p) (provided p) s placement.placed;
     })
     (placed ∙ sym c.requires.rows)
     (c.pieces-starts.ensures ∙ placement.places.starts) c.requires.table c.requires.rows placement

@@ -1,9 +1,4 @@
-use Rattle.std.proofs.Common.{◌∙◌, subst, sym}
-use Rattle.ldmodel.specs.PlacementView.{AreSegments}
-use Rattle.ldmodel.specs.Names.{provided}
-use Rattle.ldmodel.specs.Rows.{rows}
-use Rattle.ldmodel.specs.Segments.{segments}
-use Rattle.ldscript.specs.Script.{IsSound}
+use Rattle.place.proofs.Common.{AreSegments, IsSound, provided, rows, segments, subst, sym, ◌∙◌}
 use Rattle.place.proofs.Layouts.{has_layout}
 use Rattle.place.proofs.Named.{are_named}
 use Rattle.place.proofs.link_layout.LinkLayout.of.Goals as goal

@@ -1,5 +1,4 @@
-use Rattle.std.proofs.Common.{◌≡◌, ◌++◌, take, drop}
-use Rattle.place_sections.specs.Parts.{after_sections, before_sections, items_within}
+use Rattle.place_sections.proofs.Common.{after_sections, before_sections, drop, items_within, take, ◌++◌, ◌≡◌}
 use Rattle.place_sections.proofs.parts.ScriptParts.of.Given as goal
 
 abbrev pub invariant-loop-number : goal.invariant-loop-number

@@ -1,9 +1,7 @@
-use Rattle.std.proofs.Common.{◌≡◌, nat_eq, ap, refl, subst, sym, eq-eqb, ◌∙◌}
+use Rattle.place_sections.proofs.Common.{Ends, Places, ap, eq-eqb, eqb-true, nat_eq, refl, subst, sym, ◌∙◌, ◌≡◌}
 use Rattle.std.specs.Bool.{Decides}
-use Rattle.std.proofs.lemmas.Bool.{eqb-true}
 use Rattle.std.proofs.lemmas.Slice.Eq.{slice_eq-Decides}
 use Rattle.ldmodel.specs.declared.script_symbol.DirectiveIndex.{DirectiveIndex}
-use Rattle.place_sections.specs.Places.{Ends, Places}
 use Rattle.place_sections.proofs.placement.Placement.reusable.Goals as goal
 
 same_number : (a b : DirectiveIndex) → Decides (nat_eq a.0 b.0) (a ≡ b)

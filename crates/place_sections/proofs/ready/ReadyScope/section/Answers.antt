@@ -1,6 +1,4 @@
-use Rattle.std.proofs.Common.{ap, ◌∙◌}
-use Rattle.std.specs.Option.{option_map}
-use Rattle.place_terms.specs.SectionTable.{nameless}
+use Rattle.place_sections.proofs.Common.{ap, nameless, option_map, ◌∙◌}
 use Rattle.place_sections.proofs.Naming.{numbers_found, asked}
 use Rattle.place_sections.proofs.ready.ReadyScope.section.Goals as goal
 

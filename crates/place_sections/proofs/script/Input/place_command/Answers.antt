@@ -1,4 +1,4 @@
-use Rattle.std.proofs.Common.{get_or, [], map, ap, ◌∙◌}
+use Rattle.place_sections.proofs.Common.{[], ap, get_or, map, ◌∙◌}
 use Rattle.place_sections.proofs.Counting.{section_adds, section_resumes}
 use Rattle.place_sections.proofs.script.Input.place_command.Goals as goal
 

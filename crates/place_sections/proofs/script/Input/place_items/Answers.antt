@@ -1,21 +1,13 @@
-use Rattle.std.proofs.Common.{◌≡◌, if◌then◌else◌, rules, Err, length, map, arith, ◌∙◌, ap, inl, inr, subst, sym}
-use Rattle.std.proofs.Common.{refl, Vec, Global, drop, ◌+◌}
-use Rattle.std.proofs.lemmas.List.{length-map}
-use Rattle.place_terms.specs.Keyed.{section_of}
+use Rattle.place_sections.proofs.Common.{AreNoted, Boundary, Err, Global, ItemsAlongside, Vec, ap, arith, drop}
+use Rattle.place_sections.proofs.Common.{if◌then◌else◌, inl, inr, item_sections, layout_of, length, length-map, map}
+use Rattle.place_sections.proofs.Common.{noted, refl, rows_of, rules, section_of, subst, sym, ◌+◌, ◌∙◌, ◌≡◌}
 use Rattle.place_sections.proofs.Alongside.{from_here}
 use Rattle.place_sections.proofs.AlongsideItems.{items_go_on, kept_there, next_alongside}
-use Rattle.ldmodel.specs.Layout.{noted}
 use Rattle.place_sections.proofs.InputNumbers.{item_counts}
 use Rattle.place_sections.proofs.Counting.{along_on, entries_fewer, left_at_first, none_placed}
 use Rattle.place_sections.proofs.Noting.{all_there, comes_on, is_next, more_by, more_sections, noted_more}
 use Rattle.place_sections.proofs.Noting.{stands_at, stops_there}
-use Rattle.ldscript.specs.statements.Numbering.{item_sections}
-use Rattle.place_sections.specs.Alongside.{ItemsAlongside}
-use Rattle.place_sections.specs.Boundaries.{AreNoted}
-use Rattle.place_sections.specs.Inputs.{rows_of}
 use Rattle.place_sections.specs.Next.{IsNext}
-use Rattle.place_sections.specs.State.{layout_of}
-use Rattle.place_sections.specs.declared.boundary.Boundary.{Boundary}
 use Rattle.place_sections.proofs.script.Input.place_items.Goals as goal
 use Rattle.place_sections.proofs.script.Input.place_items.Goals.{then-is_output+in_ok-push, else-is_output}
 
@@ -186,5 +178,5 @@ returns-clause-boundaries g c =
     (all_there g.naming (rows_of g.naming c.args.self.now) c.args.self.now.provided.now
     (layout_of g.naming c.args.here.now c.args.done.now) c.args.items.now c.loop-number.here c.loop-number.done
     c.loop-number.number c.loop-number.invariant.here (omega (arith, c.loop-number-test.false)))
-    c.loop-number.boundaries.items c.push-2.new.self.items c.boundary-2.result c.loop-number.invariant.noted
+    c.loop-number.boundaries.items c.push-2.new.list.items c.boundary-2.result c.loop-number.invariant.noted
     (omega (arith, c.boundary-2.ensures.items)) c.boundary-2.ensures.at (inr refl) c.in_ok-push-2.ensures.items).all

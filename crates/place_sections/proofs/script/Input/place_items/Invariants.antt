@@ -1,12 +1,6 @@
-use Rattle.std.proofs.Common.{◌≡◌, ◌+◌, ◌*◌, ◌-◌, ◌^◌, ◌≤◌, ◌<◌, min, length, map, take, drop, Ok, false, true}
-use Rattle.ldmodel.specs.Chain.{run}
-use Rattle.ldmodel.specs.Placement.{item_step}
-use Rattle.place_terms.specs.Wholes.{counts_in}
-use Rattle.place_sections.specs.Alongside.{ItemsAlongside}
-use Rattle.place_sections.specs.Boundaries.{AreNoted}
-use Rattle.place_sections.specs.Counted.{CountsAlong, entries, left_after, placed_from}
-use Rattle.place_sections.specs.Inputs.{rows_of}
-use Rattle.place_sections.specs.State.{layout_of}
+use Rattle.place_sections.proofs.Common.{AreNoted, CountsAlong, ItemsAlongside, Ok, counts_in, drop, entries, false}
+use Rattle.place_sections.proofs.Common.{item_step, layout_of, left_after, length, map, min, placed_from, rows_of, run}
+use Rattle.place_sections.proofs.Common.{take, true, ◌*◌, ◌+◌, ◌-◌, ◌<◌, ◌^◌, ◌≡◌, ◌≤◌}
 use Rattle.place_sections.proofs.script.Input.place_items.Given as goal
 
 abbrev pub ghost-resume : goal.ghost-resume

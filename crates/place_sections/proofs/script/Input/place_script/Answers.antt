@@ -1,22 +1,14 @@
-use Rattle.std.proofs.Common.{◌≡◌, rules, Err, List, sym, ap, ◌∙◌, subst, arith, length, map}
-use Rattle.ldscript.specs.statements.declared.statement.Item.{Item}
-use Rattle.ldmodel.specs.Chain.{run}
-use Rattle.ldmodel.specs.Placement.{item_step, statement_step}
-use Rattle.place_terms.specs.Keyed.{section_of}
+use Rattle.place_sections.proofs.Common.{AreBoundaries, AreOutside, Err, Item, List, Outputs, ap, arith, counts_in}
+use Rattle.place_sections.proofs.Common.{item_step, layout_of, length, map, placed_from, rows_of, rules, run}
+use Rattle.place_sections.proofs.Common.{section_of, statement_step, subst, sym, ◌∙◌, ◌≡◌}
 use Rattle.place_sections.proofs.AlongsideItems.{items_alongside}
 use Rattle.place_sections.proofs.Joining.{after_goes, before_stops, earlier_items, items_stop, stops_so}
-use Rattle.place_sections.specs.Boundaries.{AreBoundaries}
-use Rattle.place_terms.specs.Outputs.{Outputs}
 use Rattle.place_sections.proofs.Following.{are_first}
 use Rattle.place_sections.proofs.InputNumbers.{outside_leave}
 use Rattle.place_sections.proofs.Outside.{after_outside, before_outside}
-use Rattle.place_sections.specs.Inputs.{rows_of}
-use Rattle.place_sections.specs.Parts.{AreOutside}
 use Rattle.place_sections.specs.Next.{AreFirst}
-use Rattle.place_sections.specs.State.{fault_of, layout_of}
+use Rattle.place_sections.specs.State.{fault_of}
 use Rattle.place_sections.proofs.Counting.{along_same}
-use Rattle.place_sections.specs.Counted.{placed_from}
-use Rattle.place_terms.specs.Wholes.{counts_in}
 use Rattle.place_sections.proofs.script.Input.place_script.Goals as goal
 
 pub returns-in_err-place_statements-clause-gives : goal.returns-in_err-place_statements-clause-gives

@@ -1,8 +1,4 @@
-use Rattle.std.proofs.Common.{◌≡◌, drop}
-use Rattle.ldmodel.specs.Chain.{run}
-use Rattle.ldmodel.specs.Placement.{statement_step}
-use Rattle.place_sections.specs.Inputs.{rows_of}
-use Rattle.place_sections.specs.State.{layout_of}
+use Rattle.place_sections.proofs.Common.{drop, layout_of, rows_of, run, statement_step, ◌≡◌}
 use Rattle.place_sections.proofs.script.Input.place_statements.Given as goal
 
 abbrev pub ghost-place_statement : goal.ghost-place_statement

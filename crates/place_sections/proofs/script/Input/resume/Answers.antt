@@ -1,14 +1,8 @@
-use Rattle.std.proofs.Common.{◌≡◌, ◌+◌, ◌<◌, length, map, refl, rules, ap, ◌∙◌, arith, List, Some}
-use Rattle.std.specs.Prelude.{slice_get}
-use Rattle.std.proofs.lemmas.Option.{slice_get_read}
-use Rattle.ldmodel.specs.Placement.{item_step}
-use Rattle.place_terms.specs.Keyed.{section_of}
+use Rattle.place_sections.proofs.Common.{Boundary, List, Some, ap, arith, item_step, layout_of, length, map, refl}
+use Rattle.place_sections.proofs.Common.{rows_of, rules, section_of, slice_get, slice_get_read, ◌+◌, ◌<◌, ◌∙◌, ◌≡◌}
 use Rattle.place_sections.proofs.Resuming.{all_noted, goes_on, items_within, may_be_taken}
 use Rattle.place_sections.proofs.Resuming.{none_reached, reached_on, taken_next}
 use Rattle.place_sections.proofs.Runs.{run_none}
-use Rattle.place_sections.specs.Inputs.{rows_of}
-use Rattle.place_sections.specs.State.{layout_of}
-use Rattle.place_sections.specs.declared.boundary.Boundary.{Boundary}
 use Rattle.place_sections.proofs.script.Input.resume.Goals as goal
 
 pub returns-in_default-clause-here : goal.returns-in_default-clause-here

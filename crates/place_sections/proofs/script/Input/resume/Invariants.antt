@@ -1,7 +1,5 @@
-use Rattle.std.proofs.Common.{◌≡◌}
+use Rattle.place_sections.proofs.Common.{PreviousPlacement, layout_of, ◌≡◌}
 use Rattle.place_sections.proofs.Resuming.{Reached}
-use Rattle.place_sections.specs.PreviousPlacement.{PreviousPlacement}
-use Rattle.place_sections.specs.State.{layout_of}
 use Rattle.place_sections.proofs.script.Input.resume.Given as goal
 
 abbrev pub invariant-loop-number : goal.invariant-loop-number

@@ -1,9 +1,4 @@
-use Rattle.std.proofs.Common.{◌≡◌, ◌-◌, drop, length}
-use Rattle.ldmodel.specs.Placement.{pieces_placed}
-use Rattle.place_terms.specs.Naming.{row_named}
-use Rattle.place_sections.specs.Alongside.{StartAt}
-use Rattle.place_sections.specs.Counted.{StaysThere}
-use Rattle.place_sections.specs.State.{body_of}
+use Rattle.place_sections.proofs.Common.{StartAt, StaysThere, body_of, drop, length, pieces_placed, row_named, ◌-◌, ◌≡◌}
 use Rattle.place_sections.proofs.state.CurrentOutput.keep_pieces.Given as goal
 
 abbrev pub ghost-put_piece : goal.ghost-put_piece

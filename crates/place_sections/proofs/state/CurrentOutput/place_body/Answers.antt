@@ -1,8 +1,6 @@
-use Rattle.std.proofs.Common.{arith}
-use Rattle.ldmodel.specs.Placement.{body_step}
+use Rattle.place_sections.proofs.Common.{arith, body_of, body_step}
 use Rattle.place_sections.proofs.Alongside.{alongside_on, counted_on, input_stays, run_next}
 use Rattle.place_sections.proofs.InputNumbers.{statement_counts}
-use Rattle.place_sections.specs.State.{body_of}
 use Rattle.place_sections.proofs.state.CurrentOutput.place_body.Goals as goal
 
 pub place_statement-requires : goal.place_statement-requires

@@ -1,9 +1,4 @@
-use Rattle.std.proofs.Common.{◌≡◌, ◌+◌, ◌≤◌, drop, IfSome}
-use Rattle.ldmodel.specs.Placement.{body_step}
-use Rattle.ldmodel.specs.Chain.{run}
-use Rattle.place_sections.specs.Alongside.{BodyAlongside}
-use Rattle.place_sections.specs.Counted.{Counted}
-use Rattle.place_sections.specs.State.{body_of}
+use Rattle.place_sections.proofs.Common.{BodyAlongside, Counted, IfSome, body_of, body_step, drop, run, ◌+◌, ◌≡◌, ◌≤◌}
 use Rattle.place_sections.proofs.state.CurrentOutput.place_body.Given as goal
 
 abbrev pub ghost-place_statement : goal.ghost-place_statement

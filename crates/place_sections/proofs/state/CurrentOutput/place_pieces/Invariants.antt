@@ -1,8 +1,4 @@
-use Rattle.std.proofs.Common.{◌≡◌, ◌-◌, drop, length}
-use Rattle.ldmodel.specs.Placement.{pieces_placed}
-use Rattle.place_terms.specs.Naming.{row_named}
-use Rattle.place_sections.specs.Counted.{Entered}
-use Rattle.place_sections.specs.State.{body_of}
+use Rattle.place_sections.proofs.Common.{Entered, body_of, drop, length, pieces_placed, row_named, ◌-◌, ◌≡◌}
 use Rattle.place_sections.proofs.state.CurrentOutput.place_pieces.Given as goal
 
 abbrev pub ghost-place_piece : goal.ghost-place_piece

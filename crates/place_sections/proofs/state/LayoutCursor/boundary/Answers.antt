@@ -1,6 +1,4 @@
-use Rattle.std.proofs.Common.{rules, length, refl, sym, ap, ◌∙◌}
-use Rattle.std.proofs.lemmas.List.{length-map}
-use Rattle.ldmodel.specs.PlacementView.{symbol_of}
+use Rattle.place_sections.proofs.Common.{ap, length, length-map, refl, rules, sym, symbol_of, ◌∙◌}
 use Rattle.place_sections.proofs.Wholes.{data_whole}
 use Rattle.place_sections.proofs.state.LayoutCursor.boundary.Goals as goal
 

@@ -1,7 +1,4 @@
-use Rattle.std.proofs.Common.{◌≡◌, drop}
-use Rattle.ldmodel.specs.Chain.{run}
-use Rattle.ldmodel.specs.Placement.{region_step}
-use Rattle.place_sections.specs.State.{layout_of}
+use Rattle.place_sections.proofs.Common.{drop, layout_of, region_step, run, ◌≡◌}
 use Rattle.place_sections.proofs.state.LayoutCursor.declare_all.Given as goal
 
 abbrev pub ghost-declare : goal.ghost-declare

@@ -1,15 +1,9 @@
-use Rattle.std.proofs.Common.{ℕ, Ok, inl, inr, sym, ap, subst, length, ◌∙◌}
+use Rattle.place_sections.proofs.Common.{IsOutput, Layout, Ok, PlacedOutput, and_then, ap, freed_from, head_from, inl}
+use Rattle.place_sections.proofs.Common.{inr, keyed, length, section_of, subst, sym, with_section, ℕ, ◌∙◌}
 use Rattle.std.proofs.lemmas.Result.{err_from_is_err_and}
-use Rattle.ldmodel.specs.Chain.{and_then}
-use Rattle.ldmodel.specs.Layout.{Layout, PlacedOutput}
-use Rattle.ldmodel.specs.Placement.{freed_from, with_section}
-use Rattle.place_terms.specs.Keyed.{section_of}
-use Rattle.place_terms.specs.Outputs.{IsOutput}
-use Rattle.place_terms.specs.SectionTable.{keyed}
 use Rattle.place_sections.proofs.Ending.{end_is, ends_there, joined, load_end_is}
 use Rattle.place_sections.proofs.state.LayoutCursor.end.Goals as goal
 use Rattle.place_sections.specs.Ends.{ended_body}
-use Rattle.place_sections.specs.Heads.{head_from}
 
 pub returns-clause-gives : goal.returns-clause-gives
 returns-clause-gives g c =
@@ -19,7 +13,8 @@ returns-clause-gives g c =
     let s : Layout = (ended_body g.naming c.args.self.now c.args.done.now).layout in
     let there = ends_there g.naming c.args.self.now c.args.output.now (head_from c.args.head) q
     c.close-section.ensures.value in
-    let last = load_end_is c.args.line c.args.output.now c.args.done.now q c.in_ok-load_end.load_end c.in_ok-load_end.ensures in
+    let last = load_end_is c.args.line c.args.output.now c.args.done.now q c.in_ok-load_end.load_end
+    c.in_ok-load_end.ensures in
     e ∙ (ap (λ r. and_then r (λ (_ : ℕ). Ok (with_section s c.args.output.now q))) c.in_ok-load_end.ensures
     ∙ ap (λ (t : Layout).
     Ok t) (joined g.naming c.args.self.now c.close-section.new.self c.args.done.now c.args.output.now

@@ -1,6 +1,5 @@
-use Rattle.std.proofs.Common.{Ok, Err, sym, ap, ◌∙◌}
+use Rattle.place_sections.proofs.Common.{Err, Ok, ap, outcome_of, sym, ◌∙◌}
 use Rattle.ldscript.specs.terms.CodeTerms.{expr_of}
-use Rattle.place_terms.specs.Outcomes.{outcome_of}
 use Rattle.place_terms.specs.declared.value.ValueFault.TheVariants.{NotReady, NoValue}
 use Rattle.place_sections.proofs.Valued.{number_is}
 use Rattle.place_sections.proofs.state.LayoutCursor.number.Goals as goal

@@ -1,9 +1,7 @@
-use Rattle.place_terms.specs.Naming.{row_named}
+use Rattle.place_sections.proofs.Common.{head_from, layout_of, row_named}
 use Rattle.place_sections.proofs.Alongside.{section_opened}
 use Rattle.place_sections.proofs.Options.{for_some}
 use Rattle.place_sections.proofs.state.LayoutCursor.place_section.Goals as goal
-use Rattle.place_sections.specs.Heads.{head_from}
-use Rattle.place_sections.specs.State.{layout_of}
 
 pub body-requires : goal.body-requires
 body-requires g c = (

@@ -1,7 +1,5 @@
-use Rattle.std.proofs.Common.{◌≡◌, take}
+use Rattle.place_terms.proofs.Common.{AreInForce, provided_names, shown_names, take, ◌≡◌}
 use Rattle.place_terms.proofs.provided.Provided.new.Given as goal
-use Rattle.place_terms.specs.Mentions.{shown_names}
-use Rattle.place_terms.specs.ProvidedTable.{AreInForce, provided_names}
 
 abbrev pub invariant-loop-number : goal.invariant-loop-number
 invariant-loop-number l = record {

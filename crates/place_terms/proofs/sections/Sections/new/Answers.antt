@@ -1,6 +1,6 @@
+use Rattle.place_terms.proofs.Common.{earlier_of}
 use Rattle.place_terms.proofs.FoundSections.{no_sections}
 use Rattle.place_terms.proofs.TakenOver.{none_taken}
-use Rattle.place_terms.specs.PreviousLayout.{earlier_of}
 use Rattle.place_terms.proofs.sections.Sections.new.Goals as goal
 
 pub invariant_of-result : goal.invariant_of-result

@@ -1,9 +1,5 @@
-use Rattle.std.proofs.Common.{ap, map, sym, ◌∙◌, ◌++◌}
+use Rattle.place_terms.proofs.Common.{Outputs, ap, earlier_of, keyed, map, starts_in, sym, ◌++◌, ◌∙◌}
 use Rattle.place_terms.proofs.TakenOver.{starts_parts}
-use Rattle.place_terms.specs.PreviousLayout.{earlier_of}
-use Rattle.place_terms.specs.Outputs.{Outputs}
-use Rattle.place_terms.specs.SectionTable.{keyed}
-use Rattle.place_terms.specs.Wholes.{starts_in}
 use Rattle.place_terms.proofs.sections.Sections.parts.Goals as goal
 
 pub returns-clause-starts : goal.returns-clause-starts

@@ -1,10 +1,6 @@
-use Rattle.std.proofs.Common.{ap, map, sym, ◌∙◌, ◌++◌}
-use Rattle.std.specs.Option.{option_map}
-use Rattle.std.specs.Prelude.{find, bytes_eq, slice_get}
+use Rattle.place_terms.proofs.Common.{KeyedSection, Outputs, ap, both, bytes_eq, find, keyed, keyed_taken, map}
+use Rattle.place_terms.proofs.Common.{option_map, slice_get, sym, ◌++◌, ◌∙◌}
 use Rattle.place_terms.proofs.FoundSections.{section_there, section_unknown}
-use Rattle.place_terms.specs.Keyed.{KeyedSection}
-use Rattle.place_terms.specs.Outputs.{Outputs}
-use Rattle.place_terms.specs.SectionTable.{both, keyed, keyed_taken}
 use Rattle.place_terms.proofs.sections.Sections.placed.Goals as goal
 
 pub returns-in-Some : goal.returns-in-Some

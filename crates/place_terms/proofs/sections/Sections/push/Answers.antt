@@ -1,8 +1,5 @@
-use Rattle.std.proofs.Common.{arith, length}
-use Rattle.std.proofs.lemmas.List.{length-map}
+use Rattle.place_terms.proofs.Common.{arith, both, earlier_of, keyed, keyed_piece, length, length-map}
 use Rattle.place_terms.proofs.FoundSections.{both_pushed, next_number, pushed_elsewhere, pushed_in, pushed_nowhere}
-use Rattle.place_terms.specs.PreviousLayout.{earlier_of}
-use Rattle.place_terms.specs.SectionTable.{both, keyed, keyed_piece}
 use Rattle.place_terms.proofs.sections.Sections.push.Goals as goal
 
 pub invariant_of-self-in-Elsewhere : goal.invariant_of-self-in-Elsewhere

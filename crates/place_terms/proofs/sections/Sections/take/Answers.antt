@@ -1,12 +1,8 @@
-use Rattle.std.proofs.Common.{arith, ap, set, length, refl, subst, sym, ◌+◌, ◌∙◌}
-use Rattle.ldscript.specs.statements.declared.section.OutputSection.{OutputSection}
-use Rattle.ldmodel.specs.Placement.{difference_of}
+use Rattle.place_terms.proofs.Common.{IsOutput, OutputSection, ap, arith, both, difference_of, earlier_of, keyed_taken}
+use Rattle.place_terms.proofs.Common.{length, refl, section_of, set, subst, sym, ◌+◌, ◌∙◌}
 use Rattle.place_terms.proofs.FoundSections.{both_taken, next_number, pushed_elsewhere, pushed_in, pushed_nowhere}
 use Rattle.place_terms.proofs.TakenOver.{commands_more, counted_more, taken_more, with_taken}
-use Rattle.place_terms.specs.PreviousLayout.{earlier_of}
-use Rattle.place_terms.specs.Keyed.{section_of}
-use Rattle.place_terms.specs.Outputs.{IsOutput}
-use Rattle.place_terms.specs.SectionTable.{both, keyed_taken, nameless, AreSectionsOf, IsDifferenceSlot}
+use Rattle.place_terms.specs.SectionTable.{nameless, AreSectionsOf, IsDifferenceSlot}
 use Rattle.place_terms.proofs.sections.Sections.take.Goals as goal
 
 pub invariant_of-self-in-Elsewhere : goal.invariant_of-self-in-Elsewhere
@@ -53,7 +49,7 @@ invariant_of-self-in-Elsewhere c = (
       (sym c.deref.ensures.value ∙ c.in-Some.ensures.first)
       c.self.invariant.0 c.self.invariant.1 c.len-number.result c.args.output.now c.args.row.now
       c.in-Some.section.data_commands.now c.in-Some.section (omega (arith, c.len-number.ensures)) c.in-Some.ensures.is
-      c.push.new.self.items (c.self.inside.count + length c.in-Some.section.starts.now) c.in_ok-push.ensures.items refl,
+      c.push.new.list.items (c.self.inside.count + length c.in-Some.section.starts.now) c.in_ok-push.ensures.items refl,
 )
 
 pub invariant_of-self-in-Nowhere : goal.invariant_of-self-in-Nowhere
@@ -99,7 +95,7 @@ invariant_of-self-in-Nowhere c = (
       (sym c.deref.ensures.value ∙ c.in-Some.ensures.first)
       c.self.invariant.0 c.self.invariant.1 c.len-number.result c.args.output.now c.args.row.now
       c.in-Some.section.data_commands.now c.in-Some.section (omega (arith, c.len-number.ensures)) c.in-Some.ensures.is
-      c.push.new.self.items (c.self.inside.count + length c.in-Some.section.starts.now) c.in_ok-push.ensures.items refl,
+      c.push.new.list.items (c.self.inside.count + length c.in-Some.section.starts.now) c.in_ok-push.ensures.items refl,
 )
 
 pub invariant_of-self-in-At : goal.invariant_of-self-in-At
@@ -147,7 +143,7 @@ invariant_of-self-in-At c = (
       (sym c.deref.ensures.value ∙ c.in-Some.ensures.first)
       c.self.invariant.0 c.self.invariant.1 c.len-number.result c.args.output.now c.args.row.now
       c.in-Some.section.data_commands.now c.in-Some.section (omega (arith, c.len-number.ensures)) c.in-Some.ensures.is
-      c.push.new.self.items (c.self.inside.count + length c.in-Some.section.starts.now) c.in_ok-push.ensures.items refl,
+      c.push.new.list.items (c.self.inside.count + length c.in-Some.section.starts.now) c.in_ok-push.ensures.items refl,
 )
 
 pub returns-in-Elsewhere-clause-taken : goal.returns-in-Elsewhere-clause-taken
@@ -158,7 +154,7 @@ returns-in-Elsewhere-clause-taken c = λ _.
     (sym c.deref.ensures.value ∙ c.in-Some.ensures.first)
     c.self.invariant.0 c.self.invariant.1 c.len-number.result c.args.output.now c.args.row.now
     c.in-Some.section.data_commands.now c.in-Some.section (omega (arith, c.len-number.ensures)) c.in-Some.ensures.is
-    c.args.self.now c.self.view_is c.push.new.self.items c.in_ok-push.ensures.items c.args.data_end
+    c.args.self.now c.self.view_is c.push.new.list.items c.in_ok-push.ensures.items c.args.data_end
     c.in-Some.ensures.part c.in-Some.ensures.long
 
 pub returns-in-Nowhere-clause-taken : goal.returns-in-Nowhere-clause-taken
@@ -169,7 +165,7 @@ returns-in-Nowhere-clause-taken c = λ _.
     (sym c.deref.ensures.value ∙ c.in-Some.ensures.first)
     c.self.invariant.0 c.self.invariant.1 c.len-number.result c.args.output.now c.args.row.now
     c.in-Some.section.data_commands.now c.in-Some.section (omega (arith, c.len-number.ensures)) c.in-Some.ensures.is
-    c.args.self.now c.self.view_is c.push.new.self.items c.in_ok-push.ensures.items c.args.data_end
+    c.args.self.now c.self.view_is c.push.new.list.items c.in_ok-push.ensures.items c.args.data_end
     c.in-Some.ensures.part c.in-Some.ensures.long
 
 pub returns-in-At-clause-taken : goal.returns-in-At-clause-taken
@@ -180,5 +176,5 @@ returns-in-At-clause-taken c = λ _.
     (sym c.deref.ensures.value ∙ c.in-Some.ensures.first)
     c.self.invariant.0 c.self.invariant.1 c.len-number.result c.args.output.now c.args.row.now
     c.in-Some.section.data_commands.now c.in-Some.section (omega (arith, c.len-number.ensures)) c.in-Some.ensures.is
-    c.args.self.now c.self.view_is c.push.new.self.items c.in_ok-push.ensures.items c.args.data_end
+    c.args.self.now c.self.view_is c.push.new.list.items c.in_ok-push.ensures.items c.args.data_end
     c.in-Some.ensures.part c.in-Some.ensures.long

@@ -1,4 +1,4 @@
-use Rattle.std.proofs.Common.{refl}
+use Rattle.place_terms.proofs.Common.{refl}
 use Rattle.place_terms.proofs.Numbers.{found_by_name, named_by_number}
 use Rattle.place_terms.proofs.symbols.AssignedSymbols.assign.Goals as goal
 

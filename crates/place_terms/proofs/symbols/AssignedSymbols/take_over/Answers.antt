@@ -1,6 +1,5 @@
-use Rattle.std.proofs.Common.{◌≡◌, rules, subst, sym, ap, ◌∙◌, take}
-use Rattle.std.proofs.lemmas.List.Elements.{All-take}
-use Rattle.place_terms.specs.LayoutSymbols.{risen, AreFound, IsFound, Numbered, Rises}
+use Rattle.place_terms.proofs.Common.{All-take, AreFound, IsFound, Numbered, Rises, ap, risen, rules, subst, sym, take}
+use Rattle.place_terms.proofs.Common.{◌∙◌, ◌≡◌}
 use Rattle.place_terms.proofs.InTurn.{rises_first}
 use Rattle.place_terms.proofs.symbols.AssignedSymbols.take_over.Goals as goal
 
@@ -11,8 +10,8 @@ after_last-self-inside-requires c =
 
 pub invariant_of-self-2 : goal.invariant_of-self-2
 invariant_of-self-2 c =
-    let is : c.extend_from_slice.new.self.items ≡ take c.args.count c.args.symbols.now = search rules in
-    let same : c.extend_from_slice.new.self.items ≡ c.first-taken.result.now = search rules in
+    let is : c.extend_from_slice.new.list.items ≡ take c.args.count c.args.symbols.now = search rules in
+    let same : c.extend_from_slice.new.list.items ≡ c.first-taken.result.now = search rules in
     record {
       found = subst (AreFound c.self.inside.commands) (sym is)
           (All-take (IsFound c.self.inside.commands) c.args.count c.args.symbols.now

@@ -1,6 +1,4 @@
-use Rattle.std.proofs.Common.{ap, sym, ◌∙◌}
-use Rattle.std.specs.Option.{option_and_then}
-use Rattle.place_terms.specs.LayoutSymbols.{named, risen, value_of, value_under, Numbered}
+use Rattle.place_terms.proofs.Common.{Numbered, ap, named, option_and_then, risen, sym, value_of, value_under, ◌∙◌}
 use Rattle.place_terms.proofs.InTurn.{value_by_name}
 use Rattle.place_terms.proofs.symbols.AssignedSymbols.value.Goals as goal
 

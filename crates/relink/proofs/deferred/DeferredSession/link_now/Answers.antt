@@ -1,9 +1,4 @@
-use Rattle.std.proofs.Common.{◌≡◌, ◌∙◌, Some, ap, sym}
-use Rattle.ldmodel.specs.EditMeaning.{linked_of}
-use Rattle.ldmodel.specs.Link.{link}
-use Rattle.ldmodel_project.specs.ProjectState.{next_listing, project_of}
-use Rattle.ldmodel_project.specs.declared.staged.Staged.{Staged}
-use Rattle.relink.specs.Deferred.{Deferred}
+use Rattle.relink.proofs.Common.{Deferred, Some, Staged, ap, link, linked_of, next_listing, project_of, sym, ◌∙◌, ◌≡◌}
 use Rattle.relink.proofs.DeferredCounts.{linking_work}
 use Rattle.relink.proofs.Deferring.{linked_now, with_staged}
 use Rattle.relink.proofs.deferred.DeferredSession.link_now.Goals as goal
@@ -16,7 +11,8 @@ invariant_of-self-in-Ok c =
     linked_now s.project c.commit.new.self staged c.take.new.self c.link_staged.new.tables
     c.link_staged.new.canvas.bytes c.record_outcome.new.outcome c.record_outcome.new.previous c.take.ensures.after
     c.commit.ensures.next c.in-Ok.ensures.tables
-    (c.in-Ok.ensures.updated s.is_linked s.outcome c.record_outcome.new.outcome c.record_outcome.new.previous
+    (c.in-Ok.ensures.updated s.last_link.is_linked s.last_link.outcome c.record_outcome.new.outcome
+    c.record_outcome.new.previous
     c.seen.ensures c.self.invariant.3 c.record_outcome.ensures)
 
 pub returns-clause-linked : goal.returns-clause-linked
@@ -26,7 +22,7 @@ returns-clause-linked c =
     let is : s.staged ≡ Some staged = sym c.take.ensures.value ∙ c.in-Some.is in
     let shows : project_of (next_listing s.project staged) ≡ c.args.self.now.project =
     sym (ap project_of (with_staged s.project s.staged staged is)) ∙ ap (λ (d : Deferred). d.project) c.self.view_is in
-    let both = c.in-Ok.ensures.updated s.is_linked s.outcome c.record_outcome.new.outcome
+    let both = c.in-Ok.ensures.updated s.last_link.is_linked s.last_link.outcome c.record_outcome.new.outcome
     c.record_outcome.new.previous c.seen.ensures c.self.invariant.3 c.record_outcome.ensures in
     c.summary-in-Ok.ensures ∙ ap linked_of (both.0 ∙ ap link shows)
 
@@ -37,7 +33,7 @@ returns-clause-last c =
     let is : s.staged ≡ Some staged = sym c.take.ensures.value ∙ c.in-Some.is in
     let shows : project_of (next_listing s.project staged) ≡ c.args.self.now.project =
     sym (ap project_of (with_staged s.project s.staged staged is)) ∙ ap (λ (d : Deferred). d.project) c.self.view_is in
-    let both = c.in-Ok.ensures.updated s.is_linked s.outcome c.record_outcome.new.outcome
+    let both = c.in-Ok.ensures.updated s.last_link.is_linked s.last_link.outcome c.record_outcome.new.outcome
     c.record_outcome.new.previous c.seen.ensures c.self.invariant.3 c.record_outcome.ensures in
     both.0 ∙ ap link shows
 
@@ -46,7 +42,8 @@ returns-clause-counted c =
     let s = c.self.inside in
     let staged : Staged = c.in-Some.staged in
     let is : s.staged ≡ Some staged = sym c.take.ensures.value ∙ c.in-Some.is in
-    linking_work s.project s.is_linked s.tables s.staged staged s.canvas.bytes s.outcome c.seen.result.now
+    linking_work s.project s.last_link.is_linked s.tables s.staged staged s.canvas.bytes s.last_link.outcome
+    c.seen.result.now
     c.args.self.now c.args.meter.now c.link_staged.new.meter is
     (sym (ap (λ (d : Deferred). d.is_linked) c.self.view_is))
     (sym (ap (λ (d : Deferred). d.is_resolved) c.self.view_is))

@@ -1,11 +1,6 @@
-use Rattle.std.proofs.Common.{◌≡◌, ◌∙◌, ap, refl, subst, sym}
-use Rattle.ldmodel.specs.EditMeaning.{change_of}
-use Rattle.ldmodel.specs.Edits.{Change}
-use Rattle.ldmodel_project.specs.ProjectState.{Listing, ProjectState, held, project_of}
-use Rattle.ldmodel_project.specs.declared.staged.Staged.{Staged}
+use Rattle.relink.proofs.Common.{Change, Deferred, HasTables, Listing, ProjectState, Staged, ap, change_of, held}
+use Rattle.relink.proofs.Common.{project_of, refl, shown, subst, sym, ◌∙◌, ◌≡◌}
 use Rattle.ldmodel_project.proofs.Steps.{Fits-stable}
-use Rattle.relink.specs.Deferred.{Deferred, HasTables}
-use Rattle.relink.specs.Outcome.{shown}
 use Rattle.relink.proofs.Bounding.{leaves_script}
 use Rattle.relink.proofs.DeferredCounts.{linked_parts, resolved_work, still_linked, unchanged_staging}
 use Rattle.relink.proofs.DeferredEdits.{staged_edit, unchanged_edit}
@@ -20,7 +15,7 @@ invariant_of-self-then-is_unchanged c =
     let is = made s.project c.commit_staged_unlinked.new.project h s.staged c.commit_staged_unlinked.ensures.project
     c.stage.ensures.same in
     staying s.project c.commit_staged_unlinked.new.project h c.commit_staged_unlinked.new.staged s.tables
-    s.canvas.bytes s.outcome s.previous c.commit_staged_unlinked.new.previous s.is_linked
+    s.canvas.bytes s.last_link.outcome s.last_link.previous c.commit_staged_unlinked.new.previous s.last_link.is_linked
     c.commit_staged_unlinked.new.is_linked c.commit_staged_unlinked.ensures.none c.stage.ensures.same
     c.commit_staged_unlinked.ensures.previous
     c.commit_staged_unlinked.ensures.linked c.self.invariant.2 c.self.invariant.3
@@ -34,7 +29,7 @@ invariant_of-self-in-Err c =
     c.stage.ensures.same in
     staying s.project c.commit_staged_unlinked.new.project h c.commit_staged_unlinked.new.staged
     c.follow_if_made.new.tables
-    s.canvas.bytes s.outcome s.previous c.commit_staged_unlinked.new.previous s.is_linked
+    s.canvas.bytes s.last_link.outcome s.last_link.previous c.commit_staged_unlinked.new.previous s.last_link.is_linked
     c.commit_staged_unlinked.new.is_linked c.commit_staged_unlinked.ensures.none c.stage.ensures.same
     c.commit_staged_unlinked.ensures.previous
     c.commit_staged_unlinked.ensures.linked c.self.invariant.2 c.self.invariant.3
@@ -61,8 +56,10 @@ invariant_of-self-in-Ok c =
     let h : ProjectState = c.stage.new.self in
     let is = made s.project c.commit_staged_unlinked.new.project h s.staged c.commit_staged_unlinked.ensures.project
     c.stage.ensures.same in
-    let last = unlinked s.project c.commit_staged_unlinked.new.project h s.canvas.bytes s.outcome s.previous
-    c.commit_staged_unlinked.new.previous s.is_linked c.commit_staged_unlinked.new.is_linked c.stage.ensures.same
+    let last = unlinked s.project c.commit_staged_unlinked.new.project h s.canvas.bytes s.last_link.outcome
+    s.last_link.previous
+    c.commit_staged_unlinked.new.previous s.last_link.is_linked c.commit_staged_unlinked.new.is_linked
+    c.stage.ensures.same
     c.commit_staged_unlinked.ensures.previous c.commit_staged_unlinked.ensures.linked c.self.invariant.2
     c.self.invariant.3 in (
       record {
@@ -79,7 +76,7 @@ pub returns-then-is_unchanged-clause-counted : goal.returns-then-is_unchanged-cl
 returns-then-is_unchanged-clause-counted c = λ linked.
     let s = c.self.inside in
     let h : ProjectState = c.stage.new.self in
-    let parts = linked_parts s.is_linked s.tables s.staged
+    let parts = linked_parts s.last_link.is_linked s.tables s.staged
     (ap (λ (d : Deferred). d.is_linked) c.self.view_is ∙ linked) in
     let is : held h ≡ c.args.self.now.project =
     shown_project s.project c.commit_staged_unlinked.new.project h s.staged c.args.self.now
@@ -99,7 +96,7 @@ returns-in-Ok-clause-counted c = λ linked.
     let h : ProjectState = c.stage.new.self in
     let staged : Staged = c.in_ok-staged.staged in
     let change : Change = change_of c.args.edit in
-    let parts = linked_parts s.is_linked s.tables s.staged
+    let parts = linked_parts s.last_link.is_linked s.tables s.staged
     (ap (λ (d : Deferred). d.is_linked) c.self.view_is ∙ linked) in
     let is : held h ≡ c.args.self.now.project =
     shown_project s.project c.commit_staged_unlinked.new.project h s.staged c.args.self.now
@@ -111,7 +108,7 @@ returns-in-Ok-clause-counted c = λ linked.
     c.in_ok-staged.ensures.staged.0 c.in_ok-staged.ensures.staged.1 c.in_ok-staged.ensures.staged.2
     c.in_ok-staged.ensures.named (Fits-stable h.contents staged.objects c.in_ok-staged.ensures.staged.0) in
     resolved_work h staged change c.commit_staged_unlinked.new.is_linked c.follow_if_made.new.tables
-    (shown s.canvas.bytes s.outcome) c.args.self.now.project c.args.meter.now c.stage.new.meter
+    (shown s.canvas.bytes s.last_link.outcome) c.args.self.now.project c.args.meter.now c.stage.new.meter
     c.follow_if_made.new.meter is (c.commit_staged_unlinked.ensures.kept parts.2 ∙ parts.0)
     (c.in-Ok.ensures.made parts.1) small
     read (c.in-Ok.ensures.counted parts.1) same c.distinct_more.ensures

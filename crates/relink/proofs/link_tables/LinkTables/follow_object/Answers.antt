@@ -1,15 +1,6 @@
-use Rattle.std.proofs.Common.{◌∙◌, ℕ, List, Option, ap, arith, length, map, refl, subst, sym}
-use Rattle.std.specs.VecDeque.{deque_len}
-use Rattle.gather.specs.declared.matches.Matches.{Matches}
-use Rattle.symres.specs.decisions.Change.{Table, changed_tables}
-use Rattle.symres.specs.decisions.Decisions.{AreDecisionsOf}
-use Rattle.ldmodel_project.specs.ProjectState.{Listing, next_listing}
-use Rattle.ldmodel_project.specs.Listing.{keys_of}
-use Rattle.ldmodel_project.specs.Next.{next_entries}
-use Rattle.ldscript.specs.statements.declared.statement.Statement.{Statement}
-use Rattle.symres.specs.decisions.Counted.{CountsNames}
-use Rattle.relink.specs.Change.{place_at}
-use Rattle.relink.specs.KeptTables.{AreTablesOf}
+use Rattle.relink.proofs.Common.{AreDecisionsOf, AreTablesOf, CountsNames, List, Listing, Matches, Option, Statement}
+use Rattle.relink.proofs.Common.{Table, ap, arith, changed_tables, deque_len, keys_of, length, map, next_entries}
+use Rattle.relink.proofs.Common.{next_listing, place_at, refl, subst, sym, ℕ, ◌∙◌}
 use Rattle.relink.specs.Matches.{exchanged}
 use Rattle.relink.proofs.Exchanged.{MayStand, Stands, added_within, exchanged_as, into_within, out_within}
 use Rattle.relink.proofs.Following.{coming_of, kept_after, kept_forgetting, keys_of_tables, may_stand, stands}

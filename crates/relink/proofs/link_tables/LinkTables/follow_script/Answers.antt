@@ -1,9 +1,5 @@
-use Rattle.std.proofs.Common.{◌∙◌, ℕ, List, ap, subst, sym}
-use Rattle.symres.specs.decisions.Counted.{CountsNames, declared_names}
-use Rattle.relink.specs.Change.{names_of_step}
-use Rattle.symres.specs.decisions.Decisions.{AreDecisionsOf}
-use Rattle.ldmodel_project.specs.ProjectState.{Listing}
-use Rattle.ldscript.specs.statements.declared.statement.Statement.{Statement}
+use Rattle.relink.proofs.Common.{AreDecisionsOf, CountsNames, List, Listing, Statement, ap, declared_names}
+use Rattle.relink.proofs.Common.{names_of_step, subst, sym, ℕ, ◌∙◌}
 use Rattle.relink.proofs.Following.{kept_renewed}
 use Rattle.relink.proofs.link_tables.LinkTables.follow_script.Goals as goal
 

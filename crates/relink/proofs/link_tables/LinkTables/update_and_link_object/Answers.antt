@@ -1,17 +1,7 @@
-use Rattle.std.proofs.Common.{◌∙◌, ℕ, List, Option, ap, arith, length, map, refl, subst, sym}
-use Rattle.std.specs.VecDeque.{deque_len}
-use Rattle.gather.specs.declared.matches.Matches.{Matches}
-use Rattle.symres.specs.SymbolTable.{SymbolTableState}
-use Rattle.symres.specs.decisions.Change.{Table, changed_tables, reversed}
-use Rattle.symres.specs.decisions.Decisions.{AreDecisionsOf}
-use Rattle.ldmodel_project.specs.ProjectState.{Listing, next_listing}
-use Rattle.ldmodel_project.specs.Listing.{keys_of}
-use Rattle.ldmodel_project.specs.Next.{next_entries}
-use Rattle.ldscript.specs.statements.declared.statement.Statement.{Statement}
-use Rattle.relink.specs.Change.{place_at}
-use Rattle.relink.specs.KeptTables.{AreTablesOf}
+use Rattle.relink.proofs.Common.{AreDecisionsOf, AreTablesOf, List, Listing, Matches, Option, Statement}
+use Rattle.relink.proofs.Common.{SymbolTableState, Table, ap, arith, changed_tables, deque_len, keys_of, length}
+use Rattle.relink.proofs.Common.{lent_of, map, next_entries, next_listing, place_at, refl, reversed, subst, sym, ℕ, ◌∙◌}
 use Rattle.relink.specs.Matches.{exchanged, gone_at}
-use Rattle.relink.specs.PreviousLink.{lent_of}
 use Rattle.relink.proofs.Exchanged.{MayStand, Stands, added_within, exchanged_as, gone_as, into_within, may_after}
 use Rattle.relink.proofs.Exchanged.{out_within, stands_after}
 use Rattle.relink.proofs.Following.{both_come, coming_of, kept_after, kept_back, kept_forgetting}

@@ -1,12 +1,5 @@
-use Rattle.std.proofs.Common.{◌∙◌, List, ap, subst, sym}
-use Rattle.symres.specs.SymbolTable.{SymbolTableState}
-use Rattle.symres.specs.decisions.Counted.{declared_names}
-use Rattle.symres.specs.decisions.Decisions.{AreDecisionsOf}
-use Rattle.ldmodel_project.specs.ProjectState.{Listing, next_listing}
-use Rattle.ldscript.specs.statements.declared.statement.Statement.{Statement}
-use Rattle.relink.specs.Change.{names_of_step}
-use Rattle.relink.specs.KeptTables.{AreTablesOf}
-use Rattle.relink.specs.PreviousLink.{lent_of}
+use Rattle.relink.proofs.Common.{AreDecisionsOf, AreTablesOf, List, Listing, Statement, SymbolTableState, ap}
+use Rattle.relink.proofs.Common.{declared_names, lent_of, names_of_step, next_listing, subst, sym, ◌∙◌}
 use Rattle.relink.proofs.Followed.{is_followed}
 use Rattle.relink.proofs.Following.{kept_renewed}
 use Rattle.relink.proofs.link_tables.LinkTables.update_and_link_script.Goals as goal

@@ -1,7 +1,6 @@
-use Rattle.std.proofs.Common.{◌∙◌, ◌+◌, ℕ, List, ap, drop}
-use Rattle.relink.specs.NameList.{names_in}
+use Rattle.relink.proofs.Common.{List, ap, drop, names_in, ℕ, ◌+◌, ◌∙◌}
 use Rattle.relink.proofs.Listed.{stands_at}
-use Rattle.relink.proofs.Since.{named_more, same_bytes}
+use Rattle.relink.proofs.OriginsFollow.{named_more, same_bytes}
 use Rattle.relink.proofs.name_list.NameList.is_nowhere_but_at.Goals as goal
 
 pub loop-at-preserved : goal.loop-at-preserved
@@ -13,6 +12,7 @@ loop-at-preserved c =
       so_far = named_more c.args.self.now.names c.args.name.now c.args.place at.at at.invariant.so_far
           (λ is. c.is_other_or_at.ensures c.if-not-is_other_or_at.false
           (c.eq.ensures ∙ same_bytes c.in-Some.other.now c.args.name.now (c.in-Some.ensures.cases.1 ∙ s.first ∙ is)));
-      rest = ap (λ (l : List ℕ). names_in l (drop (at.at + 1) c.deref-length-items.result.now)) c.in-Some.ensures.cases.2
+      rest = ap (λ (l : List ℕ). names_in l (drop (at.at + 1) c.deref-length-items.result.now))
+          c.in-Some.ensures.cases.2
           ∙ s.others;
     }

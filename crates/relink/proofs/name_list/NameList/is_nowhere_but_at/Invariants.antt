@@ -1,6 +1,5 @@
 -- Each of the names so far that is this one stands at the place, and what is left of the text has the others.
-use Rattle.std.proofs.Common.{◌≡◌, ◌<◌, ℕ, [], Some, drop, get_or}
-use Rattle.relink.specs.NameList.{names_in}
+use Rattle.relink.proofs.Common.{Some, [], drop, get_or, names_in, ℕ, ◌<◌, ◌≡◌}
 use Rattle.relink.proofs.name_list.NameList.is_nowhere_but_at.Given as goal
 
 abbrev pub invariant-loop-at : goal.invariant-loop-at

@@ -1,5 +1,4 @@
-use Rattle.std.proofs.Common.{ap, arith, length}
-use Rattle.relink.specs.NameList.{Names}
+use Rattle.relink.proofs.Common.{Names, ap, arith, length}
 use Rattle.relink.proofs.Listed.{count_names}
 use Rattle.relink.proofs.name_list.NameList.len.Goals as goal
 

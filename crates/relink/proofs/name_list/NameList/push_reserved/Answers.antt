@@ -1,6 +1,5 @@
-use Rattle.std.proofs.Common.{◌∙◌, [], ◌∷◌, ◌++◌, List, ℕ, ap, length, refl}
+use Rattle.relink.proofs.Common.{List, Names, [], ap, length, names_in, refl, ℕ, ◌++◌, ◌∙◌, ◌∷◌}
 use Rattle.std.proofs.lemmas.Slice.{pushed}
-use Rattle.relink.specs.NameList.{Names, names_in}
 use Rattle.relink.proofs.Listed.{names_more}
 use Rattle.relink.proofs.name_list.NameList.push_reserved.Goals as goal
 

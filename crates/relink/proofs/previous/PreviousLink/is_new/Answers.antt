@@ -1,6 +1,5 @@
-use Rattle.std.proofs.Common.{subst}
-use Rattle.relink.specs.PreviousLink.{IsNowhereButAt, origin_of}
-use Rattle.relink.proofs.Since.{none_of, of_one}
+use Rattle.relink.proofs.Common.{IsNowhereButAt, origin_of, subst}
+use Rattle.relink.proofs.OriginsFollow.{none_of, of_one}
 use Rattle.relink.proofs.previous.PreviousLink.is_new.Goals as goal
 
 pub returns : goal.returns

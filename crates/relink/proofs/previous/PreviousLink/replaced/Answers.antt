@@ -1,6 +1,5 @@
-use Rattle.std.proofs.Common.{sym}
-use Rattle.relink.specs.PreviousLink.{origin_of}
-use Rattle.relink.proofs.Since.{none_replaced}
+use Rattle.relink.proofs.Common.{origin_of, sym}
+use Rattle.relink.proofs.OriginsFollow.{none_replaced}
 use Rattle.relink.proofs.previous.PreviousLink.replaced.Goals as goal
 
 pub returns-in-None : goal.returns-in-None

@@ -1,23 +1,9 @@
-use Rattle.std.proofs.Common.{◌≡◌, ◌∙◌, ℕ, List, Option, ap, refl, subst, sym}
-use Rattle.std.specs.Prelude.{IfSome}
-use Rattle.relink_driver.specs.StayedSections.{PreviousState}
-use Rattle.ldmodel.specs.EditMeaning.{change_of}
-use Rattle.ldmodel.specs.Edits.{Change}
-use Rattle.ldmodel.specs.Link.{link}
-use Rattle.ldmodel.specs.Project.{Project}
-use Rattle.ldmodel_project.specs.ProjectState.{ProjectState, Listing, held, listing_of, next_listing, project_of}
-use Rattle.ldmodel_project.specs.Listing.{Listed}
-use Rattle.ldmodel_project.specs.Next.{KeysAreStable}
-use Rattle.ldmodel_project.specs.declared.staged.Staged.{Staged}
-use Rattle.relink_driver.specs.RelinkOutcome.{HasPreviousImage}
-use Rattle.relink.specs.Outcome.{shown}
-use Rattle.relink.specs.Change.{names_of_edit}
-use Rattle.relink.specs.KeptTables.{AreTablesOf}
-use Rattle.relink.specs.PreviousLink.{HasUpdateOutcome, IsPreviousLink}
+use Rattle.relink.proofs.Common.{AreTablesOf, Change, EditEffect, HasPreviousImage, HasUpdateOutcome, IfSome}
+use Rattle.relink.proofs.Common.{IsPreviousLink, KeysAreStable, LinkOutcome, List, Listed, Listing, Option}
+use Rattle.relink.proofs.Common.{PreviousLink, PreviousState, Project, ProjectState, Staged, ap, change_of, held, link}
+use Rattle.relink.proofs.Common.{listing_of, names_of_edit, next_listing, project_of, refl, shown, subst, sym, ℕ, ◌∙◌}
+use Rattle.relink.proofs.Common.{◌≡◌}
 use Rattle.relink.specs.Work.{HasWorked, IsWholeWork}
-use Rattle.relink.specs.declared.outcome.LinkOutcome.{LinkOutcome}
-use Rattle.relink.specs.declared.previous.EditEffect.{EditEffect}
-use Rattle.relink.specs.declared.previous.PreviousLink.{PreviousLink}
 use Rattle.relink.proofs.Bounding.{leaves_script, unchanged_work, whole_work}
 use Rattle.relink.proofs.Following.{same_held}
 use Rattle.relink.proofs.Lending.{IsFollowing, ended_after, following, last_lent, same_listing}
@@ -66,7 +52,7 @@ update_and_link-requires c =
           (same_listing c.self.inside.project h c.stage.ensures.same) c.self.invariant.1;
       previous = subst (λ (x : Option PreviousState). IfSome x (HasPreviousImage (project_of next) bytes))
           (sym c.lend_previous.ensures.lent)
-          (last_lent h s same bytes a e given.edit previous e.puts_none refl given.kept given.effect);
+          (last_lent h s same bytes a e given.edit previous e.keeps_previous refl given.kept given.effect);
     }
 
 pub invariant_of-self-in-Ok : goal.invariant_of-self-in-Ok

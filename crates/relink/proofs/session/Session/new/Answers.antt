@@ -1,13 +1,11 @@
-use Rattle.std.proofs.Common.{None, true, false}
-use Rattle.ldmodel_project.specs.ProjectState.{listing_of}
+use Rattle.relink.proofs.Common.{EditEffect, None, false, listing_of, true}
 use Rattle.relink.proofs.Lending.{ended, none_kept}
-use Rattle.relink.specs.declared.previous.EditEffect.{EditEffect}
 use Rattle.relink.proofs.session.Session.new.Goals as goal
 
 pub invariant_of-result : goal.invariant_of-result
 invariant_of-result c =
     let l = listing_of c.new-project.result in
-    let e : EditEffect = record { puts_none = true; lost = None; same_script = true; is_answered = false } in
+    let e : EditEffect = record { keeps_previous = true; stale_key = None; same_script = true; is_answered = false } in
     let both = ended l None c.new-canvas.result.bytes c.link_without_previous.new.canvas.bytes c.in_ok-updated.updated e
     None
     c.record_outcome.new.previous _ c.record_outcome.new.outcome c.in_ok-updated.ensures.updated

@@ -1,11 +1,7 @@
-use Rattle.std.proofs.Common.{◌∙◌, ap, arith, length, sym}
-use Rattle.std.specs.Prelude.{is_some}
-use Rattle.std.proofs.lemmas.List.{get_or_past}
-use Rattle.place.specs.IndexedLayout.{table_key}
-use Rattle.relink_driver.specs.PreviousLink.{stayed_range, previous_of}
-use Rattle.relink_driver.specs.StayedColumn.{flag_of, no_flags}
+use Rattle.relink_driver.proofs.Common.{ap, arith, flag_of, get_or_past, is_some, length, no_flags, previous_of}
+use Rattle.relink_driver.proofs.Common.{stayed_range, sym, table_key, ◌∙◌}
 use Rattle.relink_driver.proofs.Columns.{empty_column}
-use Rattle.relink_driver.proofs.Still.{no_row_is_still}
+use Rattle.relink_driver.proofs.WhollyStayed.{no_row_is_still}
 use Rattle.relink_driver.proofs.stayed_column.StayedColumn.of.Goals as goal
 
 pub returns-in-None-clause-flags : goal.returns-in-None-clause-flags

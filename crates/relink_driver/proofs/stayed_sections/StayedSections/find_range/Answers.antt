@@ -1,5 +1,4 @@
-use Rattle.std.proofs.Common.{◌∙◌, ap, sym}
-use Rattle.relink_driver.specs.PreviousLink.{previous_of}
+use Rattle.relink_driver.proofs.Common.{ap, previous_of, sym, ◌∙◌}
 use Rattle.relink_driver.proofs.Ranges.{both, none_before, none_known, none_now}
 use Rattle.relink_driver.proofs.stayed_sections.StayedSections.find_range.Goals as goal
 

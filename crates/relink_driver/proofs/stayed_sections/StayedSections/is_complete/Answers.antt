@@ -1,6 +1,5 @@
-use Rattle.std.proofs.Common.{ap}
-use Rattle.emit.specs.relocate.KnownLink.{KnownLink}
-use Rattle.relink_driver.specs.StayedSections.{previous_of, range_of}
+use Rattle.relink_driver.proofs.Common.{KnownLink, ap, previous_of}
+use Rattle.relink_driver.specs.StayedSections.{range_of}
 use Rattle.relink_driver.proofs.Ranges.{complete_or_none, if_known, none_known, sound}
 use Rattle.relink_driver.proofs.stayed_sections.StayedSections.is_complete.Goals as goal
 

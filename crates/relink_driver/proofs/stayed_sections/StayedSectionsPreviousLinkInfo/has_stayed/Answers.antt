@@ -1,6 +1,4 @@
-use Rattle.std.proofs.Common.{ap}
-use Rattle.emit.specs.relocate.KnownLink.{KnownLink}
-use Rattle.relink_driver.specs.PreviousLink.{previous_of}
+use Rattle.relink_driver.proofs.Common.{KnownLink, ap, previous_of}
 use Rattle.relink_driver.specs.StayedSections.{range_of}
 use Rattle.relink_driver.proofs.Ranges.{if_known, sound}
 use Rattle.relink_driver.proofs.stayed_sections.StayedSectionsPreviousLinkInfo.has_stayed.Goals as goal

@@ -1,11 +1,9 @@
-use Rattle.std.proofs.Common.{◌≡◌, ◌∙◌, ℕ, None, ap, inl, inr, sym, true, ⊎_elim}
-use Rattle.std.specs.Prelude.{is_some}
-use Rattle.place.specs.IndexedLayout.{address_in, table_key}
-use Rattle.emit.specs.relocate.KnownLink.{KnownLink}
-use Rattle.relink_driver.specs.PreviousLink.{previous_of}
+use Rattle.relink_driver.proofs.Common.{KnownLink, None, ap, inl, inr, is_some, previous_of, sym, table_key, true, ℕ}
+use Rattle.relink_driver.proofs.Common.{⊎_elim, ◌∙◌, ◌≡◌}
+use Rattle.place.specs.IndexedLayout.{address_in}
 use Rattle.relink_driver.specs.StayedSections.{range_of}
 use Rattle.relink_driver.proofs.Ranges.{if_known, sound}
-use Rattle.relink_driver.proofs.Still.{by_cases, no_start, unknown}
+use Rattle.relink_driver.proofs.WhollyStayed.{by_cases, no_start, unknown}
 use Rattle.relink_driver.proofs.stayed_sections.StayedSectionsPreviousLinkInfo.has_wholly_stayed.Goals as goal
 
 pub returns : goal.returns

@@ -1,6 +1,4 @@
-use Rattle.std.proofs.Common.{◌∙◌, ap, sym}
-use Rattle.std.specs.Prelude.{slice_get}
-use Rattle.emit.specs.relocate.KnownLink.{KnownLink}
+use Rattle.relink_driver.proofs.Common.{KnownLink, ap, slice_get, sym, ◌∙◌}
 use Rattle.relink_driver.proofs.stayed_sections.StayedSectionsPreviousLinkInfo.is_dirty.Goals as goal
 
 pub returns : goal.returns

@@ -1,6 +1,4 @@
-use Rattle.std.proofs.Common.{ap}
-use Rattle.emit.specs.relocate.KnownLink.{KnownLink}
-use Rattle.relink_driver.specs.StayedSections.{previous_of}
+use Rattle.relink_driver.proofs.Common.{KnownLink, ap, previous_of}
 use Rattle.relink_driver.proofs.Ranges.{not_kept, were_worth}
 use Rattle.relink_driver.proofs.stayed_sections.StayedSectionsPreviousLinkInfo.values.Goals as goal
 

@@ -1,10 +1,6 @@
-use Rattle.std.proofs.Common.{◌∙◌, ◌++◌, List, ap, arith, get_or, refl, sym}
-use Rattle.std.proofs.lemmas.Result.{on_ok_weaker}
-use Rattle.ldscript.specs.statements.declared.statement.Statement.{Statement}
-use Rattle.ldmodel.specs.ScriptNames.{is_assigned}
+use Rattle.symres.proofs.Common.{List, ObjectPlace, Statement, ap, arith, definer_before, faults_of, get_or}
+use Rattle.symres.proofs.Common.{is_assigned, on_ok_weaker, refl, sym, ◌++◌, ◌∙◌}
 use Rattle.ldmodel.specs.declared.names.Entry.{Entry}
-use Rattle.ldmodel.specs.declared.names.ObjectPlace.{ObjectPlace}
-use Rattle.symres.specs.Duplicates.{definer_before, faults_of}
 use Rattle.symres.proofs.Doubling.{name_read, no_more, one_more}
 use Rattle.symres.proofs.symbol_table.SymbolTable.add_symbol.Goals as goal
 

@@ -1,6 +1,4 @@
-use Rattle.std.proofs.Common.{◌∙◌, arith, ap, length}
-use Rattle.std.proofs.lemmas.List.{length-map}
-use Rattle.elfobj.specs.Symbols.{NamedSymbol, null_symbol}
+use Rattle.symres.proofs.Common.{NamedSymbol, ap, arith, length, length-map, null_symbol, ◌∙◌}
 use Rattle.symres.proofs.Doubling.{symbol_more, symbols_all}
 use Rattle.symres.proofs.symbol_table.SymbolTable.add_symbols.Goals as goal
 

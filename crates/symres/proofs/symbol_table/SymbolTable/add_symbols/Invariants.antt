@@ -1,8 +1,5 @@
-use Rattle.std.proofs.Common.{◌≡◌, ◌++◌, List, length, take, filter}
-use Rattle.ldmodel.specs.Names.{Declaration, all_entries, declarations_in}
-use Rattle.ldmodel.specs.Project.{Project}
-use Rattle.symres.specs.Duplicates.{is_seen, AreFound, Begins}
-use Rattle.symres.specs.SymbolTable.{IsSymbolTable}
+use Rattle.symres.proofs.Common.{AreFound, Begins, Declaration, IsSymbolTable, List, Project, all_entries}
+use Rattle.symres.proofs.Common.{declarations_in, filter, is_seen, length, take, ◌++◌, ◌≡◌}
 use Rattle.symres.proofs.symbol_table.SymbolTable.add_symbols.Given as goal
 
 -- the symbols before this one are seen to

@@ -1,7 +1,4 @@
-use Rattle.std.proofs.Common.{◌∙◌, ap}
-use Rattle.ldmodel.specs.HandedOver.{decision_of}
-use Rattle.ldmodel.specs.declared.names.Case.{Case}
-use Rattle.ldmodel.specs.declared.names.ObjectPlace.{ObjectPlace}
+use Rattle.symres.proofs.Common.{Case, ObjectPlace, ap, decision_of, ◌∙◌}
 use Rattle.symres.proofs.Placing.{named_decision}
 use Rattle.symres.proofs.symbol_table.SymbolTable.case_named.Goals as goal
 

@@ -1,7 +1,4 @@
-use Rattle.std.proofs.Common.{◌∙◌, ap, sym}
-use Rattle.std.specs.Prelude.{Some}
-use Rattle.std.specs.Option.{option_map}
-use Rattle.symres.specs.Placed.{place_case}
+use Rattle.symres.proofs.Common.{Some, ap, option_map, place_case, sym, ◌∙◌}
 use Rattle.symres.proofs.Placing.{case_placed}
 use Rattle.symres.proofs.symbol_table.SymbolTable.case_of.Goals as goal
 

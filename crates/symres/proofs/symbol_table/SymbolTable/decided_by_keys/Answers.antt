@@ -1,7 +1,4 @@
-use Rattle.std.proofs.Common.{refl, subst, sym}
-use Rattle.ldmodel_project.specs.Listing.{AreKeysDistinct}
-use Rattle.ldmodel_project.specs.Tables.{place_or_0}
-use Rattle.symres.specs.Placed.{keys_of}
+use Rattle.symres.proofs.Common.{AreKeysDistinct, keys_of, place_or_0, refl, subst, sym}
 use Rattle.symres.proofs.symbol_table.SymbolTable.decided_by_keys.Goals as goal
 
 pub returns : goal.returns

@@ -1,4 +1,4 @@
-use Rattle.std.proofs.Common.{sym, ◌∙◌}
+use Rattle.symres.proofs.Common.{sym, ◌∙◌}
 use Rattle.symres.proofs.Doubling.{doubled, not_doubled, strong_at}
 use Rattle.symres.proofs.symbol_table.SymbolTable.doubled_key.Goals as goal
 

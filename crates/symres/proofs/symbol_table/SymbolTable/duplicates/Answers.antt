@@ -1,13 +1,7 @@
-use Rattle.std.proofs.Common.{◌∙◌, List, [], arith, sym, ap, length, map, subst}
-use Rattle.std.specs.Prelude.{Option, None}
-use Rattle.ldmodel.specs.Link.{duplicate_fault}
-use Rattle.ldmodel.specs.Names.{declarations_of}
+use Rattle.symres.proofs.Common.{AreFound, List, None, ObjectPlace, Option, [], ap, arith, declarations_of}
+use Rattle.symres.proofs.Common.{duplicate_fault, faults_in, length, length-replicate, map, subst, sym, ◌∙◌}
 use Rattle.ldmodel.specs.declared.fault.Fault.{Fault}
 use Rattle.ldmodel.specs.declared.names.Entry.{Entry}
-use Rattle.ldmodel.specs.declared.names.ObjectPlace.{ObjectPlace}
-use Rattle.ldmodel_project.specs.ByPlace.{faults_in}
-use Rattle.symres.specs.Duplicates.{AreFound}
-use Rattle.std.proofs.lemmas.List.{length-replicate}
 use Rattle.symres.proofs.Doubling.{is_table_at, none_found, object_more, objects_all}
 use Rattle.symres.proofs.symbol_table.SymbolTable.duplicates.Goals as goal
 

@@ -1,7 +1,4 @@
-use Rattle.std.proofs.Common.{◌≡◌, length, take}
-use Rattle.std.specs.List.{enumerate_from}
-use Rattle.ldmodel.specs.Names.{declarations_of, symbol_tables}
-use Rattle.symres.specs.Duplicates.{AreFound}
+use Rattle.symres.proofs.Common.{AreFound, declarations_of, enumerate_from, length, symbol_tables, take, ◌≡◌}
 use Rattle.symres.proofs.symbol_table.SymbolTable.duplicates.Given as goal
 
 -- the symbols of the objects before this one are seen to

@@ -1,5 +1,4 @@
-use Rattle.std.proofs.Common.{◌∙◌, ap, sym}
-use Rattle.std.specs.Prelude.{option_copied}
+use Rattle.symres.proofs.Common.{ap, option_copied, sym, ◌∙◌}
 use Rattle.symres.proofs.EntryFault.{entry_of_case, no_entry}
 use Rattle.symres.proofs.symbol_table.SymbolTable.is_entry_undefined.Goals as goal
 

@@ -1,4 +1,4 @@
-use Rattle.symres.specs.Placed.{place_case}
+use Rattle.symres.proofs.Common.{place_case}
 use Rattle.symres.proofs.Placing.{has_placed, named_by_place, seen_by_key}
 use Rattle.symres.proofs.symbol_table.SymbolTable.key_of.Goals as goal
 

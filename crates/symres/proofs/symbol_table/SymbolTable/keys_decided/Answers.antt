@@ -1,4 +1,4 @@
-use Rattle.symres.specs.Placed.{place_case}
+use Rattle.symres.proofs.Common.{place_case}
 use Rattle.symres.proofs.Placing.{has_placed}
 use Rattle.symres.proofs.Sorting.{differ}
 use Rattle.symres.proofs.symbol_table.SymbolTable.keys_decided.Goals as goal

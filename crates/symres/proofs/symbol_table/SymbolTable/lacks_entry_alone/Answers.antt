@@ -1,5 +1,4 @@
-use Rattle.std.proofs.Common.{◌∙◌, ap, sym}
-use Rattle.std.specs.Prelude.{option_copied}
+use Rattle.symres.proofs.Common.{ap, option_copied, sym, ◌∙◌}
 use Rattle.symres.proofs.EntryFault.{entry_alone}
 use Rattle.symres.proofs.symbol_table.SymbolTable.lacks_entry_alone.Goals as goal
 

@@ -1,7 +1,4 @@
-use Rattle.std.proofs.Common.{◌∙◌, sym}
-use Rattle.std.specs.Option.{option_map}
-use Rattle.std.proofs.lemmas.List.{length-map}
-use Rattle.symres.specs.Placed.{place_case}
+use Rattle.symres.proofs.Common.{length-map, option_map, place_case, sym, ◌∙◌}
 use Rattle.symres.proofs.symbol_table.SymbolTable.limit.Goals as goal
 
 pub returns : goal.returns

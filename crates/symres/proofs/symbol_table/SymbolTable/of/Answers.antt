@@ -1,13 +1,7 @@
-use Rattle.std.proofs.Common.{◌≡◌, ◌∙◌, List, ap, map, subst, sym}
-use Rattle.ldscript.specs.statements.declared.statement.Statement.{Statement}
-use Rattle.ldmodel.specs.Names.{symbol_tables}
-use Rattle.ldmodel_project.specs.Inputs.{shown_inputs}
-use Rattle.ldmodel_project.specs.Listing.{AreKeysDistinct}
-use Rattle.symres_decisions.specs.Decisions.{AreDecisionsOf}
+use Rattle.symres.proofs.Common.{AreDecisionsOf, AreKeysDistinct, KeyedObject, List, Statement, ap, keys_of, map}
+use Rattle.symres.proofs.Common.{shown_inputs, subst, sym, symbol_tables, ◌∙◌, ◌≡◌}
 use Rattle.symres_decisions.specs.Keyed.{tables_of}
-use Rattle.symres_decisions.specs.declared.keyed_object.KeyedObject.{KeyedObject}
 use Rattle.symres.specs.Entered as entered
-use Rattle.symres.specs.Placed.{keys_of}
 use Rattle.symres.proofs.Entering.{Table, keys_are, places_distinct, seconds}
 use Rattle.symres.proofs.symbol_table.SymbolTable.of.Goals as goal
 

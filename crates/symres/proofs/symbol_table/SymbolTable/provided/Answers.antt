@@ -1,5 +1,4 @@
-use Rattle.std.proofs.Common.{◌∙◌, ap, sym, arith}
-use Rattle.ldscript.specs.statements.Numbered.{shown_directives}
+use Rattle.symres.proofs.Common.{ap, arith, shown_directives, sym, ◌∙◌}
 use Rattle.symres.proofs.Providing.{end_given, one_given}
 use Rattle.symres.proofs.symbol_table.SymbolTable.provided.Goals as goal
 

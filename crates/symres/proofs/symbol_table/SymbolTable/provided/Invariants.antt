@@ -1,7 +1,5 @@
-use Rattle.std.proofs.Common.{◌≡◌, take}
+use Rattle.symres.proofs.Common.{IsSymbolTable, Project, take, ◌≡◌}
 use Rattle.ldscript.specs.statements.Numbering.{all_directives}
-use Rattle.ldmodel.specs.Project.{Project}
-use Rattle.symres.specs.SymbolTable.{IsSymbolTable}
 use Rattle.symres.specs.Provided.{names_in_force}
 use Rattle.symres.proofs.Providing.{given}
 use Rattle.symres.proofs.symbol_table.SymbolTable.provided.Given as goal

@@ -1,9 +1,4 @@
-use Rattle.std.proofs.Common.{Vec, Global, map}
-use Rattle.std.proofs.lemmas.Result.{IfOk-weaker}
-use Rattle.symres.specs.Sorted.{AreSorted, named_number}
-use Rattle.symres.specs.SymbolTable.{state_of}
-use Rattle.symres.specs.declared.sorted.NamedKey.{NamedKey}
-use Rattle.symres_decisions.specs.NameText.{AreInOrder}
+use Rattle.symres.proofs.Common.{AreInOrder, AreSorted, Global, IfOk-weaker, NamedKey, Vec, map, named_number, state_of}
 use Rattle.symres.proofs.Sorting.{are_sorted, declared_key}
 use Rattle.symres.proofs.symbol_table.SymbolTable.sorted.Goals as goal
 
@@ -12,7 +7,8 @@ returns c =
     let d = c.self.inside.decisions in
     let order = c.self.inside.order in
     rw (← c.self.view_is)
-    (IfOk-weaker c.in_byte_order.result (λ (x : Vec NamedKey Global). AreInOrder d.names.order (map named_number x.items))
+    (IfOk-weaker c.in_byte_order.result (λ (x : Vec NamedKey Global). AreInOrder d.names.order
+    (map named_number x.items))
     (λ (x : Vec NamedKey Global). AreSorted (state_of d order) x.items)
     (λ x e.
     are_sorted (state_of d order) d.names.order x.items

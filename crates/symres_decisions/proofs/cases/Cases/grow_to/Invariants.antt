@@ -1,5 +1,4 @@
-use Rattle.std.proofs.Common.{◌≡◌, ℕ, length, count_by, ◌+◌, ◌-◌, ◌≤◌}
-use Rattle.symres_decisions.specs.Decided.{case_at, is_doubled}
+use Rattle.symres_decisions.proofs.Common.{case_at, count_by, is_doubled, length, ℕ, ◌+◌, ◌-◌, ◌≡◌, ◌≤◌}
 use Rattle.symres_decisions.proofs.cases.Cases.grow_to.Given as goal
 
 abbrev pub invariant-loop-key : goal.invariant-loop-key

@@ -1,4 +1,4 @@
-use Rattle.std.proofs.Common.{◌∙◌, sym, inl, inr}
+use Rattle.symres_decisions.proofs.Common.{inl, inr, sym, ◌∙◌}
 use Rattle.symres_decisions.proofs.OneName.{some_case}
 use Rattle.symres_decisions.proofs.decisions.Decisions.case_named.Goals as goal
 

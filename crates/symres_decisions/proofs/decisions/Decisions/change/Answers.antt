@@ -1,7 +1,5 @@
-use Rattle.std.proofs.Common.{◌∙◌, ap, refl, subst, sym}
-use Rattle.symres_decisions.specs.Decided.{case_at}
-use Rattle.symres_decisions.specs.Decisions.{DecisionsState}
-use Rattle.symres_table.specs.State.{AreDistinct, IsFresh, slot}
+use Rattle.symres_decisions.proofs.Common.{AreDistinct, DecisionsState, IsFresh, ap, case_at, refl, slot, subst, sym}
+use Rattle.symres_decisions.proofs.Common.{◌∙◌}
 use Rattle.symres_decisions.proofs.Changed.{Steps, back_after, counted_after, frame_after, kept_after}
 use Rattle.symres_decisions.proofs.Changed.{places_after}
 use Rattle.symres_decisions.proofs.Changed.{text_after, used_put, whole_after}

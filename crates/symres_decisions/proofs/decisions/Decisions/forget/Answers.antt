@@ -1,5 +1,4 @@
-use Rattle.std.proofs.Common.{subst, sym}
-use Rattle.symres_decisions.specs.Decisions.{IsTextOf}
+use Rattle.symres_decisions.proofs.Common.{IsTextOf, subst, sym}
 use Rattle.symres_decisions.proofs.MakingRoom.{used_forgotten}
 use Rattle.symres_decisions.proofs.Used.{left_used, none_forgotten}
 use Rattle.symres_decisions.proofs.decisions.Decisions.forget.Goals as goal

@@ -1,5 +1,5 @@
+use Rattle.symres_decisions.proofs.Common.{refl}
 use Rattle.symres_decisions.proofs.Changed.{places_after}
-use Rattle.std.proofs.Common.{refl}
 use Rattle.symres_decisions.proofs.decisions.Decisions.redecide.Goals as goal
 
 pub decide_all-requires-clause-room : goal.decide_all-requires-clause-room

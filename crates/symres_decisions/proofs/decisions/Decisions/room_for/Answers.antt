@@ -1,5 +1,4 @@
-use Rattle.std.proofs.Common.{List, subst, sym}
-use Rattle.symres_decisions.specs.Change.{Fits, Table}
+use Rattle.symres_decisions.proofs.Common.{Fits, List, Table, subst, sym}
 use Rattle.symres_decisions.proofs.MakingRoom.{both_ok, ready_come}
 use Rattle.symres_decisions.proofs.decisions.Decisions.room_for.Goals as goal
 

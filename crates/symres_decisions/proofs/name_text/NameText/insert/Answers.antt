@@ -1,7 +1,5 @@
-use Rattle.std.proofs.Common.{◌≡◌, ◌∙◌, ◌++◌, ◌∷◌, ℕ, List, ap, map, subst, sym}
-use Rattle.std.specs.List.{insert}
-use Rattle.symres_decisions.specs.NameText.{AreInOrder, written}
-use Rattle.symres_decisions.specs.declared.name_text.WrittenName.{WrittenName}
+use Rattle.symres_decisions.proofs.Common.{AreInOrder, List, WrittenName, ap, insert, map, subst, sym, written, ℕ, ◌++◌}
+use Rattle.symres_decisions.proofs.Common.{◌∙◌, ◌∷◌, ◌≡◌}
 use Rattle.symres_decisions.proofs.ByteOrder.{one_more}
 use Rattle.symres_decisions.proofs.Listed.{Listed}
 use Rattle.symres_decisions.proofs.Written.{put_written}

@@ -1,9 +1,6 @@
-use Rattle.std.proofs.Common.{rules, ◌≡◌, ◌∙◌, ℕ, List, Option, Bool, ap, filter, map, subst, sym}
-use Rattle.std.specs.List.{All}
+use Rattle.symres_decisions.proofs.Common.{All, All-filter, Bool, IsInside, List, Option, WrittenName, ap, filter}
+use Rattle.symres_decisions.proofs.Common.{is_known, map, rules, subst, sym, written, ℕ, ◌∙◌, ◌≡◌}
 use Rattle.std.proofs.lemmas.Fn.{filter_same}
-use Rattle.std.proofs.lemmas.List.Elements.{All-filter}
-use Rattle.symres_decisions.specs.NameText.{IsInside, is_known, written}
-use Rattle.symres_decisions.specs.declared.name_text.WrittenName.{WrittenName}
 use Rattle.symres_decisions.proofs.Written.{kept_written}
 use Rattle.symres_decisions.proofs.name_text.NameText.keep_known.Goals as goal
 

@@ -1,5 +1,4 @@
-use Rattle.std.proofs.Common.{◌≡◌, map, take}
-use Rattle.symres_decisions.specs.NameText.{compared_number}
+use Rattle.symres_decisions.proofs.Common.{compared_number, map, take, ◌≡◌}
 use Rattle.symres_decisions.proofs.name_text.NameText.of_list.Given as goal
 
 -- the names so far

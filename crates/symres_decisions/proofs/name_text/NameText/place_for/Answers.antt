@@ -1,5 +1,4 @@
-use Rattle.std.proofs.Common.{◌∙◌, ◌<◌, ◌+◌, ◌-◌, ◌/◌, ℕ, List, length, ap, arith, sym}
-use Rattle.std.specs.Cmp.Lexicographic.{slice_cmp}
+use Rattle.symres_decisions.proofs.Common.{List, ap, arith, length, slice_cmp, sym, ℕ, ◌+◌, ◌-◌, ◌/◌, ◌<◌, ◌∙◌}
 use Rattle.std.specs.Ordering.{is_lt, nat_cmp}
 use Rattle.symres_decisions.proofs.ByteOrder.{after_middle, before_middle}
 use Rattle.symres_decisions.proofs.Listed.{Listed}

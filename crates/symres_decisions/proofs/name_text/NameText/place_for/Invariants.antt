@@ -1,4 +1,4 @@
-use Rattle.std.proofs.Common.{◌≡◌, ◌<◌, ◌≤◌, ◌-◌, ℕ, length, true, false}
+use Rattle.symres_decisions.proofs.Common.{false, length, true, ℕ, ◌-◌, ◌<◌, ◌≡◌, ◌≤◌}
 use Rattle.symres_decisions.proofs.ByteOrder.{precedes}
 use Rattle.symres_decisions.proofs.Listed.{Listed}
 use Rattle.symres_decisions.proofs.name_text.NameText.place_for.Given as goal

@@ -1,6 +1,4 @@
-use Rattle.std.proofs.Common.{◌∙◌, ◌++◌, ◌∷◌, [], ℕ, List, ap, map}
-use Rattle.symres_decisions.specs.NameText.{written}
-use Rattle.symres_decisions.specs.declared.name_text.WrittenName.{WrittenName}
+use Rattle.symres_decisions.proofs.Common.{List, WrittenName, [], ap, map, written, ℕ, ◌++◌, ◌∙◌, ◌∷◌}
 use Rattle.symres_decisions.proofs.Written.{one_written}
 use Rattle.symres_decisions.proofs.name_text.NameText.push.Goals as goal
 

@@ -1,6 +1,4 @@
-use Rattle.std.proofs.Common.{◌/◌, ◌^◌, Bool, ap, cond, sym}
-use Rattle.std.proofs.lemmas.Bool.{eq-eqb, ne_eqb}
-use Rattle.symres_table.specs.Hashing.{combined, shifted, with_byte}
+use Rattle.symres_table.proofs.Common.{Bool, ap, combined, cond, eq-eqb, ne_eqb, shifted, sym, with_byte, ◌/◌, ◌^◌}
 use Rattle.symres_table.specs.declared.hashing.WordHasher.{WordHasher}
 use Rattle.symres_table.proofs.hashing.WordHasher.add.Goals as goal
 

@@ -1,5 +1,4 @@
-use Rattle.std.proofs.Common.{ℕ, ap, ◌∙◌}
-use Rattle.symres_table.specs.Hashing.{combined, hash_of}
+use Rattle.symres_table.proofs.Common.{ap, combined, hash_of, ℕ, ◌∙◌}
 use Rattle.symres_table.proofs.hashing.WordHasherHasher.finish.Goals as goal
 
 pub returns : goal.returns

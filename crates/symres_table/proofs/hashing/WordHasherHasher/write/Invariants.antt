@@ -1,5 +1,4 @@
-use Rattle.std.proofs.Common.{◌≡◌, take}
-use Rattle.symres_table.specs.Hashing.{with_bytes}
+use Rattle.symres_table.proofs.Common.{take, with_bytes, ◌≡◌}
 use Rattle.symres_table.proofs.hashing.WordHasherHasher.write.Given as goal
 
 -- the bytes before this place are written

@@ -1,11 +1,8 @@
-use Rattle.std.proofs.Common.{◌≡◌, ◌≢◌, ◌∙◌, ℕ, sym, ap, Some, None, get_or, length, Vec, Global, map}
-use Rattle.std.proofs.Common.{[], ◌∷◌, ◌++◌, List, subst}
-use Rattle.std.proofs.lemmas.List.{map-append}
-use Rattle.std.specs.Prelude.{IfNone, IfSome, Option}
-use Rattle.slab.specs.Slab.{Slab}
-use Rattle.symres_table.specs.Known.{KnownNames, entry_spelled, number_in, spelled, stored}
-use Rattle.symres_table.specs.State.{slot, IsNamed}
-use Rattle.symres_table.proofs.Filed.{filed_more, takes_stored}
+use Rattle.symres_table.proofs.Common.{IfNone, IfSome, IsNamed, KnownNames, List, None, Option, Slab, Some, Vec, [], ap}
+use Rattle.symres_table.proofs.Common.{entry_spelled, get_or, length, map, map-append, number_in, slot, spelled, stored}
+use Rattle.symres_table.proofs.Common.{subst, sym, ℕ, ◌++◌, ◌∙◌, ◌∷◌, ◌≡◌, ◌≢◌}
+use Rattle.std.proofs.Common.{Global}
+use Rattle.symres_table.proofs.PlacesByNumber.{filed_more, takes_stored}
 use Rattle.symres_table.proofs.Pairs.{number_law, kept_slot, slot_spelled}
 use Rattle.symres_table.proofs.name_table.NameTable.add_new.Goals as goal
 
@@ -36,9 +33,9 @@ returns-in-Some-clause-ok c =
     let found = found_number c.in_ok-key.key.items a.numbers.entries _ n c.in-Some.is c.in_ok-number.ensures.known in
     let named : number_in name a.numbers.entries ≡ Some n =
     sym (ap (λ l. number_in l a.numbers.entries) c.in_ok-key.ensures.items) ∙ found in
-    let same : c.reserve.new.self.slots ≡ a.places.slots =
+    let same : c.reserve.new.slab.slots ≡ a.places.slots =
     ap (λ (s : Slab ℕ). s.slots) c.reserve.ensures.rest_kept in
-    subst (λ es. IsNamed (map spelled (stored es c.reserve.new.self.slots)) n name) (sym entries)
+    subst (λ es. IsNamed (map spelled (stored es c.reserve.new.slab.slots)) n name) (sym entries)
     (subst (λ ps. IsNamed (map spelled (stored a.numbers.entries ps)) n name) (sym same)
     (number_law a.numbers.entries (stored a.numbers.entries a.places.slots) name (Some n) c.self.invariant.paired
     (sym named)))
@@ -51,7 +48,7 @@ invariant_of-self-in-None c =
     let absent' = put_absent key.items a.numbers.entries _ c.in-None.is c.in_ok-number.ensures.absent in
     let entries = put_last c.put_new.new.numbers.entries a.numbers.entries (key, n) _ c.in-None.is
     c.in_ok-number.ensures.put in
-    let same : c.reserve.new.self.slots ≡ a.places.slots =
+    let same : c.reserve.new.slab.slots ≡ a.places.slots =
     ap (λ (s : Slab ℕ). s.slots) c.reserve.ensures.rest_kept in
     let at : c.insert_reserved.result ≡ n = c.insert_reserved.ensures.key ∙ sym c.vacant_key.ensures.value in
     let was : get_or a.places.slots n None ≡ None = ap (λ l. get_or l n None) (sym same)
@@ -72,7 +69,7 @@ returns-in-None-clause-ok c =
     let absent' = put_absent key.items a.numbers.entries _ c.in-None.is c.in_ok-number.ensures.absent in
     let entries = put_last c.put_new.new.numbers.entries a.numbers.entries (key, n) _ c.in-None.is
     c.in_ok-number.ensures.put in
-    let same : c.reserve.new.self.slots ≡ a.places.slots =
+    let same : c.reserve.new.slab.slots ≡ a.places.slots =
     ap (λ (s : Slab ℕ). s.slots) c.reserve.ensures.rest_kept in
     let at : c.insert_reserved.result ≡ n = c.insert_reserved.ensures.key ∙ sym c.vacant_key.ensures.value in
     let was : get_or a.places.slots n None ≡ None = ap (λ l. get_or l n None) (sym same)
@@ -97,7 +94,7 @@ returns-in-None-clause-kept c =
     let absent' = put_absent key.items a.numbers.entries _ c.in-None.is c.in_ok-number.ensures.absent in
     let entries = put_last c.put_new.new.numbers.entries a.numbers.entries (key, n) _ c.in-None.is
     c.in_ok-number.ensures.put in
-    let same : c.reserve.new.self.slots ≡ a.places.slots =
+    let same : c.reserve.new.slab.slots ≡ a.places.slots =
     ap (λ (s : Slab ℕ). s.slots) c.reserve.ensures.rest_kept in
     let at : c.insert_reserved.result ≡ n = c.insert_reserved.ensures.key ∙ sym c.vacant_key.ensures.value in
     let was : get_or a.places.slots n None ≡ None = ap (λ l. get_or l n None) (sym same)

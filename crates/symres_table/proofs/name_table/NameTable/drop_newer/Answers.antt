@@ -1,7 +1,6 @@
-use Rattle.std.proofs.Common.{◌∙◌, ap, take, map}
-use Rattle.symres_table.specs.Known.{KnownNames, entry_spelled}
+use Rattle.symres_table.proofs.Common.{KnownNames, ap, entry_spelled, map, take, ◌∙◌}
 use Rattle.symres_table.proofs.Cutting.{map_take}
-use Rattle.symres_table.proofs.Filed.{filed_cut}
+use Rattle.symres_table.proofs.PlacesByNumber.{filed_cut}
 use Rattle.symres_table.proofs.name_table.NameTable.drop_newer.Goals as goal
 
 pub invariant_of-self : goal.invariant_of-self

@@ -1,9 +1,9 @@
-use Rattle.std.proofs.Common.{rules, ◌≡◌, ◌∙◌, ℕ, Vec, Global, filter, get_or, None, ap, map, List, subst, sym}
-use Rattle.std.specs.Prelude.{is_some}
+use Rattle.symres_table.proofs.Common.{IsKeptWhere, IsPaired, KnownNames, List, None, Vec, ap, entry_spelled, filter}
+use Rattle.symres_table.proofs.Common.{get_or, is_some, is_used, map, rules, spelled, stored, subst, sym, ℕ, ◌∙◌, ◌≡◌}
+use Rattle.std.proofs.Common.{Global}
 use Rattle.indexmap.proofs.CallerLemmas.{filter-RetainsPairs}
-use Rattle.symres_table.specs.Numbers.{is_used}
-use Rattle.symres_table.specs.Known.{KnownNames, entry_spelled, IsKeptWhere, IsPaired, spelled, stored}
-use Rattle.symres_table.proofs.Filed.{apart, filter_keys, have_slots, kept_stored, refiled, refiled_names, within_kept}
+use Rattle.symres_table.proofs.PlacesByNumber.{apart, filter_keys, have_slots, kept_stored, refiled, refiled_names}
+use Rattle.symres_table.proofs.PlacesByNumber.{within_kept}
 use Rattle.symres_table.proofs.Forgetting.{Kept, listed_kept, paired_kept, kept_where}
 use Rattle.symres_table.proofs.name_table.NameTable.forget_unused.Goals as goal
 

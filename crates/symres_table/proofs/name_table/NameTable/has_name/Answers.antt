@@ -1,8 +1,5 @@
-use Rattle.std.proofs.Common.{◌∙◌, ap}
-use Rattle.std.specs.Prelude.{is_some}
-use Rattle.symres_table.specs.Known.{KnownNames}
-use Rattle.symres_table.specs.State.{slot}
-use Rattle.symres_table.proofs.Filed.{has_shown}
+use Rattle.symres_table.proofs.Common.{KnownNames, ap, is_some, slot, ◌∙◌}
+use Rattle.symres_table.proofs.PlacesByNumber.{has_shown}
 use Rattle.symres_table.proofs.name_table.NameTable.has_name.Goals as goal
 
 pub returns : goal.returns

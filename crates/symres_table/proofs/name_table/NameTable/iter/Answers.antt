@@ -1,6 +1,4 @@
-use Rattle.std.proofs.Common.{◌∙◌, ap, map, subst}
-use Rattle.symres_table.specs.Known.{KnownNames, entry_spelled, stored}
-use Rattle.symres_table.specs.State.{IsListing}
+use Rattle.symres_table.proofs.Common.{IsListing, KnownNames, ap, entry_spelled, map, stored, subst, ◌∙◌}
 use Rattle.symres_table.proofs.Listing.{once_mapped, listing}
 use Rattle.symres_table.proofs.Pairs.{consistent}
 use Rattle.symres_table.proofs.name_table.NameTable.iter.Goals as goal

@@ -1,6 +1,4 @@
-use Rattle.std.proofs.Common.{subst}
-use Rattle.symres_table.specs.Known.{KnownNames, IsConsistent, stored}
-use Rattle.symres_table.specs.State.{AreDistinct, IsListing}
+use Rattle.symres_table.proofs.Common.{AreDistinct, IsConsistent, IsListing, KnownNames, stored, subst}
 use Rattle.symres_table.proofs.Listing.{once_mapped, listing}
 use Rattle.symres_table.proofs.Pairs.{distinct_law, consistent}
 use Rattle.symres_table.proofs.name_table.NameTable.len.Goals as goal

@@ -1,9 +1,7 @@
-use Rattle.std.proofs.Common.{◌≡◌, ◌∙◌, ap, None, Some, sym}
-use Rattle.std.specs.Option.{option_map}
-use Rattle.std.proofs.Common.{Vec, Global, ℕ}
-use Rattle.symres_table.specs.Known.{KnownNames, key_at, spelled}
-use Rattle.symres_table.specs.State.{slot}
-use Rattle.symres_table.proofs.Filed.{shown_at}
+use Rattle.symres_table.proofs.Common.{KnownNames, None, Some, Vec, ap, key_at, option_map, slot, spelled, sym, ℕ, ◌∙◌}
+use Rattle.symres_table.proofs.Common.{◌≡◌}
+use Rattle.std.proofs.Common.{Global}
+use Rattle.symres_table.proofs.PlacesByNumber.{shown_at}
 use Rattle.symres_table.proofs.name_table.NameTable.name_of.Goals as goal
 
 pub returns-in-Some-get_index : goal.returns-in-Some-get_index

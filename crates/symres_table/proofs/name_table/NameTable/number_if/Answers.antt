@@ -1,7 +1,4 @@
-use Rattle.std.proofs.Common.{◌∙◌, ap, Some, sym}
-use Rattle.std.proofs.lemmas.Slice.Eq.{bytes_eq-Decides}
-use Rattle.symres_table.specs.Known.{KnownNames, stored}
-use Rattle.symres_table.specs.State.{slot}
+use Rattle.symres_table.proofs.Common.{KnownNames, Some, ap, bytes_eq-Decides, slot, stored, sym, ◌∙◌}
 use Rattle.symres_table.proofs.Pairs.{entry_named}
 use Rattle.symres_table.proofs.name_table.NameTable.number_if.Goals as goal
 

@@ -1,7 +1,5 @@
-use Rattle.std.proofs.Common.{◌∙◌, ◌<◌, ap, arith, get_or, length, sym}
-use Rattle.std.proofs.lemmas.List.{length-map}
-use Rattle.symres_table.specs.Known.{KnownNames, entry_spelled}
-use Rattle.symres_table.proofs.Filed.{listed_number}
+use Rattle.symres_table.proofs.Common.{KnownNames, ap, arith, entry_spelled, get_or, length, length-map, sym, ◌<◌, ◌∙◌}
+use Rattle.symres_table.proofs.PlacesByNumber.{listed_number}
 use Rattle.symres_table.proofs.name_table.NameTable.number_listed.Goals as goal
 
 pub returns : goal.returns

@@ -1,7 +1,5 @@
-use Rattle.std.proofs.Common.{◌≢◌, ◌∙◌, ℕ, subst, Some}
-use Rattle.std.specs.Prelude.{MatchOption}
-use Rattle.symres_table.specs.Known.{KnownNames, stored}
-use Rattle.symres_table.specs.State.{slot, IsNamed, AreDistinct}
+use Rattle.symres_table.proofs.Common.{AreDistinct, IsNamed, KnownNames, MatchOption, Some, slot, stored, subst, ℕ, ◌∙◌}
+use Rattle.symres_table.proofs.Common.{◌≢◌}
 use Rattle.symres_table.proofs.Pairs.{number_law, distinct_law}
 use Rattle.symres_table.proofs.name_table.NameTable.number_of.Goals as goal
 

@@ -1,15 +1,7 @@
-use Rattle.std.proofs.Common.{◌≡◌, ◌≤◌, ◌∙◌, ℕ, List, length, map, ap, refl, sym, subst, arith}
-use Rattle.std.specs.List.{All, insert}
-use Rattle.std.specs.Prelude.{◌==◌, false}
-use Rattle.std.specs.Vec.{vec_capacity}
-use Rattle.std.proofs.lemmas.List.{length-map}
-use Rattle.std.proofs.lemmas.List.Edits.{length-insert}
-use Rattle.indexmap.proofs.SetLemmas.{map-insert}
-use Rattle.elfobj.specs.Symbols.{NamedSymbol}
-use Rattle.symres_table.specs.Numbers.{Entered}
-use Rattle.symres_table.specs.Lists.{rooms}
-use Rattle.symres_table.specs.Spelled.{spell, Spells, SpellsSeen}
-use Rattle.symres_table.specs.State.{IsMore, State}
+use Rattle.symres_table.proofs.Common.{All, Entered, List, NamedSymbol, Spells, SpellsSeen, State, ap, arith, false}
+use Rattle.symres_table.proofs.Common.{insert, length, length-insert, length-map, map, map-insert, refl, rooms, spell}
+use Rattle.symres_table.proofs.Common.{subst, sym, vec_capacity, ℕ, ◌==◌, ◌∙◌, ◌≡◌, ◌≤◌}
+use Rattle.symres_table.specs.State.{IsMore}
 use Rattle.symres_table.proofs.Fresh.{unused}
 use Rattle.symres_table.proofs.Joined.{can_enter, fresh_key, may_enter, spellable_insert}
 use Rattle.symres_table.proofs.Spelling.{AllSpellable, same_objects, spellable_kept}

@@ -1,9 +1,6 @@
-use Rattle.std.proofs.Common.{◌∙◌, ap, sym, map, List, Option}
+use Rattle.symres_table.proofs.Common.{Given, List, Option, State, ap, declaration_of, entries_of, map, sym, ◌∙◌}
 use Rattle.ldmodel.specs.Names.{decided, Declaration}
 use Rattle.ldmodel.specs.ScriptNames.{is_assignment, is_provision}
-use Rattle.ldscript.specs.statements.declared.given.Given.{Given}
-use Rattle.symres_table.specs.State.{State, entries_of}
-use Rattle.symres_table.specs.Tally.{declaration_of}
 use Rattle.symres_table.proofs.Spelling.{entries_spelled, entries_unknown}
 use Rattle.symres_table.proofs.names.Names.decide.Goals as goal
 

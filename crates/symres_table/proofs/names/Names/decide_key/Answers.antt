@@ -1,10 +1,8 @@
-use Rattle.std.proofs.Common.{◌≡◌, ◌∙◌, ap, sym, map, List, Option}
+use Rattle.symres_table.proofs.Common.{Given, IsNamed, List, Option, State, ap, declaration_of, entries_of, map, slot}
+use Rattle.symres_table.proofs.Common.{sym, ◌∙◌, ◌≡◌}
 use Rattle.ldmodel.specs.Names.{decided, Declaration}
 use Rattle.ldmodel.specs.ScriptNames.{is_assignment, is_provision}
 use Rattle.ldscript.specs.statements.Given.{given_by}
-use Rattle.ldscript.specs.statements.declared.given.Given.{Given}
-use Rattle.symres_table.specs.State.{State, IsNamed, slot, entries_of}
-use Rattle.symres_table.specs.Tally.{declaration_of}
 use Rattle.symres_table.proofs.Joined.{one_name}
 use Rattle.symres_table.proofs.Spelling.{entries_spelled}
 use Rattle.symres_table.proofs.names.Names.decide_key.Goals as goal

@@ -1,14 +1,6 @@
-use Rattle.std.proofs.Common.{◌≤◌, ◌∙◌, ℕ, List, length, map, ap, sym, subst, arith}
-use Rattle.std.specs.List.{insert}
-use Rattle.std.specs.Vec.{vec_capacity}
-use Rattle.std.proofs.lemmas.List.{length-map}
-use Rattle.std.proofs.lemmas.List.Edits.{length-insert}
-use Rattle.indexmap.proofs.SetLemmas.{map-insert}
-use Rattle.elfobj.specs.Symbols.{NamedSymbol}
-use Rattle.symres_table.specs.Numbers.{Entered}
-use Rattle.symres_table.specs.Lists.{rooms}
-use Rattle.symres_table.specs.Spelled.{spell}
-use Rattle.symres_table.specs.State.{State, slot}
+use Rattle.symres_table.proofs.Common.{Entered, List, NamedSymbol, State, ap, arith, insert, length, length-insert}
+use Rattle.symres_table.proofs.Common.{length-map, map, map-insert, rooms, slot, spell, subst, sym, vec_capacity, ℕ}
+use Rattle.symres_table.proofs.Common.{◌∙◌, ◌≤◌}
 use Rattle.symres_table.proofs.Spelling.{AllSpellable}
 use Rattle.symres_table.proofs.Joined.{fresh_key, can_enter, spellable_insert}
 use Rattle.symres_table.proofs.names.Names.enter.Goals as goal

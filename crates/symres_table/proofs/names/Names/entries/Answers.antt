@@ -1,6 +1,4 @@
-use Rattle.std.proofs.Common.{◌∙◌, ap, sym, map}
-use Rattle.symres_table.specs.State.{State, IsNamed, slot, entries_of}
-use Rattle.symres_table.specs.Tally.{declaration_of}
+use Rattle.symres_table.proofs.Common.{IsNamed, State, ap, declaration_of, entries_of, map, slot, sym, ◌∙◌}
 use Rattle.symres_table.proofs.Spelling.{entries_spelled}
 use Rattle.symres_table.proofs.names.Names.entries.Goals as goal
 

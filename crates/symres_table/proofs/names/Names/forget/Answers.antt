@@ -1,6 +1,4 @@
-use Rattle.std.proofs.Common.{ℕ, map}
-use Rattle.symres_table.specs.Numbers.{Entered}
-use Rattle.symres_table.specs.Lists.{rooms}
+use Rattle.symres_table.proofs.Common.{Entered, map, rooms, ℕ}
 use Rattle.symres_table.proofs.Joined.{forgets}
 use Rattle.symres_table.proofs.Forgetting.{named_used}
 use Rattle.symres_table.proofs.names.Names.forget.Goals as goal

@@ -1,5 +1,4 @@
-use Rattle.std.proofs.Common.{◌∙◌, ap, sym}
-use Rattle.symres_table.specs.State.{State, entries_of}
+use Rattle.symres_table.proofs.Common.{State, ap, entries_of, sym, ◌∙◌}
 use Rattle.symres_table.proofs.Spelling.{entries_unknown}
 use Rattle.symres_table.proofs.names.Names.key_named.Goals as goal
 

@@ -1,5 +1,4 @@
-use Rattle.std.proofs.Common.{◌∙◌, ap, sym}
-use Rattle.symres_table.specs.State.{State, entries_of, slot}
+use Rattle.symres_table.proofs.Common.{State, ap, entries_of, slot, sym, ◌∙◌}
 use Rattle.symres_table.proofs.Spelling.{entries_unknown}
 use Rattle.symres_table.proofs.names.Names.known.Goals as goal
 

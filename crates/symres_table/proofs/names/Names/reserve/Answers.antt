@@ -1,7 +1,4 @@
-use Rattle.std.proofs.Common.{◌∙◌, length, map, ap, sym, subst, arith}
-use Rattle.symres_table.specs.Lists.{rooms}
-use Rattle.symres_table.specs.Spelled.{spell}
-use Rattle.symres_table.specs.State.{State}
+use Rattle.symres_table.proofs.Common.{State, ap, arith, length, map, rooms, spell, subst, sym, ◌∙◌}
 use Rattle.symres_table.proofs.Spelling.{AllSpellable, same_objects, spellable_kept}
 use Rattle.symres_table.proofs.Fresh.{unused}
 use Rattle.symres_table.proofs.Growing.{both_ok}

@@ -1,14 +1,10 @@
-use Rattle.std.proofs.Common.{◌≤◌, ◌+◌, ◌∙◌, ℕ, [], ◌∷◌, ◌++◌, length, map, ap, sym, subst, arith}
-use Rattle.std.specs.Vec.{vec_capacity}
-use Rattle.std.proofs.lemmas.List.{get_or-map, length-map}
-use Rattle.std.proofs.lemmas.List.Edits.{length-remove}
-use Rattle.indexmap.proofs.SetLemmas.{map-remove}
-use Rattle.symres_table.specs.Numbers.{Entered}
-use Rattle.symres_table.specs.Lists.{rooms}
-use Rattle.symres_table.specs.Spelled.{spell, spell_symbol, IsSpellable}
-use Rattle.symres_table.specs.State.{State, without, HasList}
+use Rattle.symres_table.proofs.Common.{Entered, HasList, IsSpellable, State, [], ap, arith, length, length-map}
+use Rattle.symres_table.proofs.Common.{length-remove, map, map-remove, rooms, spell, spell_symbol, subst, sym}
+use Rattle.symres_table.proofs.Common.{vec_capacity, ℕ, ◌++◌, ◌+◌, ◌∙◌, ◌∷◌, ◌≤◌}
+use Rattle.std.proofs.lemmas.List.{get_or-map}
+use Rattle.symres_table.specs.State.{without}
 use Rattle.symres_table.proofs.Placing.{all_removed}
-use Rattle.symres_table.proofs.Parked.{rooms_push}
+use Rattle.symres_table.proofs.ListSetAside.{rooms_push}
 use Rattle.symres_table.proofs.Spelling.{AllSpellable}
 use Rattle.symres_table.proofs.Joined.{has_key, without_spelled, may_again, others_may, last_list, spelled_so}
 use Rattle.symres_table.proofs.names.Names.withdraw.Goals as goal

@@ -1,5 +1,4 @@
-use Rattle.std.proofs.Common.{◌≡◌, ◌∙◌, ap, sym, Some, None}
-use Rattle.symres_table.specs.Places.{place_of}
+use Rattle.symres_table.proofs.Common.{None, Some, ap, place_of, sym, ◌∙◌, ◌≡◌}
 use Rattle.symres_table.proofs.Placing.{is_entered, is_fresh}
 use Rattle.symres_table.proofs.objects.Objects.contains.Goals as goal
 

@@ -1,11 +1,7 @@
-use Rattle.std.proofs.Common.{◌≡◌, ◌≤◌, ◌∙◌, ap, sym, subst, length, arith, Vec, Global, take, drop, eqb, false}
-use Rattle.std.proofs.Common.{◌++◌, []}
-use Rattle.std.specs.List.{All, insert}
-use Rattle.std.specs.Vec.{vec_capacity}
-use Rattle.std.proofs.lemmas.List.{drop_all, length-map, take-append-drop}
-use Rattle.symres_table.specs.declared.symbol.Declared.{Declared}
-use Rattle.symres_table.specs.Numbers.{Entered, IsTable, HasRow}
-use Rattle.symres_table.specs.Objects.{ObjectsState, IsObjectTable}
+use Rattle.symres_table.proofs.Common.{All, Declared, Entered, HasRow, IsObjectTable, IsTable, ObjectsState, Vec, []}
+use Rattle.symres_table.proofs.Common.{ap, arith, drop, drop_all, eqb, false, insert, length, length-map, subst, sym}
+use Rattle.symres_table.proofs.Common.{take, take-append-drop, vec_capacity, ◌++◌, ◌∙◌, ◌≡◌, ◌≤◌}
+use Rattle.std.proofs.Common.{Global}
 use Rattle.symres_table.proofs.Placing.{split_at, kept_after, rooms, places_fit, written}
 use Rattle.symres_table.proofs.objects.Objects.enter.Goals as goal
 

@@ -1,10 +1,6 @@
-use Rattle.std.proofs.Common.{length, ap, arith, Vec, Global}
-use Rattle.std.specs.List.{All}
-use Rattle.std.specs.Vec.{vec_capacity}
-use Rattle.std.proofs.lemmas.List.{length-map}
-use Rattle.symres_table.specs.declared.symbol.Declared.{Declared}
-use Rattle.symres_table.specs.Numbers.{HasRow}
-use Rattle.symres_table.specs.Objects.{ObjectsState, IsObjectTable}
+use Rattle.symres_table.proofs.Common.{All, Declared, HasRow, IsObjectTable, ObjectsState, Vec, ap, arith, length}
+use Rattle.symres_table.proofs.Common.{length-map, vec_capacity}
+use Rattle.std.proofs.Common.{Global}
 use Rattle.symres_table.proofs.Growing.{kept_grown, room_grown, all_ok, can_enter}
 use Rattle.symres_table.proofs.objects.Objects.reserve.Goals as goal
 

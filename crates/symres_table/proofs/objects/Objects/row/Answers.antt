@@ -1,6 +1,4 @@
-use Rattle.std.proofs.Common.{◌≤◌, ◌∙◌, length, ap, sym, arith}
-use Rattle.symres_table.specs.Numbers.{entries}
-use Rattle.symres_table.specs.Objects.{ObjectsState}
+use Rattle.symres_table.proofs.Common.{ObjectsState, ap, arith, entries, length, sym, ◌∙◌, ◌≤◌}
 use Rattle.symres_table.proofs.Growing.{entries_past}
 use Rattle.symres_table.proofs.objects.Objects.row.Goals as goal
 

@@ -1,6 +1,4 @@
-use Rattle.std.proofs.Common.{◌∙◌, ap}
-use Rattle.symres_table.specs.Objects.{HasKey}
-use Rattle.symres_table.specs.Places.{place_of}
+use Rattle.symres_table.proofs.Common.{HasKey, ap, place_of, ◌∙◌}
 use Rattle.symres_table.proofs.Placing.{here_at, is_found}
 use Rattle.symres_table.proofs.objects.Objects.symbol.Goals as goal
 

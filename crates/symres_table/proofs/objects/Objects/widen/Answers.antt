@@ -1,7 +1,5 @@
-use Rattle.std.proofs.Common.{arith, Vec, Global, refl}
-use Rattle.std.specs.Vec.{vec_capacity}
-use Rattle.std.proofs.lemmas.List.{length-map}
-use Rattle.symres_table.specs.declared.symbol.Declared.{Declared}
+use Rattle.symres_table.proofs.Common.{Declared, Vec, arith, length-map, refl, vec_capacity}
+use Rattle.std.proofs.Common.{Global}
 use Rattle.symres_table.proofs.Growing.{kept_grown, room_grown}
 use Rattle.symres_table.proofs.objects.Objects.widen.Goals as goal
 

@@ -1,12 +1,7 @@
-use Rattle.std.proofs.Common.{◌≡◌, ◌∙◌, ap, sym, subst, length, arith, ℕ, List, ◌-◌, get_or}
-use Rattle.std.specs.Vec.{vec_capacity, vec_len}
-use Rattle.std.proofs.lemmas.List.{get_or_default}
-use Rattle.std.specs.List.{All, remove}
-use Rattle.symres_table.specs.declared.places.PlacedKey.{PlacedKey}
-use Rattle.symres_table.specs.declared.symbol.Numbered.{Numbered}
-use Rattle.symres_table.specs.Numbers.{Entered, HasRow, IsTable, HasSymbols, without}
-use Rattle.symres_table.specs.Objects.{ObjectsState, HasKey, IsNumbered}
-use Rattle.symres_table.specs.Places.{AreMoved, down}
+use Rattle.symres_table.proofs.Common.{All, AreMoved, Entered, HasKey, HasRow, HasSymbols, IsNumbered, IsTable, List}
+use Rattle.symres_table.proofs.Common.{Numbered, ObjectsState, PlacedKey, ap, arith, down, get_or, get_or_default}
+use Rattle.symres_table.proofs.Common.{length, remove, subst, sym, vec_capacity, vec_len, ℕ, ◌-◌, ◌∙◌, ◌≡◌}
+use Rattle.symres_table.specs.Numbers.{without}
 use Rattle.symres_table.proofs.Placing.{Here, here_at, At, at_number, numbered_without, kept_without, rooms, without_is}
 use Rattle.symres_table.proofs.Placing.{has_symbols, written}
 use Rattle.symres_table.proofs.Growing.{again}

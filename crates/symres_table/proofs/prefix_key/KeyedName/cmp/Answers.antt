@@ -1,6 +1,5 @@
-use Rattle.std.proofs.Common.{◌∙◌, ap}
+use Rattle.symres_table.proofs.Common.{ap, slice_cmp, ◌∙◌}
 use Rattle.std.specs.Ordering.{nat_cmp}
-use Rattle.std.specs.Cmp.Lexicographic.{slice_cmp}
 use Rattle.symres_table.proofs.PrefixKeys.{keys_apart}
 use Rattle.symres_table.proofs.prefix_key.KeyedName.cmp.Goals as goal
 

@@ -1,4 +1,4 @@
-use Rattle.std.proofs.Common.{◌∙◌, rules}
+use Rattle.symres_table.proofs.Common.{rules, ◌∙◌}
 use Rattle.symres_table.proofs.PrefixKeys.{from_bytes, same_prefix}
 use Rattle.symres_table.proofs.prefix_key.PrefixKey.new.Goals as goal
 

@@ -1,5 +1,4 @@
-use Rattle.std.proofs.Common.{rules}
-use Rattle.symres_table.specs.Tally.{declaration_of}
+use Rattle.symres_table.proofs.Common.{declaration_of, rules}
 use Rattle.symres_table.proofs.Greatest.{common_later}
 use Rattle.symres_table.proofs.tally.Tally.add.Goals as goal
 

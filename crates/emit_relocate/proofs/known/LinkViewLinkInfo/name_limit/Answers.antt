@@ -1,7 +1,0 @@
-use Rattle.emit_relocate.proofs.Cased.{case_within}
-use Rattle.emit_relocate.proofs.known.LinkViewLinkInfo.name_limit.Goals as goal
-
-pub returns : goal.returns
-returns c =
-    λ l is k name named.
-    case_within c.args.self.now.symbol_table.now.cases k c.limit.result c.limit.ensures (is.cases k name named)
