@@ -9,7 +9,7 @@ import time
 from collections.abc import Callable, Mapping
 from pathlib import Path
 
-from tests.between import hold, is_held
+from tests.session_proxy import hold, is_held
 from tests.linking import LIMIT, LinkTest
 from tests.programs import ANSWER, LD_LDI, PATIENCE
 

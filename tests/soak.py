@@ -30,7 +30,7 @@ from dataclasses import dataclass, field
 from multiprocessing.connection import Connection
 from pathlib import Path
 
-from tests.intruder import Intruder
+from tests.foreign_writer import ForeignWriter
 from tests.serving import signal_to
 from tests.watching import Folder, Watching, numbered, versions_in
 
@@ -246,7 +246,7 @@ class Soak:
     def run(self, rounds: int) -> None:
         """So many rounds."""
         self.chance = random.Random(self.seed)
-        self.intruder = Intruder(self.folder.path) if os.getuid() == 0 else None
+        self.foreign = ForeignWriter(self.folder.path) if os.getuid() == 0 else None
         watching = Watching(self.folder)
         processes, ends = [], []
         self.waits = Waits(watching)
@@ -264,11 +264,11 @@ class Soak:
                 self._round(number, ends[:-1], ends[-1])
                 if stops is not None:
                     stops.join()
-                if self.intruder is not None:
-                    self.wrong += [f"round {number}: {line}" for line in self.intruder.found(self.folder / "image")]
+                if self.foreign is not None:
+                    self.wrong += [f"round {number}: {line}" for line in self.foreign.found(self.folder / "image")]
         finally:
-            if self.intruder is not None:
-                self.intruder.end()
+            if self.foreign is not None:
+                self.foreign.end()
             for end in ends:
                 end.send(False)
             for process in processes:
@@ -280,13 +280,13 @@ class Soak:
     def _replace(self, watching: Watching) -> None:
         """Puts a copy of the folder in its place, and waits until the watch has said so."""
         self.replaced += 1
-        if self.intruder is not None:
-            self.intruder.rest()
+        if self.foreign is not None:
+            self.foreign.rest()
         self.folder.replace()
         while "another folder" not in str(watching.next()):
             pass
-        if self.intruder is not None:
-            self.intruder.watch(self.folder.path)
+        if self.foreign is not None:
+            self.foreign.watch(self.folder.path)
 
     def _stop(self, watching: Watching) -> threading.Thread:
         """Stops the session for a while."""

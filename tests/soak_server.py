@@ -40,7 +40,7 @@ from tests.images import Image, read_image
 from tests.linking import LIMIT
 from tests.programs import LD_LDI
 from tests.serving import has_variable, is_running, session_of, signal_to
-from tests.intruder import Intruder
+from tests.foreign_writer import ForeignWriter
 from tests.watching import SCRIPT, Folder, numbered
 
 NO_IMAGE = Image(-1, [], [], {})
@@ -78,7 +78,7 @@ class Soak:
     wrong: list[str] = field(default_factory=list)
     held_up: int = 0
     replaced: int = 0
-    intruder: Intruder | None = None
+    foreign: ForeignWriter | None = None
     stopped: list[threading.Timer] = field(default_factory=list)
     """What lets processes go on that were stopped."""
 
@@ -90,7 +90,7 @@ class Soak:
         self.holds_up = shutil.which("strace") is not None and subprocess.run(
             tried, stderr=subprocess.DEVNULL, check=False).returncode == 0
         if os.getuid() == 0:
-            self.intruder = Intruder(self.folder.path)
+            self.foreign = ForeignWriter(self.folder.path)
 
     # edits
 
@@ -149,11 +149,11 @@ class Soak:
     def _replace_folder(self) -> None:
         """Puts a copy of the folder in its place."""
         self.replaced += 1
-        if self.intruder is not None:
-            self.intruder.rest()
+        if self.foreign is not None:
+            self.foreign.rest()
         self.folder.replace()
-        if self.intruder is not None:
-            self.intruder.watch(self.folder.path)
+        if self.foreign is not None:
+            self.foreign.watch(self.folder.path)
 
     def _archive(self) -> None:
         """Makes the archive of those members that are there."""
@@ -199,8 +199,8 @@ class Soak:
                 self._rewrite(which)  # each call waits for its writer
             if self.holds_up and not self.bad and self.chance.random() < 0.04:
                 self._hold_up(number)
-            if self.intruder is not None:
-                self.wrong += [f"round {number}: {line}" for line in self.intruder.found(self.folder / "image")]
+            if self.foreign is not None:
+                self.wrong += [f"round {number}: {line}" for line in self.foreign.found(self.folder / "image")]
         self._end()
 
     def _hold_up(self, number: int) -> None:
@@ -323,7 +323,7 @@ class Soak:
         if any(map(self._is_own, self.servers)):
             self.wrong.append("a server is left")
         left = [name for name in self.folder.left_over() if is_running(int(name.rsplit(".", 3)[1]))
-                and not (self.intruder and self.intruder.is_his(self.folder / name))]
+                and not (self.foreign and self.foreign.is_his(self.folder / name))]
         if left:
             self.wrong.append(f"left beside the image: {left}")
 
@@ -333,8 +333,8 @@ class Soak:
             if later.is_alive():
                 later.cancel()
                 later.function(*later.args)
-        if self.intruder is not None:
-            self.intruder.end()
+        if self.foreign is not None:
+            self.foreign.end()
         for pid in filter(self._is_own, self.servers):
             signal_to(pid, signal.SIGKILL)
         self.folder.remove()

@@ -77,7 +77,7 @@ class FallbackTest(LinkTest):
             done = self.run_program("make", words, f"LD={LD_LDI}", env=env)
             self.assertEqual(done.returncode, 0, done.stderr)
             self.assertEqual(done.stderr.count("-r: relocatable output: linked by ld.bfd"), count, done.stderr)
-            self.assertEqual(done.stderr.count("-m elf_i386: another machine: linked by ld.bfd"), 1, done.stderr)
+            self.assertEqual(done.stderr.count("-m elf_i386: unsupported machine: linked by ld.bfd"), 1, done.stderr)
         left = [name for name in os.listdir(self.folder / "run" / "ldi") if name.startswith("told.")]
         self.assertLessEqual(len(left), 2, "what was told in builds that have ended is removed")
         for _ in range(2):

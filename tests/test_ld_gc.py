@@ -268,6 +268,29 @@ class CollectingTest(BesideGnu):
         self.assertIn("uses.c", names[0])
         self.assertNotIn("zeros.c", names[0])
 
+    def test_table_of_what_fits_once_merged(self) -> None:
+        """The global offset table is for what stays, also where strings fit only once they are merged."""
+        for name, function in ("one", "_start"), ("two", "unused"):
+            self.compile(f"{name}.s", f"""
+ .globl {function}
+ .section .text.{function},"ax"
+{function}: push $.Ltext
+ .if ONE
+ nop
+ .else
+ push other@GOTPCREL(%rip)
+ .endif
+ .section .text.other{function},"ax"
+ .globl other
+ .weak other
+other: nop
+ .section .rodata.str1.1,"aMS",@progbits,1
+.Ltext: .string "the same text"
+""", f"-Wa,--defsym,ONE={int(name == 'one')}")
+        self.write("t.ld", "ENTRY(_start) SECTIONS { . = 0x10000; .rodata : { KEEP(*(.rodata.str1.1)) . = 16; } "
+                   ".text : { *(.text*) } .got : { *(.got .got.plt) } }")
+        self.collects("one.o", "two.o")
+
     def test_report(self) -> None:
         """What GNU ld keeps is in the image, also where no statement takes it; what stays beside it is said."""
         self.write("t.ld", "ENTRY(_start) SECTIONS { . = 0x10000; .text : { *(.text*) } }")

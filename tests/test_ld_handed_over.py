@@ -102,6 +102,23 @@ class HandedOverTest(OutsideTest):
             self.must("ld.bfd", *words, "a.o", "-o", "gnu")
             self.assertEqual(read_image(self.read("own")).entry, read_image(self.read("gnu")).entry)
 
+    def test_fatal_warnings(self) -> None:
+        """A link ends where GNU ld's does, for what GNU ld warns of; without a warning it is a link as any other."""
+        self.compile("said.s", START + '.data\n.quad 3\n.section .note.GNU-stack, "", @progbits\n')
+        self.compile("more.s", ".data\n.quad 3\n")
+        self.write("one.ld", "SECTIONS { . = 0x400000; .all : { *(.text) *(.data) } }\n")
+        own = ("-T", "t.ld", "said.o")
+        for words, is_warned in (
+                (own, False), ((*own, "-z", "nothing"), True), ((*own, "-e", "nothing"), True),
+                (("-w", *own, "-e", "nothing"), False), ((*own, "more.o"), True),
+                ((*own, "more.o", "--no-warn-execstack"), False), (("-T", "one.ld", "said.o"), True),
+                (("-T", "one.ld", "said.o", "--no-warn-rwx-segments"), False)):
+            with self.subTest(words=words):
+                done = self.ld("--fatal-warnings", *words, "-o", "own")
+                gnu = self.run_program("ld.bfd", "--fatal-warnings", *words, "-o", "gnu").returncode
+                self.assertEqual((done.returncode, gnu), (int(is_warned),) * 2, done.stderr)
+                self.assertEqual("linked by ld.bfd" in done.stderr, is_warned, done.stderr)
+
     def test_faults_of_the_program(self) -> None:
         """An undefined symbol, two definitions, a full region, an ASSERT, a value that does not fit, a missing file: no
         other linker is asked."""

@@ -5,6 +5,7 @@ import random
 
 from tests.images import EXECUTE, WRITE, Image, read_image
 from tests.programs import LDI_WATCH, OutsideTest, needs
+from tests.test_ld_kernel import HEADER
 
 START = ".globl _start\n_start: nop\n"
 PLAIN = """ENTRY(_start)
@@ -32,6 +33,41 @@ class BesideTest(OutsideTest):
         self.assertEqual(own.symbols, gnu.symbols)
         self.assertEqual(own.entry, gnu.entry)
         return own, gnu
+
+
+ENTRIES = START + """ push other@GOTPCREL(%rip)
+ .weak other
+ .section .init_array, "aw"
+ .quad _start
+ .section .fini_array.3, "aw"
+ .quad _start
+ .section .strings, "aMS", @progbits, 1
+.Ltext: .string "text"
+ .section .wide, "aMS", @progbits, 4
+ .long 3, 0
+ .section .eights, "awM", @progbits, 8
+ .quad 1, 1
+ .section .rest, "aw"
+ .quad .Ltext
+"""
+TABLES = """SECTIONS { . = 0x400000; .text : { *(.text) } .data : { *(.data) *(.got) GOT *(.init_array)
+  *(.fini_array*) *(.rest) } REST .mixed : { *(.strings .wide) } .eights : { *(.eights) } }
+"""
+
+
+class HeaderTest(BesideTest):
+    """Section headers of what is loaded."""
+
+    def test_entries(self) -> None:
+        """The size of the entries of tables, and of strings and constants that are merged."""
+        objects = self.compile("a.s", ENTRIES), self.compile("b.s", ENTRIES.replace(START, ""))
+        got = "*(.got.plt)"
+        self.write("one.ld", TABLES.replace("GOT", got).replace("REST", ""))
+        self.write("two.ld", TABLES.replace("GOT", "").replace("REST", f".table : {{ {got} }}"))
+        for words in ((), ("-T", "one.ld"), ("-T", "two.ld"), ("-T", "two.ld", "-O2")):
+            self.same(*words, *objects)
+            headers = [self.must("readelf", "-SW", name) for name in ("own", "gnu")]
+            self.assertEqual(*(HEADER.findall(text) for text in headers), words)
 
 
 class CommonTest(BesideTest):
@@ -134,6 +170,17 @@ class ScriptTest(BesideTest):
         """The name is written twice, with the flags of each."""
         own, gnu = self.two()
         self.assertEqual(*([(one.name, one.flags) for one in image.sections] for image in (own, gnu)))
+
+    def test_large_model(self) -> None:
+        """Sections with SHF_X86_64_LARGE, under the default script and under one that leaves them to be orphans."""
+        name = self.compile("large.c", """int big[100000]; static const int table[50000] = {1, 2}; int data[70000] = {5};
+            int _start(void) { volatile int at = 3; return big[at] + data[at] + table[at]; }""", "-mcmodel=medium")
+        self.write("t.ld", PLAIN)
+        for words in (["-static"], ["-T", "t.ld"], ["-T", "t.ld", "--gc-sections"]):
+            found = [[(one.name, one.flags) for one in image.sections if one.name.startswith(".l")]
+                     for image in self.same(*words, name)]
+            self.assertEqual(found[0], found[1])
+            self.assertEqual(len(found[0]), 3)
 
     def two(self) -> tuple[Image, Image]:
         """Images with two sections `.text`, and three `.data`."""

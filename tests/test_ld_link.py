@@ -220,7 +220,7 @@ class RefusedTest(LinkTest):
         self.compile("b.c", "__thread int other;\n")
         for words, reason in (
             (["-r", "-o", "out", "a.o", "b.o"], "-r: relocatable output"),
-            (["-m", "elf_i386", "-o", "out", "a.o"], "-m elf_i386: another machine"),
+            (["-m", "elf_i386", "-o", "out", "a.o"], "-m elf_i386: unsupported machine"),
             (["-T", "t.ld", "-o", "out", "a.o", "b.o"], "a.o"),
         ):
             done = self.ld(*words)

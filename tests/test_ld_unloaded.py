@@ -171,6 +171,7 @@ class UnloadedTest(OutsideTest):
         """`-gz`: sections of objects that are compressed."""
         self.same("-T", "t.ld", *self.programs("-g", "-gz=zlib", "-g3"))
         self.same("-T", "t.ld", self.compile("main.c", MAIN, "-g"), self.compile("other.c", OTHER, "-gz=zlib", "-g"))
+        self.same("-T", "t.ld", *self.programs("-g", "-gz=zlib-gnu"))
 
     @needs("clang")
     def test_clang(self) -> None:

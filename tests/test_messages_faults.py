@@ -148,7 +148,7 @@ class LayoutTest(MessageTest):
             with self.subTest(tail):
                 self.check(f"{memory} .d : {{ *(.d) }} {tail} }}", {"a.o": section_d(9)}, [
                     f"image.ld:5: section `.d' will not fit in region `{region}' ({numbers}): "
-                    f"its {what} do not lie there; raise LENGTH, or place less there [F7 .d r]"])
+                    f"its {what} are not all in it; raise LENGTH, or place less there [F7 .d r]"])
 
     def test_past_address_space(self) -> None:
         """F8 of an input section, and of a start."""

@@ -16,7 +16,7 @@ EACH = 2
 
 
 def stored_objects() -> Iterator[bytes]:
-    """The objects of readobj's stored run, which tools/objects writes."""
+    """The objects of readobj's stored run, which tools/write-readobj-run writes."""
     stream = (ROOT / "crates" / "readobj" / "stdin").read_bytes()
     at = 0
     while at < len(stream):

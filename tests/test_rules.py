@@ -54,9 +54,10 @@ class MissingTest(unittest.TestCase):
         folder = tempfile.TemporaryDirectory()
         self.addCleanup(folder.cleanup)
         self.crates = Path(folder.name)
-        for crate in ("elfobj_file", "emit_fields", "ldmodel", "ldscript", "ldscript_terms", "ldscript_tokens"):
+        for crate in ("elfobj_file", "emit_fields", "ldmodel", "ldscript", "ldscript_terms", "ldscript_tokens", "place"):
             for part in ("src", "specs"):
                 shutil.copytree(ROOT / "crates" / crate / part, self.crates / crate / part)
+        shutil.copytree(ROOT / "crates" / "readobj" / "src", self.crates / "readobj" / "src")
         patch = mock.patch.object(rule_rows, "CRATES", self.crates)
         patch.start()
         self.addCleanup(patch.stop)

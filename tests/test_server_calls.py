@@ -3,7 +3,7 @@ from __future__ import annotations
 
 import os
 
-from tests.between import put_between, session_between
+from tests.session_proxy import put_between, session_between
 from tests.serving import WORDS, ServerTest
 
 

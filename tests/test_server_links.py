@@ -66,6 +66,17 @@ int b(int x) { enum { more = %d } own = more; return x + value + own; }
 class EditTest(ServerTest):
     """One change after the other."""
 
+    def test_weak_names_for_others(self) -> None:
+        """The image of one weak name that nobody defines has the names that the image of another one has."""
+        self.compile("b.c", "".join(f"int name_{number} = {number}; " for number in range(40)) + CHANGES[-1])
+        self.compile("j.c", "int c;")
+        words = (*WORDS, "j.o")
+        self.start(*words)
+        for name in ("zz", "q", "another", "hello", "w123"):
+            with self.subTest(name=name):
+                self.compile("j.c", f"extern int {name} __attribute__((weak)); int *c = &{name};")
+                self.assert_same(*words)
+
     def test_script_that_names(self) -> None:
         """All that a script asks of objects comes and goes: the image is that of a call without a server each time."""
         self.compile("j.c", JIFFIES)

@@ -12,7 +12,7 @@ import time
 import unittest
 from pathlib import Path
 
-from tests.between import let_go, session_between
+from tests.session_proxy import let_go, session_between
 from tests.linking import LIMIT
 from tests.programs import LD_LDI
 from tests.serving import WORDS, ServerTest, is_running, session_of, signal_to

@@ -6,7 +6,7 @@
 //!
 //! ```text
 //! words -> Command --+
-//!                    +--> plan() -> LinkPlan -> Mirror::bring() -> Linked -> Checker -> finish() -> Image -> place()
+//!                    +--> plan() -> LinkPlan -> sync() -> Linked -> Checker -> finish() -> Image -> publish
 //! files -> Snapshot -+     pure      frozen       edits only       image     verdict    the file    beside, exchanged
 //! ```
 //!
@@ -17,33 +17,33 @@
 /// Prints a line on standard error. Those of the standard library panic if it cannot be written, for
 /// example on a full disk, or if its reader has gone away.
 macro_rules! eprintln {
-    ($($words:tt)*) => { $crate::streams::print_line($crate::streams::Stream::Errors, format_args!($($words)*)) };
+    ($($words:tt)*) => { $crate::stdio::print_line($crate::stdio::Stream::Errors, format_args!($($words)*)) };
 }
 
 /// Prints a line on standard output, in the same way.
 macro_rules! println {
-    ($($words:tt)*) => { $crate::streams::print_line($crate::streams::Stream::Output, format_args!($($words)*)) };
+    ($($words:tt)*) => { $crate::stdio::print_line($crate::stdio::Stream::Output, format_args!($($words)*)) };
 }
 
+pub mod adapted;
 pub mod checker;
 pub mod command;
+mod fast_map;
 pub mod finish;
 pub mod gdb;
 pub mod gnu_map;
 pub mod inputs;
 pub mod layout;
-pub mod mirror;
 pub mod objects;
 mod parallel;
-pub mod place;
 pub mod profile;
-mod quick;
+pub mod publish;
 pub mod report;
-pub mod residual;
 pub mod script;
 pub mod server;
+pub mod session_client;
 pub mod snapshot;
-pub mod streams;
+pub mod stdio;
 pub mod unloaded;
 pub mod watch;
 

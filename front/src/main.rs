@@ -1,4 +1,4 @@
-//! One program under four names: by `argv[0]`, or as `ldi-front NAME ..`.
+//! One program under the names of several: by `argv[0]`, or as `ldi-front NAME ..`.
 
 use std::ffi::{OsStr, OsString};
 use std::io::Write;

@@ -4,7 +4,7 @@ use std::sync::Mutex;
 
 /// So few are done by one thread.
 const FEW: usize = 64;
-const MOST_THREADS: usize = 8;
+const MAX_THREADS: usize = 8;
 /// So many are taken by a thread at once.
 const AT_ONCE: usize = 16;
 
@@ -12,7 +12,7 @@ const AT_ONCE: usize = 16;
 pub(crate) fn map_all<T: Sync, R: Send>(items: &[T], act: &(dyn Fn(&T) -> R + Sync)) -> Vec<R> {
     let threads = match items.len() {
         0..=FEW => 1,
-        _ => std::thread::available_parallelism().map_or(1, usize::from).min(MOST_THREADS),
+        _ => std::thread::available_parallelism().map_or(1, usize::from).min(MAX_THREADS),
     };
     if threads <= 1 {
         return items.iter().map(act).collect();
@@ -29,11 +29,24 @@ pub(crate) fn map_all<T: Sync, R: Send>(items: &[T], act: &(dyn Fn(&T) -> R + Sy
     })
 }
 
+/// Does two things at once, the first on a thread of its own; it is not done, and `None`, if none can be started.
+pub(crate) fn beside<A: Send, B>(first: impl FnOnce() -> A + Send, second: impl FnOnce() -> B) -> (Option<A>, B) {
+    std::thread::scope(|scope| {
+        let thread = std::thread::Builder::new().spawn_scoped(scope, first).ok();
+        let second = second();
+        let first = thread.map(|thread| match thread.join() {
+            Ok(first) => first,
+            Err(panic) => std::panic::resume_unwind(panic),
+        });
+        (first, second)
+    })
+}
+
 /// Does something with each of many things, which need not be of one size.
 pub(crate) fn do_all<T: Send>(items: Vec<T>, act: &(dyn Fn(T) + Sync)) {
     let threads = match items.len() {
         0..=FEW => 1,
-        _ => std::thread::available_parallelism().map_or(1, usize::from).min(MOST_THREADS),
+        _ => std::thread::available_parallelism().map_or(1, usize::from).min(MAX_THREADS),
     };
     if threads <= 1 {
         return items.into_iter().for_each(act);
@@ -55,7 +68,7 @@ pub(crate) fn do_all<T: Send>(items: Vec<T>, act: &(dyn Fn(T) + Sync)) {
 
 #[cfg(test)]
 mod tests {
-    use super::{do_all, map_all};
+    use super::{beside, do_all, map_all};
 
     #[test]
     fn all_in_their_order() {
@@ -64,6 +77,13 @@ mod tests {
             let wanted: Vec<usize> = items.iter().map(|one| one * 2).collect();
             assert_eq!(map_all(&items, &|one| one * 2), wanted);
         }
+    }
+
+    #[test]
+    fn one_beside_another() {
+        let (mut one, mut other) = (0, 0);
+        let done = beside(|| one += 1, || other += 2);
+        assert_eq!((done, one, other), ((Some(()), ()), 1, 2));
     }
 
     #[test]

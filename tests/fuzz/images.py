@@ -6,13 +6,14 @@ import struct
 from collections.abc import Mapping
 from dataclasses import dataclass, field
 
-from tests.object_file import ALLOC, EXECUTABLE, NOBITS, SYMBOL, WRITABLE, Header, ObjectFile
+from tests.object_file import ALLOC, EXECUTABLE, NOBITS, SYMBOL, Header, ObjectFile
 
 SEGMENT = struct.Struct("<IIQQQQQQ")
 MAPPED = re.compile(r"^(\S+)\s+(0x[0-9a-f]+)\s+(0x[0-9a-f]+)(?: load address (0x[0-9a-f]+))?$", re.M)
 """An output section in GNU ld's map."""
 Loads = Mapping[tuple[str, int, int], int]
 """Load addresses by the names, addresses and sizes of output sections."""
+LINK_ORDER = 0x80
 NOPS = frozenset(b"\x66\x2e\x0f\x1f\x84\x00\x40\x44\x80\x90")
 """The bytes that GNU ld fills gaps in code with, where `ldi` has 0."""
 
@@ -28,7 +29,8 @@ class Section:
     """-1 where no segment has it."""
     data: bytes | None
     code: bool
-    writable: bool = False
+    header: tuple[int, ...] = ()
+    """Its type, flags, info, alignment, and the size of its entries."""
 
 
 @dataclass
@@ -61,7 +63,7 @@ def read_image(data: bytes, mapped: Loads | None = None) -> Image:
             contents = None if header.kind == NOBITS else data[header.offset:header.offset + header.size]
             load = _load(header, segments, (mapped or {}).get((name, header.address, header.size), -1))
             image.sections.append(Section(name, header.address, header.size, load, contents,
-                                          bool(header.flags & EXECUTABLE), bool(header.flags & WRITABLE)))
+                                          bool(header.flags & EXECUTABLE), _said(header)))
         if header.kind == 2:
             names = headers[header.link].offset
             for name_at, info, _, section, value, _ in SYMBOL.iter_unpack(
@@ -71,6 +73,11 @@ def read_image(data: bytes, mapped: Loads | None = None) -> Image:
                 if section and (info >> 4 or info & 15 == 0):
                     (image.symbols if info >> 4 else image.local)[name] = value
     return image
+
+
+def _said(header: Header) -> tuple[int, ...]:
+    """What a section header says, but for name, places, and what SHF_LINK_ORDER names, which `ld.ldi` leaves out."""
+    return header.kind, header.flags & ~LINK_ORDER, header.info, header.alignment, header.entry_size
 
 
 def _load(header: Header, segments: list[tuple[int, ...]], mapped: int) -> int:
@@ -91,7 +98,7 @@ def _load(header: Header, segments: list[tuple[int, ...]], mapped: int) -> int:
 
 
 def differences(gnu: Image, ldi: Image, with_headers: bool = False) -> list[str]:
-    """What is another in the image of `ldi`; `with_headers` in the names and flags of sections too."""
+    """What is another in the image of `ldi`; `with_headers` in the names and headers of sections too."""
     found: list[str] = []
     rest = list(ldi.sections)
     for one in gnu.sections:
@@ -101,7 +108,7 @@ def differences(gnu: Image, ldi: Image, with_headers: bool = False) -> list[str]
             found.append(f"section {one.name} {one.address:#x} {one.size:#x}: {' '.join(here) or 'none'}")
             continue
         rest.remove(match)
-        headers = [(s.name, s.writable, s.code) for s in (one, match)]
+        headers = [(s.name, *s.header) for s in (one, match)]
         if with_headers and headers[0] != headers[1]:
             found.append(f"header of {one.address:#x}: {headers[0]} {headers[1]}")
         if one.load >= 0 and one.load != match.load:

@@ -57,7 +57,7 @@ def by_ldi(words: list[str]) -> tuple[int, str]:
 
 
 def link(one: Case, with_headers: bool = False) -> Came:
-    """Links a case by both; `with_headers` compares names and flags of sections too."""
+    """Links a case by both; `with_headers` compares the headers of sections too."""
     prepare(one)
     try:
         done = subprocess.run([*GNU, *one.words("case.ld", "gnu.out")], capture_output=True, text=True, timeout=180,

@@ -382,6 +382,12 @@ def with_frames(one: Case, seed: int) -> Case:
                            ".stab 0 : { *(.stab) } .stabstr 0 : { *(.stabstr) }",
                            ".stab : { stab = .; *(.stab); stab_end = .; LONG(stab_end) }"])
     gone = random.choice(["", " /DISCARD/ : { *(.gone) }", " .gone : { *(.gone) }"])
+    other = Random(f"{seed} table of frames")
+    if other.randrange(2):
+        one.before += ["--eh-frame-hdr"]
+        frames += other.choice(["", " .eh_frame_hdr : { *(.eh_frame_hdr) }", " .eh_frame_hdr : { KEEP(*(.eh_frame_hdr*)) }",
+                                " .table : ALIGN(16) { LONG(7) *(.eh_frame_hdr) table_end = .; }"])
+        gone += other.choice(["", "", "", "", "", " /DISCARD/ : { *(.eh_frame_hdr) }"])
     tail = " >rom" if re.search(r"^  .*} >rom", one.script, flags=re.M) else ""
     new = "".join(f"  {section}{tail}\n" for section in re.findall(r"\.\w+ .*?{.*?}", f"{frames} {stabs}"))
     one.script = re.sub(r"^SECTIONS {\n(.*\n)", lambda found: found[0] + new, one.script, count=1, flags=re.M)

@@ -7,10 +7,10 @@ use std::path::Path;
 use bstr::BString;
 use object::elf;
 
+use crate::adapted::{for_each_assignment, for_each_expression, is_of_linker, is_unloaded_name};
 use crate::layout::{evaluate, Evaluation, Settings, Stop};
 use crate::objects::{Object, Origin};
-use crate::profile::words::matches as matches_word;
-use crate::residual::{for_each_assignment, for_each_expression, is_of_linker, is_unloaded_name};
+use crate::profile::reserved_words::matches as matches_word;
 use crate::script::tree::{
     ExprKind, InputStatement, Name, Provision, Script, SectionStatement, SectionsStatement, Statement,
 };

@@ -1,32 +1,33 @@
 //! `ldi-adapt`: rewrites a script of GNU ld's language into the profile.
 
+mod arguments;
 pub(crate) mod invented;
 mod refusal;
-mod words;
 mod writing;
 
 use std::ffi::OsString;
 use std::io::Write;
 use std::path::{Path, PathBuf};
 
+use crate::adapted::{AdaptedScript, NoteKind};
 use crate::checker::check;
 use crate::layout::{Evaluation, Stop};
-use crate::mirror::{Held, Mirror, Options, Wanted};
 use crate::objects::{Object, Origin};
-use crate::place::{write_file, Reader as PipeReader, TEXT};
 use crate::plan::{find_program, own_version, Environment};
+use crate::publish::{write_file, Reader as PipeReader, TEXT};
 use crate::report::link_map::LinkMap;
-use crate::residual::{NoteKind, Residual};
+use crate::report::os_message;
 use crate::script::{Disk, Reader, Reading, ScriptError};
+use crate::session_client::{Options, SessionClient, SessionObject, Target};
 use crate::snapshot::Bytes;
-use words::{Call, USAGE};
+use arguments::{AdaptArguments, USAGE};
 
 /// Why no script is written.
 #[derive(Debug, thiserror::Error)]
 enum AdaptFault {
     /// The words are refused.
     #[error("ldi-adapt: {0}\n{USAGE}")]
-    Words(#[from] words::WordsRefused),
+    Words(#[from] arguments::WordsRefused),
     /// The script is none.
     #[error("{0}")]
     Script(#[from] ScriptError),
@@ -59,13 +60,11 @@ pub fn main(words: &[OsString]) -> u8 {
 }
 
 fn file_fault(path: &Path, error: &std::io::Error) -> AdaptFault {
-    let why = error.to_string();
-    let why = why.split(" (os error").next().unwrap_or_default().to_owned();
-    AdaptFault::File(path.display().to_string(), why)
+    AdaptFault::File(path.display().to_string(), os_message(error))
 }
 
 fn run(words: &[OsString], environment: &Environment) -> Result<u8, AdaptFault> {
-    let call = Call::read(words)?;
+    let call = AdaptArguments::read(words)?;
     let objects = call.objects.as_ref().map(|paths| read_objects(paths)).transpose()?;
     let text = std::fs::read(&call.script).map_err(|error| file_fault(&call.script, &error))?;
     if call.is_check {
@@ -100,7 +99,7 @@ fn run(words: &[OsString], environment: &Environment) -> Result<u8, AdaptFault> 
     match &call.out {
         _ if call.is_check => {}
         Some(path) => write_file(path, &[&result.text], TEXT, PipeReader::IsWaitedFor)
-            .map_err(|fault| AdaptFault::File(path.display().to_string(), plain(&fault.fault)))?,
+            .map_err(|fault| AdaptFault::File(path.display().to_string(), os_message(&fault.fault)))?,
         None => std::io::stdout()
             .write_all(&result.text)
             .and_then(|()| std::io::stdout().flush())
@@ -109,12 +108,8 @@ fn run(words: &[OsString], environment: &Environment) -> Result<u8, AdaptFault> 
     Ok(status)
 }
 
-fn plain(error: &std::io::Error) -> String {
-    error.to_string().split(" (os error").next().unwrap_or_default().to_owned()
-}
-
 /// 0: nothing is left or changed; 1: something is changed; 2: something is left.
-fn status_of(result: &Residual) -> u8 {
+fn status_of(result: &AdaptedScript) -> u8 {
     let kinds = result.notes.iter().map(|note| match note.kind {
         NoteKind::Left => 2,
         NoteKind::Changed => 1,
@@ -138,7 +133,7 @@ fn read_objects(paths: &[PathBuf]) -> Result<Vec<Object>, AdaptFault> {
 }
 
 /// Reads the script with what it includes, after the assignments of `--defsym`.
-fn read_script(call: &Call, text: Vec<u8>) -> Result<Reading, AdaptFault> {
+fn read_script(call: &AdaptArguments, text: Vec<u8>) -> Result<Reading, AdaptFault> {
     let mut files = Disk;
     let mut reader = Reader::new(&mut files, call.all_folders());
     for defsym in &call.defsyms {
@@ -152,7 +147,7 @@ fn read_script(call: &Call, text: Vec<u8>) -> Result<Reading, AdaptFault> {
 fn differences(
     reading: &Reading,
     objects: &[Object],
-    result: &Residual,
+    result: &AdaptedScript,
     evaluation: Option<Result<Evaluation, Stop>>,
     environment: &Environment,
 ) -> Vec<String> {
@@ -165,15 +160,17 @@ fn differences(
         }
         None => return Vec::new(),
     };
-    let held: Vec<Held> =
-        objects.iter().map(|object| Held { name: object.name().to_owned(), data: object.data().clone() }).collect();
-    let mut mirror = Mirror::new(find_program("ldi", environment), None);
+    let held: Vec<SessionObject> = objects
+        .iter()
+        .map(|object| SessionObject { name: object.name().to_owned(), data: object.data().clone() })
+        .collect();
+    let mut client = SessionClient::new(find_program("ldi", environment), None);
     let options = Options::default();
-    let linked = mirror.bring(Wanted { options: &options, objects: &held, script: &result.text });
+    let linked = client.sync(Target { options: &options, objects: &held, script: &result.text });
     if !linked.map_or(false, |linked| linked.is_good) {
         return Vec::new();
     }
-    let (image, map) = match (mirror.image(), mirror.map()) {
+    let (image, map) = match (client.image(), client.map()) {
         (Ok(image), Ok(map)) => (image, map),
         _ => return Vec::new(),
     };

@@ -6,17 +6,17 @@ use std::process::{Command, Stdio};
 
 use bstr::ByteSlice;
 
-use super::words::Call;
-use crate::mirror::Refusal;
+use super::arguments::AdaptArguments;
+use crate::adapted::AdaptedScript;
 use crate::plan::{find_program, Environment};
 use crate::profile::{objections, refused_for};
 use crate::report::rules::{NOT_A_SCRIPT, SCRIPTS};
 use crate::report::{refusals_of_script, RefusedInput};
-use crate::residual::Residual;
 use crate::script::Disk;
+use crate::session_client::Refusal;
 
 /// The places and sentences of what is refused, in the words of the script that was adapted.
-pub(super) fn lines(script: &Path, result: &Residual, environment: &Environment) -> Vec<String> {
+pub(super) fn lines(script: &Path, result: &AdaptedScript, environment: &Environment) -> Vec<String> {
     let inner = match judged(&result.text, environment) {
         Some(Judgement::Refused(inner)) => inner,
         _ => return Vec::new(),
@@ -36,7 +36,7 @@ pub(super) fn lines(script: &Path, result: &Residual, environment: &Environment)
 
 /// The places and sentences for which a given script is refused; none if it is not. If `readscript` cannot be
 /// had, all that the profile has not counts.
-pub(super) fn of_given(call: &Call, text: &[u8], environment: &Environment) -> Vec<String> {
+pub(super) fn of_given(call: &AdaptArguments, text: &[u8], environment: &Environment) -> Vec<String> {
     let judgement = judged(text, environment);
     if judgement == Some(Judgement::Accepted) {
         return Vec::new();

@@ -3,13 +3,16 @@
 use bstr::{BStr, ByteSlice};
 
 use super::invented::{self, Invented};
+use crate::adapted::{adapted_script, has_names, AdaptedScript, Note, NoteKind, Request, Topic};
 use crate::layout::{evaluate, named_files, Evaluation, RefusedReason, Settings, Stop};
 use crate::objects::Object;
-use crate::residual::{has_names, residual, Note, NoteKind, Request, Residual, Topic};
 use crate::script::Reading;
 
 /// The script in the profile: by what GNU ld makes of it over the objects, or over invented ones.
-pub(super) fn adapted(reading: &Reading, objects: Option<&[Object]>) -> (Residual, Option<Result<Evaluation, Stop>>) {
+pub(super) fn adapted(
+    reading: &Reading,
+    objects: Option<&[Object]>,
+) -> (AdaptedScript, Option<Result<Evaluation, Stop>>) {
     match objects {
         Some(objects) => {
             let evaluation = evaluate(&reading.script, objects, &Settings::default());
@@ -38,7 +41,7 @@ fn say_named_first(reading: &Reading, objects: &[Object]) -> Option<Note> {
 }
 
 /// Without objects: what is written in the same words over several kinds of them. The rest is left.
-fn adapted_over_any(reading: &Reading) -> Residual {
+fn adapted_over_any(reading: &Reading) -> AdaptedScript {
     let kinds = match invented::all(&reading.script) {
         Ok(kinds) => kinds,
         Err(stop) => return adapted_by_rules(reading, &stop),
@@ -60,7 +63,7 @@ fn adapted_over_any(reading: &Reading) -> Residual {
 }
 
 /// If nothing is known of what GNU ld makes of the script, it is written by the rules alone.
-fn adapted_by_rules(reading: &Reading, stop: &Stop) -> Residual {
+fn adapted_by_rules(reading: &Reading, stop: &Stop) -> AdaptedScript {
     let mut result = adapted_over(reading, &[], None, Some(&[]));
     let (kind, why) = match stop {
         Stop::Refused(refused) if refused.reason == RefusedReason::Discard => return result,
@@ -76,7 +79,7 @@ fn adapted_by_rules(reading: &Reading, stop: &Stop) -> Residual {
 }
 
 /// Takes over what was said for other objects, and leaves the lines that are others for them.
-fn unite(result: &mut Residual, other: &Residual) {
+fn unite(result: &mut AdaptedScript, other: &AdaptedScript) {
     let is_worse = |note: &&Note| matches!(note.kind, NoteKind::Changed | NoteKind::Left);
     for note in other.notes.iter().filter(is_worse) {
         if !result.notes.iter().any(|own| own.kind >= note.kind && own.place == note.place) {
@@ -98,7 +101,7 @@ fn unite(result: &mut Residual, other: &Residual) {
 }
 
 /// Adds a note behind those of its line.
-fn add_note(result: &mut Residual, note: Note) {
+fn add_note(result: &mut AdaptedScript, note: Note) {
     let place = &note.place;
     let is_before = |own: &Note| own.place.path == place.path && own.place.line <= place.line;
     let at = result.notes.iter().rposition(is_before).map_or(result.notes.len(), |at| at + 1);
@@ -112,12 +115,12 @@ fn adapted_over(
     objects: &[Object],
     evaluation: Option<&Evaluation>,
     others: Option<&[&Evaluation]>,
-) -> Residual {
+) -> AdaptedScript {
     let names: Vec<&BStr> = objects.iter().map(|object| object.name()).collect();
     let defines = |name: &BStr| {
         others.is_some() || objects.iter().any(|object| object.globals_named(name).any(|one| one.rank().is_some()))
     };
-    residual(Request {
+    adapted_script(Request {
         script: &reading.script,
         source: &reading.source,
         evaluation,

@@ -1,10 +1,11 @@
 //! The comparison of an image with the layout.
 
 use super::difference::{Difference, DifferenceKind};
-use super::image::{Image, Loaded, NoImage, Values};
+use super::eh_frame_hdr;
+use super::loaded_image::{Image, Loaded, NoImage, Values};
 use crate::layout::evaluation::{Definer, Evaluation, Gap, Origin, OutputSection, Placed, StatementKind, Symbol};
 use crate::layout::ids::StatementId;
-use crate::layout::names::QuickMap;
+use crate::layout::interned_names::FastMap;
 use crate::layout::Flags;
 use crate::objects::Object;
 use crate::report::link_map::LinkMap;
@@ -13,7 +14,7 @@ use bstr::{BStr, ByteSlice};
 use object::elf::SHF_ALLOC;
 
 /// The differences that are looked for.
-const MOST: usize = 10;
+const MAX_DIFFERENCES: usize = 10;
 
 /// An input section at its place: address, size, object, name.
 type Piece<'a> = (u64, u64, &'a BStr, &'a BStr);
@@ -51,6 +52,7 @@ impl<'a> Comparison<'a> {
             self.pieces(&outputs, map);
         }
         self.symbols();
+        self.eh_frame_hdr()?;
         let (found, wanted) = (self.image.entry(), self.evaluation.entry.address.unwrap_or(0));
         if found != wanted {
             self.add(DifferenceKind::Entry { found, wanted }, None);
@@ -59,7 +61,7 @@ impl<'a> Comparison<'a> {
     }
 
     fn add(&mut self, kind: DifferenceKind, span: Option<Span>) {
-        if self.found.len() < MOST {
+        if self.found.len() < MAX_DIFFERENCES {
             self.found.push(Difference { kind, span });
         }
     }
@@ -142,7 +144,7 @@ impl<'a> Comparison<'a> {
         if sorted == found {
             return;
         }
-        let mut own: QuickMap<(&BStr, &BStr, u64), Vec<u64>> = QuickMap::default();
+        let mut own: FastMap<(&BStr, &BStr, u64), Vec<u64>> = FastMap::default();
         for (address, size, object, name) in found {
             own.entry((object, name, size)).or_default().push(address);
         }
@@ -159,7 +161,7 @@ impl<'a> Comparison<'a> {
                     self.add(DifferenceKind::Input { section, object, found, wanted: address }, span);
                 }
             }
-            if self.found.len() >= MOST {
+            if self.found.len() >= MAX_DIFFERENCES {
                 return;
             }
         }
@@ -195,6 +197,26 @@ impl<'a> Comparison<'a> {
             _ => false,
         };
         self.evaluation.statements.iter().find(|statement| takes(&statement.kind)).and_then(|statement| statement.span)
+    }
+
+    /// The table of the entries of `.eh_frame`, which is to be right wherever its section is.
+    fn eh_frame_hdr(&mut self) -> Result<(), NoImage> {
+        let evaluation = self.evaluation;
+        let known = evaluation.eh_frame_hdr.as_ref().and_then(|table| {
+            let section = evaluation.section(table.section)?;
+            let output = evaluation.output(section.output()?)?;
+            Some((output, output.in_image()?.address, section.offset, table.rows.as_ref()?.len()))
+        });
+        if let Some((output, address, offset, count)) = known {
+            let sections = self.image.loaded()?;
+            let own = sections.iter().find(|one| one.address == address);
+            let own = own.or_else(|| sections.iter().find(|one| one.name == output.name));
+            let start = own.map_or(address, |own| own.address);
+            if let Some(number) = eh_frame_hdr::wrong_row(&sections, start.wrapping_add(offset), start, count) {
+                self.add(DifferenceKind::FrameRow { number }, output.span);
+            }
+        }
+        Ok(())
     }
 
     // --- symbols ---

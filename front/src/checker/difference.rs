@@ -99,6 +99,11 @@ pub enum DifferenceKind {
         /// To GNU ld.
         wanted: u64,
     },
+    /// A row of the table of `.eh_frame`.
+    FrameRow {
+        /// Its number.
+        number: usize,
+    },
     /// Where the program begins.
     Entry {
         /// In the image.
@@ -150,6 +155,9 @@ impl fmt::Display for DifferenceKind {
             }
             DifferenceKind::Common { name, found, wanted } => {
                 write!(f, "the common block {name} is at {found:#x}; to GNU ld it is at {wanted:#x}")
+            }
+            DifferenceKind::FrameRow { number } => {
+                write!(f, "row {number} of .eh_frame_hdr does not say where the code of an entry of .eh_frame is")
             }
             DifferenceKind::Bound { name, wanted } => write!(f, "{name} is not {wanted:#x} as to GNU ld"),
             DifferenceKind::Entry { found, wanted } => {

@@ -4,15 +4,16 @@
 //! Evaluation, Objects, image, LinkMap --> check() --> Checked: differences, merged bytes, what is not loaded
 //! ```
 
+mod changed_bytes;
 mod compare;
 mod difference;
-mod image;
-mod merged;
+mod eh_frame_hdr;
+mod loaded_image;
 
+pub use changed_bytes::Merged;
 pub use compare::NotLoaded;
 pub use difference::{explained, Difference, DifferenceKind};
-pub use image::NoImage;
-pub use merged::Merged;
+pub use loaded_image::NoImage;
 
 use crate::layout::evaluation::Evaluation;
 use crate::objects::Object;
@@ -42,6 +43,6 @@ pub fn check(
     map: Option<&LinkMap>,
 ) -> Result<Checked, NoImage> {
     let differences = compare::Comparison::new(evaluation, objects, image)?.run(map)?;
-    let (merged, not_loaded) = (merged::merged(evaluation, objects), compare::not_loaded(evaluation));
+    let (merged, not_loaded) = (changed_bytes::merged(evaluation, objects), compare::not_loaded(evaluation));
     Ok(Checked { differences, merged, not_loaded })
 }

@@ -22,8 +22,8 @@ pub fn help() -> String {
         BEGIN.to_owned(),
         part("Options that are taken:", |effect| matches!(effect, Effect::Taken(_))),
         part("Options that change nothing of a static image:", |effect| matches!(effect, Effect::Ignored)),
-        part("Options without effect here, which is said:", |effect| matches!(effect, Effect::Said(_))),
-        part("Options that are given to LDI_FALLBACK, or refused:", |effect| matches!(effect, Effect::Impossible(_))),
+        part("Options without effect here, which is said:", |effect| matches!(effect, Effect::WarnOnly(_))),
+        part("Options that are given to LDI_FALLBACK, or refused:", |effect| matches!(effect, Effect::FallBack(_))),
         END.to_owned(),
     ]
     .concat()

@@ -1,21 +1,21 @@
 //! GNU ld's command line: its options as one table, response files; a `Command`.
 
-mod build_id;
+mod build_id_style;
 mod help;
 mod options;
 mod read;
+mod response_files;
 mod sorting;
 #[cfg(test)]
 mod tests;
-mod words;
 
-pub use build_id::BuildId;
+pub use build_id_style::BuildId;
 pub use help::help;
 pub use options::{
     find_keyword, find_option, Action, Argument, Effect, FoundOption, KeywordEffect, OptionRow, OPTIONS,
 };
 pub use read::{at_sysroot, number, path_of, read_command};
-pub use words::{expand_words, split_words, Words};
+pub use response_files::{expand_words, split_words, Words};
 
 use crate::layout::settings::{SectionSort, SortCommon};
 use bstr::BString;
@@ -159,6 +159,17 @@ pub enum Leniency {
     RelocationOverflow,
 }
 
+/// What GNU ld warns of, if no option says that it is not to.
+#[derive(Clone, Copy, PartialEq, Eq, PartialOrd, Ord, Hash, Debug)]
+pub enum Warning {
+    /// `--no-warnings`: anything that is found while it links.
+    Anything,
+    /// `--no-warn-execstack`: a stack that is executed.
+    Stack,
+    /// `--no-warn-rwx-segments`: a segment that is written and executed.
+    Segments,
+}
+
 /// A `--defsym`, which is an assignment of a script.
 #[derive(Clone, PartialEq, Eq, Debug)]
 pub struct Defsym {
@@ -226,7 +237,7 @@ pub struct Command {
     /// `-nostdlib`
     pub is_without_standard_folders: bool,
     /// `--eh-frame-hdr`
-    pub has_frame_table: bool,
+    pub has_eh_frame_hdr: bool,
     /// `-N`: the default script does not begin its data on a page of their own.
     pub is_omagic: bool,
     /// Whether stabs and entries of `.eh_frame` stay as they are: `--traditional-format`.
@@ -285,6 +296,10 @@ pub struct Command {
     pub server_request: Option<ServerRequest>,
     /// What GNU ld is to let pass.
     pub lenient: BTreeSet<Leniency>,
+    /// `--fatal-warnings`: a warning of GNU ld is a fault.
+    pub has_fatal_warnings: bool,
+    /// What GNU ld is not to warn of.
+    pub unwarned: BTreeSet<Warning>,
     /// The inputs, in their order.
     pub inputs: Vec<Input>,
     /// Options without effect here, and what that means; each once.
@@ -322,7 +337,7 @@ impl Default for Command {
             last_flags: InputFlags::default(),
             sysroot: PathBuf::new(),
             is_without_standard_folders: false,
-            has_frame_table: false,
+            has_eh_frame_hdr: false,
             is_omagic: false,
             is_traditional: false,
             is_nmagic: false,
@@ -351,6 +366,8 @@ impl Default for Command {
             is_without_server: false,
             server_request: None,
             lenient: BTreeSet::new(),
+            has_fatal_warnings: false,
+            unwarned: BTreeSet::new(),
             inputs: Vec::new(),
             notes: Vec::new(),
             impossible: Vec::new(),

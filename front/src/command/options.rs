@@ -2,7 +2,7 @@
 //!
 //! docs/makefiles.md has the same table for people.
 
-use super::{Ask, Discard, Leniency, ServerRequest, Strip, WordsRefused};
+use super::{Ask, Discard, Leniency, ServerRequest, Strip, Warning, WordsRefused};
 use bstr::{BStr, BString, ByteSlice};
 
 /// Whether an option has a value.
@@ -24,9 +24,9 @@ pub enum Effect {
     /// Nothing is said: it changes nothing of a static image, or only what `ldi` never makes.
     Ignored,
     /// The option has no effect here, and one line says what that means.
-    Said(&'static str),
+    WarnOnly(&'static str),
     /// Only another linker can do it; the text says what it is.
-    Impossible(&'static str),
+    FallBack(&'static str),
 }
 
 /// What an option that is taken does.
@@ -44,16 +44,18 @@ pub enum Action {
     EmitRelocations,
     EndGroup,
     Entry,
+    FatalWarnings(bool),
     Fini,
     Folder,
     Format,
-    FrameTable(bool),
+    EhFrameHdr(bool),
     Init,
     JustSymbols,
     KeepExported,
     Keyword,
-    Lenient(Leniency),
+    Tolerate(Leniency),
     Library,
+    LibraryKind,
     Machine,
     CrossReferences,
     MapFile,
@@ -92,6 +94,7 @@ pub enum Action {
     Undefined,
     Unique,
     Verbose,
+    WarnsOf(Warning, bool),
     WholeArchive(bool),
     Wrap,
 }
@@ -176,7 +179,7 @@ const ONE_DASH: &[&str] = &[
 ];
 
 use Argument::{Absent, Needed, Optional};
-use Effect::{Ignored, Impossible, Said, Taken};
+use Effect::{FallBack, Ignored, Taken, WarnOnly};
 
 const fn row(names: &'static str, argument: Argument, effect: Effect) -> OptionRow {
     OptionRow { names, argument, effect }
@@ -219,6 +222,7 @@ pub static OPTIONS: &[OptionRow] = &[
     row("pop-state", Absent, Taken(Action::PopState)),
     row("static Bstatic dn non_shared", Absent, Taken(Action::Static(true))),
     row("Bdynamic dy call_shared", Absent, Taken(Action::Static(false))),
+    row("a", Needed, Taken(Action::LibraryKind)),
     row("nostdlib", Absent, Taken(Action::NoStandardFolders)),
     row("sysroot", Needed, Taken(Action::Sysroot)),
     row("section-start", Needed, Taken(Action::SectionStart)),
@@ -257,20 +261,26 @@ pub static OPTIONS: &[OptionRow] = &[
     row("traditional-format", Absent, Taken(Action::Traditional)),
     row("print-output-format", Absent, Taken(Action::Ask(Ask::OutputFormat))),
     row("print-sysroot", Absent, Taken(Action::Ask(Ask::Sysroot))),
-    row("no-check-sections", Absent, Taken(Action::Lenient(Leniency::NoCheckSections))),
-    row("noinhibit-exec", Absent, Taken(Action::Lenient(Leniency::NoInhibitExec))),
-    row("allow-multiple-definition", Absent, Taken(Action::Lenient(Leniency::MultipleDefinitions))),
-    row("unresolved-symbols", Needed, Taken(Action::Lenient(Leniency::UndefinedNames))),
-    row("ignore-unresolved-symbol", Needed, Taken(Action::Lenient(Leniency::UndefinedNames))),
-    row("warn-unresolved-symbols", Absent, Taken(Action::Lenient(Leniency::UndefinedNames))),
+    row("no-check-sections", Absent, Taken(Action::Tolerate(Leniency::NoCheckSections))),
+    row("noinhibit-exec", Absent, Taken(Action::Tolerate(Leniency::NoInhibitExec))),
+    row("allow-multiple-definition", Absent, Taken(Action::Tolerate(Leniency::MultipleDefinitions))),
+    row("unresolved-symbols", Needed, Taken(Action::Tolerate(Leniency::UndefinedNames))),
+    row("ignore-unresolved-symbol", Needed, Taken(Action::Tolerate(Leniency::UndefinedNames))),
+    row("warn-unresolved-symbols", Absent, Taken(Action::Tolerate(Leniency::UndefinedNames))),
+    row("fatal-warnings", Absent, Taken(Action::FatalWarnings(true))),
+    row("no-fatal-warnings", Absent, Taken(Action::FatalWarnings(false))),
+    row("no-warnings w", Absent, Taken(Action::WarnsOf(Warning::Anything, false))),
+    row("warn-execstack", Absent, Taken(Action::WarnsOf(Warning::Stack, true))),
+    row("no-warn-execstack", Absent, Taken(Action::WarnsOf(Warning::Stack, false))),
+    row("warn-rwx-segments", Absent, Taken(Action::WarnsOf(Warning::Segments, true))),
+    row("no-warn-rwx-segments", Absent, Taken(Action::WarnsOf(Warning::Segments, false))),
     row("no-server", Absent, Taken(Action::NoServer)),
     row("no-fallback", Absent, Taken(Action::NoFallback)),
     row("server-status", Absent, Taken(Action::Server(ServerRequest::Status))),
     row("server-stop", Absent, Taken(Action::Server(ServerRequest::Stop))),
-    row("eh-frame-hdr", Absent, Taken(Action::FrameTable(true))),
-    row("no-eh-frame-hdr", Absent, Taken(Action::FrameTable(false))),
+    row("eh-frame-hdr", Absent, Taken(Action::EhFrameHdr(true))),
+    row("no-eh-frame-hdr", Absent, Taken(Action::EhFrameHdr(false))),
     // ignored
-    row("a", Needed, Ignored),
     row("A architecture", Needed, Ignored),
     row("d dc dp", Absent, Ignored),
     row("E export-dynamic", Absent, Ignored),
@@ -326,8 +336,6 @@ pub static OPTIONS: &[OptionRow] = &[
     row("exclude-libs", Needed, Ignored),
     row("export-dynamic-symbol", Needed, Ignored),
     row("export-dynamic-symbol-list", Needed, Ignored),
-    row("fatal-warnings", Absent, Ignored),
-    row("no-fatal-warnings", Absent, Ignored),
     row("force-exe-suffix", Absent, Ignored),
     row("hash-size", Needed, Ignored),
     row("hash-style", Needed, Ignored),
@@ -343,7 +351,6 @@ pub static OPTIONS: &[OptionRow] = &[
     row("undefined-version", Absent, Ignored),
     row("default-symver", Absent, Ignored),
     row("default-imported-symver", Absent, Ignored),
-    row("no-warnings w", Absent, Ignored),
     row("no-warn-mismatch", Absent, Ignored),
     row("no-warn-search-mismatch", Absent, Ignored),
     row("print-map-discarded", Absent, Ignored),
@@ -358,12 +365,8 @@ pub static OPTIONS: &[OptionRow] = &[
     row("warn-alternate-em", Absent, Ignored),
     row("warn-common", Absent, Ignored),
     row("warn-constructors", Absent, Ignored),
-    row("warn-execstack", Absent, Ignored),
-    row("no-warn-execstack", Absent, Ignored),
     row("warn-multiple-gp", Absent, Ignored),
     row("warn-once", Absent, Ignored),
-    row("warn-rwx-segments", Absent, Ignored),
-    row("no-warn-rwx-segments", Absent, Ignored),
     row("warn-section-align", Absent, Ignored),
     row("warn-textrel", Absent, Ignored),
     row("ctf-variables", Absent, Ignored),
@@ -371,23 +374,23 @@ pub static OPTIONS: &[OptionRow] = &[
     row("ctf-share-types", Needed, Ignored),
     row("enable-non-contiguous-regions-warnings", Absent, Ignored),
     // said
-    row("y trace-symbol", Needed, Said("nothing is traced")),
-    row("package-metadata", Optional, Said("the image has no note of a package")),
-    row("version-script", Needed, Said("symbols have no versions, and none is hidden")),
+    row("y trace-symbol", Needed, WarnOnly("nothing is traced")),
+    row("package-metadata", Optional, WarnOnly("the image has no note of a package")),
+    row("version-script", Needed, WarnOnly("symbols have no versions, and none is hidden")),
     // of other linkers
-    row("r relocatable i", Absent, Impossible("relocatable output")),
-    row("Ur", Absent, Impossible("relocatable output")),
-    row("shared Bshareable", Absent, Impossible("a shared library")),
-    row("pie pic-executable", Absent, Impossible("an executable that is placed when it is loaded")),
-    row("c mri-script", Needed, Impossible("a script of another language")),
-    row("EB", Absent, Impossible("big-endian objects")),
-    row("no-define-common", Absent, Impossible("common blocks that are not placed")),
-    row("split-by-file", Optional, Impossible("output sections for single files")),
-    row("split-by-reloc", Optional, Impossible("output sections by the number of relocations")),
-    row("embedded-relocs", Absent, Impossible("relocations in the output")),
-    row("task-link", Needed, Impossible("relocatable output")),
-    row("force-group-allocation", Absent, Impossible("groups of sections")),
-    row("enable-non-contiguous-regions", Absent, Impossible("sections that go into another region where one is full")),
+    row("r relocatable i", Absent, FallBack("relocatable output")),
+    row("Ur", Absent, FallBack("relocatable output")),
+    row("shared Bshareable", Absent, FallBack("a shared library")),
+    row("pie pic-executable", Absent, FallBack("an executable that is placed when it is loaded")),
+    row("c mri-script", Needed, FallBack("a script of another language")),
+    row("EB", Absent, FallBack("big-endian objects")),
+    row("no-define-common", Absent, FallBack("common blocks that are not placed")),
+    row("split-by-file", Optional, FallBack("output sections for single files")),
+    row("split-by-reloc", Optional, FallBack("output sections by the number of relocations")),
+    row("embedded-relocs", Absent, FallBack("relocations in the output")),
+    row("task-link", Needed, FallBack("relocatable output")),
+    row("force-group-allocation", Absent, FallBack("groups of sections")),
+    row("enable-non-contiguous-regions", Absent, FallBack("sections that go into another region where one is full")),
 ];
 
 /// A name that begins with `no-warn-`, which GNU ld may have in another release.
@@ -399,11 +402,11 @@ pub enum KeywordEffect {
     /// The word is taken: by the layout, or as a page's size.
     Taken,
     /// GNU ld is to let something pass.
-    Lenient(Leniency),
+    Tolerate(Leniency),
     /// The word changes nothing of a static image, or only what `ldi` never makes.
     Ignored,
     /// The word has no effect here, and one line says what that means.
-    Said(&'static str),
+    WarnOnly(&'static str),
 }
 
 const KEYWORDS_TAKEN: &[&str] = &[
@@ -488,9 +491,9 @@ pub fn find_keyword(name: &[u8]) -> Option<KeywordEffect> {
         return Some(KeywordEffect::Taken);
     }
     let said = KEYWORDS_SAID.iter().find(|(word, _)| word.as_bytes() == name);
-    let said = said.map(|(_, meaning)| KeywordEffect::Said(meaning));
+    let said = said.map(|(_, meaning)| KeywordEffect::WarnOnly(meaning));
     let lenient = KEYWORDS_LENIENT.iter().find(|(word, _)| word.as_bytes() == name);
-    let said = said.or_else(|| lenient.map(|(_, leniency)| KeywordEffect::Lenient(*leniency)));
+    let said = said.or_else(|| lenient.map(|(_, leniency)| KeywordEffect::Tolerate(*leniency)));
     said.or_else(|| is_here(KEYWORDS_IGNORED).then_some(KeywordEffect::Ignored))
 }
 

@@ -9,7 +9,7 @@ use std::os::unix::ffi::OsStrExt;
 use std::path::{Path, PathBuf};
 
 /// The greatest page of `-z max-page-size=`.
-const GREATEST_PAGE: u64 = 1 << 30;
+const MAX_PAGE: u64 = 1 << 30;
 
 /// The command of some words, in which the words of each `@FILE` stand in its place already.
 ///
@@ -96,8 +96,8 @@ impl Reader {
         match row.effect {
             Effect::Taken(action) => return self.apply_option(action, value.unwrap_or_else(|| b"".as_bstr())),
             Effect::Ignored => {}
-            Effect::Said(meaning) => self.command.note(format!("{written}: {meaning}")),
-            Effect::Impossible(reason) => self.impossible(format!("{written}: {reason}")),
+            Effect::WarnOnly(meaning) => self.command.note(format!("{written}: {meaning}")),
+            Effect::FallBack(reason) => self.impossible(format!("{written}: {reason}")),
         }
         Ok(())
     }
@@ -108,7 +108,7 @@ impl Reader {
         }
     }
 
-    /// Does what an option says that is taken: here those that set one thing.
+    /// Does what an option says that is taken. Each has its arm here, so that none is ignored by mistake.
     fn apply_option(&mut self, action: Action, value: &BStr) -> Result<(), WordsRefused> {
         let command = &mut self.command;
         match action {
@@ -125,10 +125,11 @@ impl Reader {
             Action::Strip(strip) => command.strip = strip,
             Action::DependencyFile => command.dependency_file = Some(path_of(value)),
             Action::Entry => command.entry = Some(value.to_owned()),
+            Action::FatalWarnings(are) => command.has_fatal_warnings = are,
             Action::Fini => command.fini = value.to_owned(),
             Action::Folder => self.folders.push(value.to_owned()),
             Action::Init => command.init = value.to_owned(),
-            Action::FrameTable(has) => command.has_frame_table = has,
+            Action::EhFrameHdr(has) => command.has_eh_frame_hdr = has,
             Action::KeepExported => command.keeps_exported = true,
             Action::Relax(does) => command.relaxes = does,
             Action::CrossReferences => command.has_cross_references = true,
@@ -140,7 +141,7 @@ impl Reader {
                 };
             }
             Action::MapFile => command.map_file = Some(path_of(value)),
-            Action::Lenient(leniency) => {
+            Action::Tolerate(leniency) => {
                 command.lenient.insert(leniency);
             }
             Action::NoBuildId => self.build_id = None,
@@ -159,14 +160,13 @@ impl Reader {
             Action::Unique => sorting::add_unique(command, value),
             Action::Wrap => command.wraps.push(value.to_owned()),
             Action::Verbose => command.is_verbose = true,
-            _ => return self.take_input(action, value),
-        }
-        Ok(())
-    }
-
-    /// The options that name an input, or hold for those after them.
-    fn take_input(&mut self, action: Action, value: &BStr) -> Result<(), WordsRefused> {
-        match action {
+            Action::WarnsOf(warning, true) => {
+                command.unwarned.remove(&warning);
+            }
+            Action::WarnsOf(warning, false) => {
+                command.unwarned.insert(warning);
+            }
+            // these name an input, or hold for those after them
             Action::Library => self.command.inputs.push(Input::Library(value.to_owned(), self.flags)),
             Action::Script => self.script(path_of(value)),
             Action::JustSymbols => {
@@ -175,6 +175,10 @@ impl Reader {
             }
             Action::Format => self.format(value),
             Action::Static(is_static) => self.flags.is_static = is_static,
+            Action::LibraryKind => match value.as_bytes() {
+                kind @ (b"archive" | b"shared" | b"default") => self.flags.is_static = kind == b"archive",
+                _ => return refused(format!("unrecognized -a option `{value}'")),
+            },
             Action::WholeArchive(is_whole) => self.flags.is_whole_archive = is_whole,
             Action::StartGroup if self.is_in_group => return refused("groups within groups"),
             Action::EndGroup if !self.is_in_group => return refused("--end-group without --start-group"),
@@ -187,21 +191,15 @@ impl Reader {
                 Some(flags) => self.flags = flags,
                 None => return refused("--pop-state without --push-state"),
             },
-            _ => return self.take_checked(action, value),
-        }
-        Ok(())
-    }
-
-    /// The options whose value is looked at.
-    fn take_checked(&mut self, action: Action, value: &BStr) -> Result<(), WordsRefused> {
-        match action {
+            // of these the value is looked at
             Action::Defsym => return self.defsym(value),
             Action::RetainSymbols => {
                 self.command.strip = Strip::AllExcept;
                 self.command.retained = Some(path_of(value));
             }
             Action::Keyword => return self.keyword(value),
-            Action::Machine if value != "elf_x86_64" => self.impossible(format!("-m {value}: another machine")),
+            Action::Machine if value != "elf_x86_64" => self.impossible(format!("-m {value}: unsupported machine")),
+            Action::Machine => {}
             Action::Nmagic => self.command.is_nmagic = true,
             Action::SortSection => self.command.sort_section = Some(sorting::sort_section(value)?),
             Action::SortCommon => self.command.sort_common = Some(sorting::sort_common(value)?),
@@ -219,7 +217,6 @@ impl Reader {
                 self.command.segment_starts.insert(BString::from(name), start);
                 self.command.scripts_before_starts = self.command.scripts.len();
             }
-            _ => {}
         }
         Ok(())
     }
@@ -234,7 +231,7 @@ impl Reader {
         match name.as_bytes() {
             b"binary" => self.flags.format = Format::Binary,
             b"default" | b"elf64-x86-64" => self.flags.format = Format::Default,
-            _ => self.impossible(format!("--format {name}: another format")),
+            _ => self.impossible(format!("--format {name}: unsupported format")),
         }
     }
 
@@ -242,7 +239,7 @@ impl Reader {
         match name.as_bytes() {
             b"binary" => self.command.output_format = Some(OutputFormat::Binary),
             b"elf64-x86-64" => self.command.output_format = Some(OutputFormat::Elf),
-            _ => self.impossible(format!("--oformat {name}: another format")),
+            _ => self.impossible(format!("--oformat {name}: unsupported format")),
         }
     }
 
@@ -291,11 +288,14 @@ impl Reader {
         };
         match find_keyword(name) {
             Some(KeywordEffect::Taken) => return self.keyword_taken(text, name, value),
-            Some(KeywordEffect::Lenient(leniency)) => {
+            Some(KeywordEffect::Tolerate(leniency)) => {
                 self.command.lenient.insert(leniency);
             }
             Some(KeywordEffect::Ignored) => {}
-            Some(KeywordEffect::Said(meaning)) => self.command.note(format!("-z {}: {meaning}", name.as_bstr())),
+            Some(KeywordEffect::WarnOnly(meaning)) => self.command.note(format!("-z {}: {meaning}", name.as_bstr())),
+            None if self.command.has_fatal_warnings => {
+                self.impossible(format!("-z {text}: not known, which --fatal-warnings makes a fault"));
+            }
             None => self.command.note(format!("-z {text}: not known, without effect")),
         }
         Ok(())
@@ -337,8 +337,8 @@ fn refused<T>(text: impl Into<String>) -> Result<T, WordsRefused> {
 fn page(text: &BStr, value: &[u8]) -> Result<u64, WordsRefused> {
     let no_number = || WordsRefused(format!("-z {text}: '{}' is no number", value.as_bstr()));
     let size = number(value).ok_or_else(no_number)?;
-    if size > GREATEST_PAGE || !size.is_power_of_two() {
-        return refused(format!("-z {text}: no power of two up to {GREATEST_PAGE:#x}"));
+    if size > MAX_PAGE || !size.is_power_of_two() {
+        return refused(format!("-z {text}: no power of two up to {MAX_PAGE:#x}"));
     }
     Ok(size)
 }

@@ -121,7 +121,7 @@ fn a_format_holds_for_the_files_after_it() {
         .map(|input| if let Input::File(_, flags) = input { flags.format } else { Format::Default })
         .collect();
     assert_eq!(formats, [Format::Binary, Format::Default]);
-    assert_eq!(read(&["-b", "pe-x86-64"]).impossible, ["--format pe-x86-64: another format"]);
+    assert_eq!(read(&["-b", "pe-x86-64"]).impossible, ["--format pe-x86-64: unsupported format"]);
 }
 
 #[test]
@@ -198,15 +198,15 @@ fn the_last_build_id_holds() {
 #[test]
 fn what_only_another_linker_does_is_said_with_its_reason() {
     for row in OPTIONS {
-        if let Effect::Impossible(reason) = row.effect {
+        if let Effect::FallBack(reason) = row.effect {
             let mut words = vec![BString::from(row.spelling())];
             words.extend((row.argument == Argument::Needed).then(|| BString::from("x")));
             let command = read_command(&words).unwrap();
             assert_eq!(command.impossible, [format!("{}: {reason}", row.spelling())]);
         }
     }
-    assert_eq!(read(&["-m", "elf_i386"]).impossible, ["-m elf_i386: another machine"]);
-    assert_eq!(read(&["--oformat=pe-x86-64"]).impossible, ["--oformat pe-x86-64: another format"]);
+    assert_eq!(read(&["-m", "elf_i386"]).impossible, ["-m elf_i386: unsupported machine"]);
+    assert_eq!(read(&["--oformat=pe-x86-64"]).impossible, ["--oformat pe-x86-64: unsupported format"]);
 }
 
 #[test]
@@ -228,9 +228,21 @@ fn what_gnu_ld_refuses_is_refused() {
         &["-z", "max-page-size=x"],
         &["-z", "max-page-size=3"],
         &["-z", "common-page-size=0"],
+        &["-alias"],
     ] {
         assert!(read_words(words).is_err(), "{words:?}");
     }
+}
+
+/// lexsup.c, `parse_args`: what it warns of while it reads the words counts by the words before.
+#[test]
+fn a_word_that_is_not_known_may_be_a_fault() {
+    assert!(read(&["--fatal-warnings", "-z", "foo", "--no-fatal-warnings"]).impossible[0].starts_with("-z foo: "));
+    for words in [&["-z", "foo", "--fatal-warnings"][..], &["--fatal-warnings", "-z", "now"]] {
+        assert!(read(words).impossible.is_empty(), "{words:?}");
+    }
+    let command = read(&["-w", "--no-warn-rwx-segments", "--no-warn-execstack", "--warn-execstack"]);
+    assert!(command.unwarned.into_iter().eq([Warning::Anything, Warning::Segments]));
 }
 
 #[test]
@@ -239,6 +251,7 @@ fn every_option_can_be_read() {
         let value = match row.names().next() {
             Some("end-group" | "pop-state" | "start-group") => continue,
             Some("orphan-handling") => "error",
+            Some("a") => "archive",
             Some("section-start" | "defsym") => ".x=0",
             Some("sort-section") => "name",
             Some("Map-format") => "ldi",
@@ -345,8 +358,8 @@ fn the_manual_has_each_option_under_its_effect() {
     let headings: [(&str, Belongs); 4] = [
         ("Taken", |effect| matches!(effect, Effect::Taken(_))),
         ("Ignored", |effect| matches!(effect, Effect::Ignored)),
-        ("Said", |effect| matches!(effect, Effect::Said(_))),
-        ("Handed over", |effect| matches!(effect, Effect::Impossible(_))),
+        ("Said", |effect| matches!(effect, Effect::WarnOnly(_))),
+        ("Handed over", |effect| matches!(effect, Effect::FallBack(_))),
     ];
     for (heading, belongs) in headings {
         let after = manual.split(&format!("### {heading}\n")).nth(1).expect(heading);

@@ -5,9 +5,9 @@ use std::ops::Range;
 
 use object::elf;
 
-use super::image::{Image, NotAnImage, Section, Segment, ELF_HEADER};
+use super::image_headers::{Image, NotAnImage, Section, Segment, ELF_HEADER};
 use super::symbols::SymbolTable;
-use crate::mirror::Answered;
+use crate::session_client::SessionImage;
 use crate::snapshot::Bytes;
 
 /// Where fields are in the header of a file: EI_OSABI, e_phoff, e_shoff, e_phnum, e_shnum and e_shstrndx.
@@ -21,7 +21,7 @@ const NAMES_AT: usize = 62;
 /// A file: pieces at ascending places, with zeros between. No byte of the image is copied for it.
 #[derive(Debug)]
 pub struct FileImage {
-    image: Answered,
+    image: SessionImage,
     pieces: Vec<Piece>,
     length: u64,
 }
@@ -44,7 +44,7 @@ enum Source {
 
 impl FileImage {
     /// A file of these bytes.
-    pub fn whole(image: impl Into<Answered>) -> FileImage {
+    pub fn whole(image: impl Into<SessionImage>) -> FileImage {
         let image = image.into();
         let (end, length) = (image.len(), image.len() as u64);
         FileImage { image, pieces: vec![Piece { at: 0, source: Source::Image(0..end) }], length }
@@ -66,16 +66,16 @@ impl FileImage {
     }
 
     /// The image of `ldi`, to be given back.
-    pub fn into_image(self) -> Answered {
+    pub fn into_image(self) -> SessionImage {
         self.image
     }
 
     /// Takes the image of `ldi` out, to be given back; another one is put in its place.
-    pub fn take_image(&mut self) -> Answered {
-        self.replace_image(Answered::default())
+    pub fn take_image(&mut self) -> SessionImage {
+        self.replace_image(SessionImage::default())
     }
 
-    pub(super) fn replace_image(&mut self, image: Answered) -> Answered {
+    pub(super) fn replace_image(&mut self, image: SessionImage) -> SessionImage {
         std::mem::replace(&mut self.image, image)
     }
 
@@ -148,6 +148,13 @@ impl FileImage {
         self.pieces().nth(after.checked_sub(1)?)
     }
 
+    /// Whether a segment that is loaded is written and executed.
+    pub fn has_writable_code(&self) -> bool {
+        let front = self.piece_at(0).map_or(&b""[..], |(_, bytes)| bytes);
+        let rights = elf::PF_R | elf::PF_W | elf::PF_X;
+        program_headers(front).any(|(kind, flags)| kind == elf::PT_LOAD && flags & rights == rights)
+    }
+
     /// The file's bytes, in one vector.
     pub fn to_vec(&self) -> Vec<u8> {
         let mut all = Vec::with_capacity(usize::try_from(self.length).unwrap_or(0));
@@ -165,6 +172,18 @@ impl FileImage {
             _ => self.to_vec(),
         }
     }
+}
+
+/// Types and flags of the program headers, which are at the front of the file.
+fn program_headers(front: &[u8]) -> impl Iterator<Item = (u32, u32)> + '_ {
+    let count = front.get(SEGMENT_COUNT_AT..SEGMENT_COUNT_AT + 2).and_then(|bytes| bytes.try_into().ok());
+    let headers = front.get(ELF_HEADER as usize..).unwrap_or_default();
+    let each = headers.chunks_exact(super::image_headers::PROGRAM_HEADER as usize);
+    each.take(count.map_or(0, u16::from_le_bytes).into()).map(|header| {
+        let word =
+            |at: usize| header.get(at..at + 4).and_then(|bytes| bytes.try_into().ok()).map_or(0, u32::from_le_bytes);
+        (word(0), word(4))
+    })
 }
 
 /// What a file is to be: program headers, the places of what is loaded and of the sections, names.
@@ -192,7 +211,7 @@ impl FilePlan {
     /// A plan by which all stays where it is.
     pub(super) fn unchanged(image: &Image<'_>) -> FilePlan {
         let mut loaded = Vec::with_capacity(image.segments.len());
-        let mut end = ELF_HEADER + super::image::PROGRAM_HEADER * image.segments.len() as u64;
+        let mut end = ELF_HEADER + super::image_headers::PROGRAM_HEADER * image.segments.len() as u64;
         for one in image.segments.iter().filter(|one| one.file_size != 0) {
             loaded.push((one.offset, range(one.offset, one.file_size)));
             end = end.max(one.offset + one.file_size);
@@ -246,7 +265,7 @@ impl FilePlan {
     }
 
     /// The file: the headers, what is loaded, what is not loaded, and the section headers.
-    pub(super) fn file(mut self, image: Answered) -> FileImage {
+    pub(super) fn file(mut self, image: SessionImage) -> FileImage {
         let mut pieces = Vec::with_capacity(self.loaded.len() + 8);
         for (at, range) in self.loaded.drain(..).filter(|(_, range)| !range.is_empty()) {
             pieces.push(Piece { at, source: Source::Image(range) });

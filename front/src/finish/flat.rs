@@ -1,6 +1,6 @@
 //! The bytes of an image as they lie in memory, for `--oformat binary`.
 
-use super::image::{Image, NotAnImage};
+use super::image_headers::{Image, NotAnImage};
 use super::FinishError;
 
 /// The bytes that a flat image has at most.

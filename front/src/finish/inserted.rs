@@ -5,7 +5,7 @@ use bstr::BString;
 use object::elf;
 
 use super::file_image::{plan_or_unchanged, FilePlan};
-use super::image::{Image, NotAnImage, Section};
+use super::image_headers::{Image, NotAnImage, Section};
 use super::symbols::{EmptySection, OtherSections, RelocationTable, SymbolTable};
 use crate::snapshot::Bytes;
 
@@ -107,7 +107,7 @@ fn of_relocations(table: RelocationTable, name: &[u8]) -> Inserted {
         name: [&b".rela"[..], name].concat().into(),
         header: Section { kind: elf::SHT_RELA, flags, size, align: 8, entry_size: ENTRY, ..NO_SECTION },
         target: Some(table.section),
-        content: table.entries.into(),
+        content: table.entries,
     }
 }
 
@@ -176,7 +176,7 @@ mod tests {
     /// ldlang.c, `strip_excluded_output_sections`: what stands behind a section that goes has a number less.
     #[test]
     fn numbers_of_sections_that_stay() {
-        let inserted = [of_relocations(RelocationTable { section: 1, entries: vec![0; 24] }, b".text")];
+        let inserted = [of_relocations(RelocationTable { section: 1, entries: vec![0; 24].into() }, b".text")];
         let numbers = Numbers::of(5, &inserted, &[2, 3]);
         assert_eq!(numbers.inserted, [2]);
         assert_eq!([0, 1, 4].map(|number| numbers.get(number)), [0, 1, 3]);

@@ -4,7 +4,7 @@ use bstr::{BString, ByteSlice};
 use object::elf;
 
 use super::file_image::FileImage;
-use super::image::{Image, Section, Segment};
+use super::image_headers::{Image, Section, Segment};
 use super::FinishError;
 
 /// A file would not load what `ldi` answered.

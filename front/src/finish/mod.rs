@@ -2,30 +2,30 @@
 //!
 //! What is loaded stays as `ldi` answered it, byte for byte; `finish` ends with a test of that.
 
-mod build_id;
 mod digest;
+mod file_hash;
 mod file_image;
 mod flat;
-mod image;
+mod image_headers;
 mod inserted;
-mod kept;
+mod kept_tables;
 mod loaded;
-mod names;
 mod pages;
 mod program_headers;
 mod rights;
+mod section_names;
 mod segments;
 mod symbols;
 mod unloaded;
 
 use bstr::BString;
 
-use crate::mirror::Answered;
-pub use build_id::{hash_of, place_of_note, HashKind};
+use crate::session_client::SessionImage;
+pub use file_hash::{hash_of, place_of_note, HashKind};
 pub use file_image::FileImage;
 pub use flat::NoFlatImage;
-pub use image::NotAnImage;
-pub use kept::KeptTables;
+pub use image_headers::NotAnImage;
+pub use kept_tables::KeptTables;
 pub use loaded::Differs;
 pub use pages::TooFar;
 pub use program_headers::{NotWritten, WantedSegment};
@@ -38,7 +38,7 @@ pub use unloaded::Unloaded;
 /// The page size of the images of `ldi`.
 pub const PAGE: u64 = 4096;
 /// The bytes that a file has at most.
-const GREATEST_FILE: u64 = 1 << 30;
+const MAX_FILE: u64 = 1 << 30;
 
 /// The form of the file that is asked for.
 #[derive(Clone, PartialEq, Eq, Debug)]
@@ -132,7 +132,7 @@ pub struct Finished {
 /// # Errors
 /// If the form has no file for this image, or the file would not load what the image loads.
 pub fn finish(
-    image: impl Into<Answered>,
+    image: impl Into<SessionImage>,
     form: &Form,
     symbols: Option<&Symbols<'_>>,
     unloaded: Vec<Unloaded>,
@@ -145,7 +145,7 @@ pub fn finish(
 /// # Errors
 /// As [`finish`].
 pub fn finish_again(
-    image: impl Into<Answered>,
+    image: impl Into<SessionImage>,
     form: &Form,
     symbols: Option<&Symbols<'_>>,
     unloaded: Vec<Unloaded>,
@@ -163,7 +163,7 @@ pub fn finish_again(
         (None, Some(headers)) => with_headers(&image, form, headers)?,
         (None, None) => pages::with_pages(&image, form.page, false)?,
     };
-    names::rename(&image, &form.names, &mut plan)?;
+    section_names::rename(&image, &form.names, &mut plan)?;
     let sections = put_symbols((&image, kept), form, symbols, &unloaded, &mut plan)?;
     unloaded::add(&image, unloaded, &mut plan)?;
     inserted::insert(&image, sections, &mut plan)?;
@@ -177,7 +177,7 @@ pub fn finish_again(
 
 /// Puts an image in the place of that of a file, which is of the form and made of an image that had the same bytes but
 /// for some that are loaded: these are where they were.
-pub fn put_image(file: &mut FileImage, form: &Form, mut image: Answered) -> Result<(), FinishError> {
+pub fn put_image(file: &mut FileImage, form: &Form, mut image: SessionImage) -> Result<(), FinishError> {
     rights::write(&mut image, &form.rights)?;
     file.replace_image(image);
     Ok(())
@@ -185,13 +185,13 @@ pub fn put_image(file: &mut FileImage, form: &Form, mut image: Answered) -> Resu
 
 /// Gives the file its table of symbols, or takes that of the image away; gives how its sections differ.
 fn put_symbols(
-    (data, kept): (&Answered, &mut KeptTables),
+    (data, kept): (&SessionImage, &mut KeptTables),
     form: &Form,
     symbols: Option<&Symbols<'_>>,
     unloaded: &[Unloaded],
     plan: &mut Option<file_image::FilePlan>,
 ) -> Result<OtherSections, FinishError> {
-    let image = image::Image::read(data)?;
+    let image = image_headers::Image::read(data)?;
     let (table, sections) = match symbols {
         Some(symbols) if form.symbols.has_table() => {
             let by_map = symbols.map.is_some();
@@ -219,8 +219,8 @@ fn put_symbols(
     Ok(sections)
 }
 
-/// The file with the program headers of PHDRS, else with those of `ldi`, and a note of why; and the sections that are in
-/// no segment, of which nothing is said if what is in them is never loaded (NOLOAD).
+/// The file with the program headers of PHDRS, else with those of `ldi`, and a note of why; and the sections that are
+/// in no segment, of which nothing is said if what is in them is never loaded (NOLOAD).
 fn with_segments(
     image: &[u8],
     form: &Form,

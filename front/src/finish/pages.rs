@@ -5,8 +5,8 @@
 //! they are.
 
 use super::file_image::{range, FilePlan};
-use super::image::{Image, Section, Segment, ELF_HEADER, PROGRAM_HEADER};
-use super::{FinishError, GREATEST_FILE, PAGE};
+use super::image_headers::{Image, Section, Segment, ELF_HEADER, PROGRAM_HEADER};
+use super::{FinishError, MAX_FILE, PAGE};
 
 /// The segments would lie too far apart in the file.
 #[derive(Clone, Copy, PartialEq, Eq, Debug, thiserror::Error)]
@@ -26,7 +26,7 @@ pub(super) fn with_pages(data: &[u8], page: u64, in_file_order: bool) -> Result<
     }
     let image = Image::read(data)?;
     let (mut placed, end) = place(&image.segments, page);
-    if end > GREATEST_FILE {
+    if end > MAX_FILE {
         return Err(TooFar { page, end }.into());
     }
     let sections = image.sections.iter().map(|section| moved(section, &placed)).collect();

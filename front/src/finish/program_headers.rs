@@ -9,11 +9,11 @@ use bstr::{BStr, BString, ByteSlice};
 use object::elf;
 
 use super::file_image::{aligned, range, FilePlan};
-use super::image::{Image, NotAnImage, Section, Segment, ELF_HEADER, PROGRAM_HEADER};
-use super::GREATEST_FILE;
+use super::image_headers::{Image, NotAnImage, Section, Segment, ELF_HEADER, PROGRAM_HEADER};
+use super::MAX_FILE;
 
 /// The program headers that a file has at most.
-const GREATEST_COUNT: usize = 0xFFFE;
+const MAX_COUNT: usize = 0xFFFE;
 /// The alignment of a segment without sections.
 const WORD: u64 = 8;
 
@@ -149,7 +149,7 @@ struct Writer<'a> {
 /// The file with the program headers of PHDRS, its segments aligned to `page` or more.
 pub(super) fn write(data: &[u8], wanted: &[WantedSegment], page: u64) -> Result<FilePlan, NotWritten> {
     let image = Image::read(data)?;
-    if wanted.len() > GREATEST_COUNT {
+    if wanted.len() > MAX_COUNT {
         return Err(NotWritten::TooMany(wanted.len()));
     }
     let parts = parts_of(&image)?;
@@ -157,7 +157,7 @@ pub(super) fn write(data: &[u8], wanted: &[WantedSegment], page: u64) -> Result<
     let mut writer = Writer { parts, entries };
     let end = writer.place_loads()?;
     let end = writer.place_others(end);
-    if end > GREATEST_FILE {
+    if end > MAX_FILE {
         return Err(NotWritten::TooLarge(end));
     }
     writer.write()?;

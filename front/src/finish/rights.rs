@@ -1,21 +1,25 @@
 //! Gives sections the rights to be written and executed that they have in GNU ld's file: `.text` of writable input
 //! sections and sections of data commands alone have others in the image of `ldi`. The loaded bytes stay. Notes and
 //! tables of functions or of names, which are SHT_PROGBITS in the image of `ldi`, get their types, by which other
-//! programs find them.
+//! programs find them, and what has entries of one size gets that size, with SHF_MERGE and SHF_STRINGS.
 
 use std::collections::HashMap;
 
 use object::elf;
 
-use super::image::{Image, NotAnImage, Section, Segment, ELF_HEADER, PROGRAM_HEADER};
-use crate::mirror::Answered;
+use super::image_headers::{Image, NotAnImage, Section, Segment, ELF_HEADER, PROGRAM_HEADER};
+use crate::objects::SectionFlags;
+use crate::session_client::SessionImage;
 
 /// The rights of a section.
 const RIGHTS: [(u32, u32); 2] = [(elf::SHF_WRITE, elf::PF_W), (elf::SHF_EXECINSTR, elf::PF_X)];
-const MASK: u64 = (elf::SHF_WRITE | elf::SHF_EXECINSTR) as u64;
-/// Where sh_flags stands in a section header, p_flags in a program header, and e_shoff in the header of the file.
+const MASK: u64 = (elf::SHF_WRITE | elf::SHF_EXECINSTR | elf::SHF_MERGE | elf::SHF_STRINGS) as u64;
+/// The flags that are written: these, and that of sections of the large model.
+const FLAGS: u64 = MASK | SectionFlags::X86_64_LARGE.0;
+/// Where fields of a section header stand, p_flags in a program header, and e_shoff in the header of the file.
 const KIND_OF_SECTION: u64 = 4;
 const FLAGS_OF_SECTION: u64 = 8;
+const ENTRY_SIZE_OF_SECTION: u64 = 56;
 const FLAGS_OF_SEGMENT: u64 = 4;
 const SECTION_HEADER: u64 = 64;
 const SECTIONS_AT: usize = 40;
@@ -31,15 +35,18 @@ pub struct Rights {
     pub address: u64,
     /// Its bytes, more than 0.
     pub size: u64,
-    /// SHF_WRITE and SHF_EXECINSTR, of `sh_flags`; other bits are not looked at.
+    /// SHF_WRITE, SHF_EXECINSTR, SHF_MERGE, SHF_STRINGS and SHF_X86_64_LARGE, of `sh_flags`; other bits are not looked
+    /// at.
     pub flags: u64,
     /// `sh_type`, of notes and of tables of functions and of names.
     pub kind: u32,
+    /// `sh_entsize`
+    pub entry_size: u64,
 }
 
 /// Writes the rights and types of sections into their headers, and rights into those of the segments that have such a
 /// section.
-pub(super) fn write(image: &mut Answered, wanted: &[Rights]) -> Result<(), NotAnImage> {
+pub(super) fn write(image: &mut SessionImage, wanted: &[Rights]) -> Result<(), NotAnImage> {
     for (at, bytes) in changes(image, wanted)? {
         image.cover(usize::try_from(at).unwrap_or(usize::MAX), &bytes);
     }
@@ -55,15 +62,18 @@ fn changes(data: &[u8], wanted: &[Rights]) -> Result<Vec<(u64, Vec<u8>)>, NotAnI
     let (mut found, mut changed) = (Vec::new(), Vec::new());
     for (number, section) in image.sections.iter_mut().enumerate().filter(|(_, one)| one.is_allocated()) {
         let own = wanted.get(&(section.address, section.size));
-        let flags = own.map_or(section.flags, |own| section.flags & !MASK | own.flags & MASK);
+        let flags = own.map_or(section.flags, |own| section.flags & !FLAGS | own.flags & FLAGS);
         let header = headers_at.wrapping_add(SECTION_HEADER * number as u64);
         if flags != section.flags {
+            changed.extend(((flags ^ section.flags) & MASK != 0).then_some(number));
             section.flags = flags;
             found.push((header.wrapping_add(FLAGS_OF_SECTION), flags.to_le_bytes().to_vec()));
-            changed.push(number);
         }
         if let Some(own) = own.filter(|own| section.kind == elf::SHT_PROGBITS && KINDS.contains(&own.kind)) {
             found.push((header.wrapping_add(KIND_OF_SECTION), own.kind.to_le_bytes().to_vec()));
+        }
+        if let Some(own) = own.filter(|own| own.entry_size != section.entry_size) {
+            found.push((header.wrapping_add(ENTRY_SIZE_OF_SECTION), own.entry_size.to_le_bytes().to_vec()));
         }
     }
     let is_changed = |segment: &Segment| {

@@ -10,9 +10,9 @@ use bstr::{BString, ByteSlice};
 use object::elf;
 
 use super::file_image::{range, FilePlan};
-use super::image::{Image, NotAnImage, Section, Segment, ELF_HEADER, PROGRAM_HEADER};
+use super::image_headers::{Image, NotAnImage, Section, Segment, ELF_HEADER, PROGRAM_HEADER};
 use super::program_headers::NotWritten;
-use super::{GREATEST_FILE, PAGE};
+use super::{MAX_FILE, PAGE};
 use crate::layout::segments::{is_relro, loads, HeaderPlace, InMemory, Load, Paging};
 use crate::layout::Flags;
 
@@ -95,7 +95,7 @@ pub(super) fn write(data: &[u8], made: &MadeHeaders, renamed: &[(BString, BStrin
     };
     let mut writer = Writer::new(&made);
     let end = writer.place()?;
-    if end > GREATEST_FILE {
+    if end > MAX_FILE {
         return Err(NotWritten::TooLarge(end));
     }
     writer.plan(&image, &homes, end)

@@ -3,7 +3,7 @@
 use bstr::BString;
 
 use super::file_image::{plan_or_unchanged, FilePlan};
-use super::image::{Image, NotAnImage, Section};
+use super::image_headers::{Image, NotAnImage, Section};
 use crate::snapshot::Bytes;
 
 /// A section of the file that is not loaded.

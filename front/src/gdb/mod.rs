@@ -1,10 +1,10 @@
 //! `ldi-gdb`: a script of gdb for an image, a copy of an image with static functions, and source lines of addresses.
 
+mod arguments;
 mod lines;
 mod objects;
 mod script;
 mod symbols;
-mod words;
 
 use std::collections::HashMap;
 use std::ffi::OsString;
@@ -14,14 +14,15 @@ use std::path::{Path, PathBuf};
 
 use bstr::{BStr, ByteSlice};
 
-use crate::place::{write_file, NotWritten, Reader, PROGRAM, TEXT};
 use crate::plan::{own_version, Environment};
+use crate::publish::{write_file, NotWritten, Reader, PROGRAM, TEXT};
 use crate::report::link_map::{BadMap, LinkMap};
+use crate::report::os_message;
+use arguments::{GdbArguments, Task, WordsRefused, USAGE};
 use lines::Places;
-use objects::{member_path, placed_objects, plain, MissingObject, Objects};
+use objects::{member_path, placed_objects, MissingObject, Objects};
 use script::Script;
 use symbols::{with_local_names, CannotAdd};
-use words::{Call, Task, WordsRefused, USAGE};
 
 /// The statuses of the program (docs/manual.md, 'Debugging').
 #[derive(Clone, Copy, PartialEq, Eq, Debug)]
@@ -37,7 +38,7 @@ enum Status {
 enum GdbFault {
     #[error("{USAGE}ldi-gdb: error: {0}")]
     Words(#[from] WordsRefused),
-    #[error("ldi-gdb: {}: {}", .0.display(), plain(.1))]
+    #[error("ldi-gdb: {}: {}", .0.display(), os_message(.1))]
     File(PathBuf, io::Error),
     #[error("ldi-gdb: {0}")]
     NotWritten(#[from] NotWritten),
@@ -87,7 +88,7 @@ fn read(path: &Path) -> Result<Vec<u8>, GdbFault> {
 
 /// Does what the words ask for.
 fn run(words: &[OsString]) -> Result<Status, GdbFault> {
-    let call = Call::read(words)?;
+    let call = GdbArguments::read(words)?;
     let map = LinkMap::read(&read(&call.map)?).map_err(|fault| GdbFault::Map(call.map.clone(), fault))?;
     let objects = Objects::new(&call.objects);
     if let (Some(folder), false) = (&call.members, matches!(call.task, Task::Copy(_))) {
@@ -120,7 +121,7 @@ fn print_bytes(bytes: &[u8]) -> Result<(), GdbFault> {
 }
 
 /// Writes the script, and says what it leaves out.
-fn write_script(call: &Call, map: &LinkMap, objects: &Objects<'_>) -> Result<Status, GdbFault> {
+fn write_script(call: &GdbArguments, map: &LinkMap, objects: &Objects<'_>) -> Result<Status, GdbFault> {
     let script = Script::of(map, objects, call.members.as_deref());
     match &call.output {
         Some(path) => write_file(path, &[&script.text], TEXT, Reader::IsWaitedFor)?,
@@ -133,7 +134,7 @@ fn write_script(call: &Call, map: &LinkMap, objects: &Objects<'_>) -> Result<Sta
 }
 
 /// Writes the copy of the image with local names.
-fn write_copy(call: &Call, image: &Path, map: &LinkMap, objects: &Objects<'_>) -> Result<Status, GdbFault> {
+fn write_copy(call: &GdbArguments, image: &Path, map: &LinkMap, objects: &Objects<'_>) -> Result<Status, GdbFault> {
     let (copy, count) = with_local_names(&read(image)?, map, objects)?;
     if let Some(path) = &call.output {
         write_file(path, &[&copy], PROGRAM, Reader::IsWaitedFor)?;
@@ -143,7 +144,12 @@ fn write_copy(call: &Call, image: &Path, map: &LinkMap, objects: &Objects<'_>) -
 }
 
 /// Prints a line for each address.
-fn print_lines(call: &Call, addresses: &[OsString], map: &LinkMap, objects: &Objects<'_>) -> Result<Status, GdbFault> {
+fn print_lines(
+    call: &GdbArguments,
+    addresses: &[OsString],
+    map: &LinkMap,
+    objects: &Objects<'_>,
+) -> Result<Status, GdbFault> {
     let places = Places::of(map);
     let folder = call.members.as_deref().unwrap_or_else(|| Path::new("."));
     let path_of = |name: &BStr| match objects.is_member(name) {

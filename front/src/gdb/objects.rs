@@ -12,6 +12,7 @@ use bstr::{BStr, BString, ByteSlice};
 
 use crate::inputs::{normalized, Archive, BadArchive};
 use crate::report::link_map::{LinkMap, Piece};
+use crate::report::os_message;
 use crate::snapshot::Bytes;
 
 /// An object that the map names and that is not there.
@@ -25,7 +26,7 @@ pub(super) struct MissingObject {
 /// Why an object is not there.
 #[derive(Debug, thiserror::Error)]
 enum WhyMissing {
-    #[error("{}", plain(.0))]
+    #[error("{}", os_message(.0))]
     File(#[from] io::Error),
     #[error(transparent)]
     Archive(#[from] BadArchive),
@@ -33,11 +34,6 @@ enum WhyMissing {
     NoArchive,
     #[error("the archive has no such member")]
     NoMember,
-}
-
-/// The system's message of a fault, without the number that Rust adds.
-pub(super) fn plain(fault: &io::Error) -> String {
-    fault.to_string().split(" (os error").next().unwrap_or_default().to_owned()
 }
 
 /// An object with its sections in the output that are not empty, in the order of the map.

@@ -4,14 +4,14 @@ use std::collections::HashMap;
 
 use bstr::BString;
 
+use super::defined_names::Defined;
 use super::expression::{assertion, assignment, number_of, text_of};
-use super::names::Defined;
 use super::text::{Text, COLUMN};
 use super::{dot, padded, Request};
 use crate::layout::evaluation::{Gap, InputSection, OutputSection, Statement, StatementKind};
 use crate::layout::ids::{OutputId, SectionId, StatementId};
 use crate::layout::Flags;
-use crate::objects::SectionIndex;
+use crate::objects::EH_FRAME_HDR_START;
 use crate::script::tree::{
     self, Assertion, Assignment, DataWidth, Expr, Fill, InputStatement, Pattern, Provision, Script, SectionStatement,
     SectionsStatement, Sort, Span,
@@ -43,15 +43,25 @@ pub(super) struct Body<'a> {
 }
 
 impl<'a> Body<'a> {
-    pub(super) fn new(request: &'a Request<'a>) -> Body<'a> {
+    /// A map with a text so far.
+    pub(super) fn new(request: &'a Request<'a>, text: Text) -> Body<'a> {
         let (nodes, defined) = (nodes_of(request.script), Defined::of(request));
         let owners = request.objects.iter().map(|object| object.origin().full_name()).collect();
-        Body { request, nodes, defined, owners, text: Text::default(), start: 0, dot: 0 }
+        Body { request, nodes, defined, owners, text, start: 0, dot: 0 }
     }
 
-    /// The text of some statements.
-    pub(super) fn statements(&mut self, statements: &[StatementId]) -> Vec<u8> {
+    /// Adds the text of some statements.
+    pub(super) fn statements(&mut self, statements: &[StatementId]) {
         statements.iter().for_each(|id| self.statement(*id));
+    }
+
+    /// Adds a text.
+    pub(super) fn put(&mut self, text: &str) {
+        self.text.put(text.as_bytes());
+    }
+
+    /// The whole text.
+    pub(super) fn finish(mut self) -> Vec<u8> {
         self.text.take()
     }
 
@@ -158,11 +168,12 @@ impl<'a> Body<'a> {
         let evaluation = self.request.evaluation;
         let span = self.request.spans.section(id);
         let address = span.map(|(address, _)| address).or_else(|| evaluation.section_address(section)).unwrap_or(0);
-        let own = self.own_size(section);
+        let is_eh_frame_hdr = evaluation.eh_frame_hdr.as_ref().map_or(false, |table| table.section == id);
+        let own = if section.number().is_some() && !is_eh_frame_hdr { section.own_size } else { section.size };
         let now = span.map_or(section.size, |(_, size)| size);
         let is_left_out = match span {
             Some(_) => self.request.spans.is_left_out(id),
-            None => now == 0 && section.flags.has(Flags::EXCLUDE),
+            None => now == 0 && section.flags.has(Flags::EXCLUDE) && !evaluation.shortened.contains_key(&id),
         };
         let size = if is_left_out { own } else { now };
         let owner = self.owners.get(section.object.0 as usize).map_or(&b""[..], |owner| owner);
@@ -175,13 +186,9 @@ impl<'a> Body<'a> {
         for (at, name) in self.defined.in_section(id) {
             self.text.blank(COLUMN).address(address.wrapping_add(*at)).blank(COLUMN).put(name).end();
         }
-    }
-
-    /// The bytes that a section has in its object; as many as it has now if it has none there.
-    fn own_size(&self, section: &InputSection) -> u64 {
-        let number = section.number().unwrap_or(SectionIndex(0));
-        let object = self.request.objects.get(section.object.0 as usize);
-        object.and_then(|object| object.section_size(number)).unwrap_or(section.size)
+        if is_eh_frame_hdr {
+            self.text.blank(COLUMN).address(address).blank(COLUMN).put(EH_FRAME_HDR_START.as_bytes()).end();
+        }
     }
 
     /// `print_assignment`

@@ -3,7 +3,7 @@
 use bstr::ByteSlice;
 
 use crate::script::tree::{
-    AssignOperator, Assignment, BinaryOperator, Expr, ExprKind, Function, Provision, Query, UnaryOperator,
+    AssignOperator, Assignment, BinaryOperator, Expr, ExprKind, Function, Provision, UnaryOperator,
 };
 
 /// An expression. What is made of numbers alone is one number, as the parser of GNU ld makes it (`exp_binop`).
@@ -30,7 +30,7 @@ pub(super) fn text_of(expr: &Expr) -> String {
             }
             format!("{} ({})", name_of(*function), arguments.join(", "))
         }
-        ExprKind::Query(query, name) => format!("{} ({})", word_of(*query), name),
+        ExprKind::Query(query, name) => format!("{} ({})", query.keyword(), name),
         ExprKind::SegmentStart(name, default) => format!("SEGMENT_START (\"{}\", {})", name, text_of(default)),
         ExprKind::SizeofHeaders => "SIZEOF_HEADERS".to_owned(),
         ExprKind::Assert(condition, message) => assertion(condition, message),
@@ -130,19 +130,6 @@ fn name_of(function: Function) -> &'static str {
         Function::Max => "MAX",
         Function::Min => "MIN",
         Function::Next => "NEXT",
-    }
-}
-
-fn word_of(query: Query) -> &'static str {
-    match query {
-        Query::Addr => "ADDR",
-        Query::Alignof => "ALIGNOF",
-        Query::Constant => "CONSTANT",
-        Query::Defined => "DEFINED",
-        Query::Length => "LENGTH",
-        Query::Loadaddr => "LOADADDR",
-        Query::Origin => "ORIGIN",
-        Query::Sizeof => "SIZEOF",
     }
 }
 

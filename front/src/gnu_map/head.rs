@@ -5,11 +5,13 @@ use std::collections::HashMap;
 use bstr::{BStr, ByteSlice};
 
 use super::body::in_column;
+use super::text::Text;
 use super::{library_path, padded, Request};
 use crate::command::Input;
+use crate::fast_map::FastMap;
+use crate::layout::evaluation::InputSection;
 use crate::layout::{glob, Flags};
 use crate::objects::{Home, NameFilter, ObjectIndex, SectionKind};
-use crate::quick::QuickMap;
 use crate::script::tree::{RegionAttributes, SectionStatement, SectionsStatement, Statement};
 
 /// The columns of files in the lists of members and of common blocks.
@@ -17,8 +19,9 @@ const MEMBER_COLUMN: usize = 30;
 const COMMON_COLUMN: usize = 20;
 
 /// The head of the map: members of archives, common blocks, sections that are left out, memory.
-pub(super) fn text(request: &Request<'_>) -> String {
-    [members(request), commons(request), left_out(request), memory(request)].concat()
+pub(super) fn text(request: &Request<'_>) -> Vec<u8> {
+    [members(request).into_bytes(), commons(request).into_bytes(), left_out(request), memory(request).into_bytes()]
+        .concat()
 }
 
 /// What objects have of a name before a member is looked at.
@@ -35,7 +38,7 @@ fn members(request: &Request<'_>) -> String {
     if members().next().is_none() {
         return String::new();
     }
-    let members = members().filter(|(_, object)| !object.is_build_note());
+    let members = members().filter(|(_, object)| !object.is_build_note() && !object.is_eh_frame_hdr());
     let members: Vec<(usize, bool)> = members.map(|(number, _)| (number, is_whole(request, number))).collect();
     let seen = seen_of(request, members.iter().filter(|(_, is_whole)| !is_whole).map(|(number, _)| *number));
     let mut text = "Archive member included to satisfy reference by file (symbol)\n\n".to_owned();
@@ -59,11 +62,11 @@ fn members(request: &Request<'_>) -> String {
 }
 
 /// What the objects have of the names that some of them define.
-fn seen_of<'a>(request: &Request<'a>, members: impl Iterator<Item = usize>) -> QuickMap<&'a BStr, Seen> {
+fn seen_of<'a>(request: &Request<'a>, members: impl Iterator<Item = usize>) -> FastMap<&'a BStr, Seen> {
     let objects = request.objects;
     let defined = members.filter_map(|number| objects.get(number)).flat_map(|object| object.globals());
     let names = defined.filter(|symbol| !symbol.is_undefined()).map(|symbol| symbol.name);
-    let mut seen: QuickMap<&BStr, Seen> = names.map(|name| (name, Seen::default())).collect();
+    let mut seen: FastMap<&BStr, Seen> = names.map(|name| (name, Seen::default())).collect();
     let filter = NameFilter::of(seen.keys());
     for (number, object) in objects.iter().enumerate() {
         let wanted = object.global_hashes().filter(|(hash, _)| filter.may_have(*hash));
@@ -121,31 +124,35 @@ fn commons(request: &Request<'_>) -> String {
 }
 
 /// Input sections that are in no output section (ldlang.c, `lang_map`).
-fn left_out(request: &Request<'_>) -> String {
-    let mut text = String::new();
+fn left_out(request: &Request<'_>) -> Vec<u8> {
+    let mut text = Text::default();
     for (number, object) in request.objects.iter().enumerate() {
+        let owner = object.origin().full_name();
+        let mut add = |name: &BStr, size: u64| text.name(b" ", name).address(0).size(size).put(b" ").put(&owner).end();
         let number = ObjectIndex(number as u32);
+        let is_out = |own: &InputSection| own.output().is_none() && !own.flags.has(Flags::CREATED | Flags::KEEP);
+        if !object.has_unlinked() {
+            let own = request.evaluation.sections_of(number).iter();
+            let own = own.filter(|own| is_out(own) && own.number().is_some() && SectionKind(own.kind).is_linked());
+            let named = own.map(|own| (request.evaluation.section_name(own), own.own_size));
+            named.filter(|(name, _)| !name.is_empty()).for_each(|(name, size)| add(name, size));
+            continue;
+        }
         for section in object.sections().filter(|one| !one.name.is_empty()) {
-            let is_out = match section.kind {
+            let own = || request.evaluation.section(request.evaluation.section_of(number, section.index)?);
+            let is_listed = match section.kind {
                 SectionKind::GROUP => true,
                 SectionKind::NULL => !section.name.starts_with(b".rel") && !is_kept(request, section.name),
-                kind if kind.is_linked() => {
-                    let own = request.evaluation.section_of(number, section.index);
-                    let own = own.and_then(|id| request.evaluation.section(id));
-                    own.map_or(false, |own| own.output().is_none() && !own.flags.has(Flags::CREATED | Flags::KEEP))
-                }
-                _ => false,
+                kind => kind.is_linked() && own().map_or(false, is_out),
             };
-            if is_out {
-                let name = in_column(&format!(" {}", section.name), 16);
-                let size = format!("{:#x}", section.size);
-                text.push_str(&format!("{name}0x{:016x} {size:>10} {}\n", 0, request.owner(number)));
+            if is_listed {
+                add(section.name, section.size);
             }
         }
     }
-    match text.is_empty() {
-        true => text,
-        false => format!("\nDiscarded input sections\n\n{text}"),
+    match text.take() {
+        text if text.is_empty() => text,
+        text => [&b"\nDiscarded input sections\n\n"[..], &text].concat(),
     }
 }
 

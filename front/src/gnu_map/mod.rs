@@ -2,10 +2,10 @@
 
 mod body;
 mod crossrefs;
+mod defined_names;
 mod dot;
 mod expression;
 mod head;
-mod names;
 mod text;
 
 use std::path::PathBuf;
@@ -19,7 +19,11 @@ use crate::objects::{Object, ObjectIndex};
 use crate::script::tree::Script;
 use crate::unloaded::Spans;
 use body::Body;
-pub use names::Named;
+pub use defined_names::{Named, NamedDefinition};
+use text::Text;
+
+/// The bytes of a line, as a rule.
+const LINE: usize = 80;
 
 /// A link whose map is wanted. The image has all where the layout has it.
 pub struct Request<'a> {
@@ -58,19 +62,17 @@ impl Request<'_> {
 
 /// The map.
 pub fn map(request: &Request<'_>) -> Vec<u8> {
-    let mut text = head::text(request).into_bytes();
-    text.extend_from_slice(b"\nLinker script and memory map\n\n");
+    let mut text = Text::with_room((request.evaluation.sections.len() + request.names.len()) * LINE);
     let (before, after) = loads(request);
-    text.extend_from_slice(before.as_bytes());
+    text.put(&head::text(request)).put(b"\nLinker script and memory map\n\n").put(before.as_bytes());
     let top = &request.evaluation.top;
     let end = end_of_script(request);
-    let mut body = Body::new(request);
-    text.extend(body.statements(top.get(..end).unwrap_or_default()));
-    text.extend_from_slice(after.as_bytes());
+    let mut body = Body::new(request, text);
+    body.statements(top.get(..end).unwrap_or_default());
     let output = request.command.output.display();
-    text.extend_from_slice(format!("OUTPUT({output} elf64-x86-64)\n").as_bytes());
-    text.extend(body.statements(top.get(end..).unwrap_or_default()));
-    text
+    body.put(&format!("{after}OUTPUT({output} elf64-x86-64)\n"));
+    body.statements(top.get(end..).unwrap_or_default());
+    body.finish()
 }
 
 /// The table of `--cref`.

@@ -12,6 +12,11 @@ const DIGITS: &[u8; 16] = b"0123456789abcdef";
 pub(super) struct Text(Vec<u8>);
 
 impl Text {
+    /// A text for which there is so much room.
+    pub(super) fn with_room(bytes: usize) -> Text {
+        Text(Vec::with_capacity(bytes))
+    }
+
     /// The bytes so far, which are taken out.
     pub(super) fn take(&mut self) -> Vec<u8> {
         std::mem::take(&mut self.0)

@@ -1,8 +1,8 @@
 //! Loads the inputs in their order.
 
 use super::archive::{normalized, shown, Archive, MemberIndex};
-use super::names::{NameState, Names};
-use super::once::OnceLinked;
+use super::comdat::OnceLinked;
+use super::name_states::{NameState, NameStates};
 use super::script_inputs::{ScriptInput, ScriptInputs};
 use super::undefined::UndefinedNames;
 use super::{InputFault, Loaded, Request};
@@ -34,7 +34,7 @@ const STANDARD_FOLDERS: &[&str] = &[
 /// The section of a file of `-b binary`, which `--gc-sections` keeps.
 const BINARY_SECTION: SectionIndex = SectionIndex(1);
 /// How deep archives within archives, and scripts that name scripts, are followed.
-const GREATEST_DEPTH: usize = 50;
+const MAX_DEPTH: usize = 50;
 
 /// The place of an archive among those of the link.
 #[derive(Clone, Copy)]
@@ -91,9 +91,9 @@ pub(super) struct Loader<'a> {
     files: Vec<PathBuf>,
     plain: HashMap<PathBuf, Vec<usize>>,
     renamed: IndexMap<BString, BString>,
-    names: Names,
+    names: NameStates,
     /// What is known of names before the first object.
-    first_names: Names,
+    first_names: NameStates,
     has_commons: bool,
     once: OnceLinked,
     /// GNU ld's list of undefined names; kept only if an object has common blocks.
@@ -114,17 +114,17 @@ impl<'a> Loader<'a> {
         before: Option<&'a Loaded>,
     ) -> Result<Loader<'a>, InputFault> {
         let command = request.command;
-        let mut names = Names::default();
+        let mut names = NameStates::default();
         let scripts = || request.scripts.iter();
         let wanted = request.wanted.iter().chain(&command.undefined).chain(&command.required);
         wanted.chain(scripts().flat_map(|script| &script.undefined)).for_each(|name| names.want(name));
         command.defsyms.iter().for_each(|defsym| names.define(&defsym.name));
         if let Some(target) = scripts().find_map(|script| script.target.as_ref()) {
-            return Err(InputFault::OfOtherLinkers(format!("TARGET({target}): another format")));
+            return Err(InputFault::OfOtherLinkers(format!("TARGET({target}): unsupported format")));
         }
         let other = scripts().find_map(ScriptInputs::other_format).filter(|_| command.output_format.is_none());
         if let Some(format) = other {
-            return Err(InputFault::OfOtherLinkers(format!("OUTPUT_FORMAT({format}): another format")));
+            return Err(InputFault::OfOtherLinkers(format!("OUTPUT_FORMAT({format}): unsupported format")));
         }
         Ok(Loader {
             command,
@@ -354,7 +354,7 @@ impl<'a> Loader<'a> {
 
     /// Takes the inputs that a text names, which is then a script of INPUT and GROUP alone.
     fn text(&mut self, path: &Path, text: &[u8], flags: InputFlags) -> Result<Vec<ArchiveIndex>, InputFault> {
-        let inputs = self.implicit_script(path, text).filter(|_| self.depth < GREATEST_DEPTH);
+        let inputs = self.implicit_script(path, text).filter(|_| self.depth < MAX_DEPTH);
         let inputs =
             inputs.ok_or_else(|| InputFault::Bad(format!("{}: no object, no archive, and no script", shown(path))))?;
         if let Some(other) = inputs.other {
@@ -535,7 +535,7 @@ impl<'a> Loader<'a> {
         }
         let name = origin.full_name();
         let inner = Archive::parse(&path_of(&name), data).map_err(|fault| bad(name.as_bstr(), &fault))?;
-        if self.depth >= GREATEST_DEPTH {
+        if self.depth >= MAX_DEPTH {
             return Err(InputFault::Bad(format!("{name}: archives within archives")));
         }
         self.depth += 1;

@@ -1,26 +1,26 @@
 //! Archives, groups, scripts of INPUT and GROUP: the objects of a link in GNU ld's order.
 
 mod archive;
+mod comdat;
+mod incremental;
 mod loader;
-mod names;
-mod once;
-mod replacing;
+mod name_states;
 mod script_inputs;
 #[cfg(test)]
 mod tests;
 mod undefined;
 
 pub use archive::{normalized, Archive, ArchiveSymbol, BadArchive, Member, MemberIndex};
-pub use names::{NameState, Names};
+pub use name_states::{NameState, NameStates};
 pub use script_inputs::{ScriptInput, ScriptInputs};
 
 use crate::command::Command;
 use crate::objects::Object;
 use crate::snapshot::Snapshot;
 use bstr::{BStr, BString, ByteSlice};
+use comdat::OnceLinked;
 use indexmap::IndexMap;
 use loader::{KnownObjects, Loader};
-use once::OnceLinked;
 use std::collections::HashMap;
 use std::path::PathBuf;
 use std::sync::Arc;
@@ -62,7 +62,7 @@ pub struct Loaded {
     pub files: Vec<PathBuf>,
     /// The files that statements of a script name and that are in another folder: their paths.
     pub renamed: IndexMap<BString, BString>,
-    names: Names,
+    names: NameStates,
     /// By file: its objects, if it is one itself.
     plain: HashMap<PathBuf, Vec<usize>>,
     known: KnownObjects,

@@ -558,9 +558,9 @@ fn another_target_is_another_linkers() {
         load(&request(&command, &script), &mut Snapshot::new(), None).map(|loaded| loaded.objects.len())
     };
     let other = |text: &str| Err(InputFault::OfOtherLinkers(text.to_owned()));
-    assert_eq!(load_with(&["-Tt"], "TARGET(elf32-i386)"), other("TARGET(elf32-i386): another format"));
+    assert_eq!(load_with(&["-Tt"], "TARGET(elf32-i386)"), other("TARGET(elf32-i386): unsupported format"));
     let pe = "OUTPUT_FORMAT(pei-x86-64)";
-    assert_eq!(load_with(&["-Tt"], pe), other("OUTPUT_FORMAT(pei-x86-64): another format"));
+    assert_eq!(load_with(&["-Tt"], pe), other("OUTPUT_FORMAT(pei-x86-64): unsupported format"));
     assert_eq!(load_with(&["-Tt", "--oformat=binary"], pe), Ok(0));
     assert_eq!(load_with(&["-Tt"], "OUTPUT_FORMAT(binary)"), Ok(0));
     assert_eq!(load_with(&["-Tt"], "TARGET(elf64-x86-64) OUTPUT_FORMAT(elf64-x86-64)"), Ok(0));

@@ -1,22 +1,22 @@
 //! GNU ld's list of undefined names: if an object adds one, the archives are searched again.
 
-use super::names::{NameState, Names};
+use super::name_states::{NameState, NameStates};
+use crate::fast_map::FastMap;
 use crate::objects::Object;
-use crate::quick::QuickMap;
 use bstr::BString;
 
 /// What is known of every name, and how many names were added to the list: an undefined name, or a common block of a
 /// name that was not known (bfd/linker.c, `bfd_link_add_undef`).
 #[derive(Debug)]
 pub(super) struct UndefinedNames {
-    states: QuickMap<BString, NameState>,
+    states: FastMap<BString, NameState>,
     /// By object: how many names were added up to it.
     counts: Vec<usize>,
 }
 
 impl UndefinedNames {
     /// Before the first object this is known.
-    pub(super) fn new(first: &Names) -> UndefinedNames {
+    pub(super) fn new(first: &NameStates) -> UndefinedNames {
         let states = first.states().map(|(name, state)| (name.clone(), state)).collect();
         UndefinedNames { states, counts: Vec::new() }
     }

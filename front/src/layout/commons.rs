@@ -2,9 +2,9 @@
 
 use super::evaluation::Base;
 use super::ids::SectionId;
+use super::interned_names::FastMap;
 use super::link::Link;
 use super::name_table::table_order;
-use super::names::QuickMap;
 use super::rows::Rows;
 use super::settings::SortCommon;
 use super::symbols::SymbolKind;
@@ -28,8 +28,8 @@ enum Known {
 }
 
 /// The common blocks, and the objects that have a section for some, of blocks that another took the place of too.
-fn read(objects: &[Object]) -> (QuickMap<&[u8], Known>, HashSet<ObjectIndex>) {
-    let mut known: QuickMap<&[u8], Known> = QuickMap::default();
+fn read(objects: &[Object]) -> (FastMap<&[u8], Known>, HashSet<ObjectIndex>) {
+    let mut known: FastMap<&[u8], Known> = FastMap::default();
     let mut owners = HashSet::new();
     if !objects.iter().any(|object| object.has_commons()) {
         return (known, owners);

@@ -1,6 +1,6 @@
 //! A script's tree as a `Program`.
 
-use super::expression::{Binary, Node, Unary};
+use super::expr::compiled::{Binary, Node, Unary};
 use super::flags::Flags;
 use super::ids::{ExprId, OutputId, StatementId};
 use super::program::{Constraint, FillBytes, OutputKind, Program, StepKind, Taking, DEFAULT};

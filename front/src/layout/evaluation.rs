@@ -1,15 +1,20 @@
 //! The result of a layout as plain data, from which a script of the profile is written, and with which an image is
 //! compared.
 
+use super::eh_frame::hdr::EhFrameHdr;
 use super::flags::Flags;
 use super::ids::{NameId, OutputId, RegionId, SectionId, StatementId, SymbolId};
+use super::interned_names::{FastMap, InternedNames};
 use super::merging::Merges;
-use super::names::{Names, QuickMap};
 use super::segments::{InMemory, Paging};
 use crate::objects::{MergeSource, ObjectIndex, SectionIndex, Shortened};
 use crate::script::tree::{Name, Span};
 use bstr::{BStr, ByteSlice};
+use object::elf;
 use std::sync::Arc;
+
+/// Stands for no section.
+const NOWHERE: u32 = u32::MAX;
 
 /// What a value counts from.
 #[derive(Clone, Copy, PartialEq, Eq, Hash, Debug)]
@@ -54,8 +59,11 @@ pub struct Evaluation {
     pub sections: Vec<InputSection>,
     /// By object: the index of its first section, or of the first after it; at the end how many there are.
     pub(crate) first_sections: Vec<u32>,
+    /// By object: where its headers begin in `by_header`, which has the indices of their sections.
+    pub(crate) first_headers: Vec<u32>,
+    pub(crate) by_header: Vec<u32>,
     /// The names of sections.
-    pub names: Names,
+    pub names: InternedNames,
     /// The symbols that script, command line or GNU ld itself speak of, and common blocks.
     pub symbols: Vec<Symbol>,
     /// The regions of MEMORY, and `*default*`.
@@ -79,15 +87,17 @@ pub struct Evaluation {
     /// What is merged of sections that are not loaded, as far as anything goes by their sizes and places.
     pub merges_beside: Arc<Merges>,
     /// The sections of which GNU ld leaves out rows, and what stays of them.
-    pub shortened: QuickMap<SectionId, Arc<Shortened>>,
+    pub shortened: FastMap<SectionId, Arc<Shortened>>,
     /// What is known of `.eh_frame`.
     pub frames_left: FramesLeft,
+    /// What `.eh_frame_hdr` has, if there is one.
+    pub eh_frame_hdr: Option<EhFrameHdr>,
     /// The values that expressions had last, by their spans.
-    pub values: QuickMap<Span, Value>,
+    pub values: FastMap<Span, Value>,
     /// The statement of a span.
-    pub by_span: QuickMap<Span, StatementId>,
+    pub by_span: FastMap<Span, StatementId>,
     /// The symbol of a name.
-    pub by_name: QuickMap<Name, SymbolId>,
+    pub by_name: FastMap<Name, SymbolId>,
     /// The names that something has named, in that order, each with the number of objects that were read before.
     pub named: Vec<(usize, Name)>,
 }
@@ -278,6 +288,8 @@ pub struct InputSection {
     pub entry_size: u64,
     /// Its bytes.
     pub size: u64,
+    /// The bytes that its header says, if it has one.
+    pub own_size: u64,
     /// Its own alignment.
     pub own_align: u64,
     /// Its alignment in the output section (SUBALIGN).
@@ -314,6 +326,12 @@ impl InputSection {
     /// Whether it is the section of an object's common blocks.
     pub fn is_common(&self) -> bool {
         self.origin == Origin::Common
+    }
+
+    /// Whether `ldi` links it: it has ALLOC, and is no section of GNU ld's own.
+    pub fn is_linked(&self) -> bool {
+        let is_loaded = self.bits & u64::from(elf::SHF_ALLOC) != 0 || self.is_common();
+        is_loaded && !self.flags.has(Flags::CREATED | Flags::EXCLUDE)
     }
 
     /// The number of its header; `None` of common blocks and of what GNU ld makes itself.
@@ -439,24 +457,37 @@ impl Evaluation {
         self.merges.place(object, section, offset).or_else(beside)
     }
 
-    /// The section of an object by the number of its header: they are in the order of objects, and of headers.
+    /// The section of an object by the number of its header.
     pub fn section_of(&self, object: ObjectIndex, number: SectionIndex) -> Option<SectionId> {
-        let bound = |at: usize| self.first_sections.get(at).map(|first| *first as usize);
-        let (first, end) = (bound(object.0 as usize)?, bound(object.0 as usize + 1)?);
-        let own = self.sections.get(first..end)?;
-        let at = own.partition_point(|one| one.number().map_or(false, |own| own < number));
-        own.get(at).filter(|one| one.number() == Some(number))?;
-        Some(SectionId::new(first + at))
+        let first = *self.first_headers.get(object.0 as usize)?;
+        let end = self.first_headers.get(object.0 as usize + 1)?;
+        let at = first.checked_add(number.0).filter(|at| at < end)?;
+        let index = *self.by_header.get(at as usize)?;
+        (index != NOWHERE).then(|| SectionId::new(index as usize))
     }
 
-    /// Counts the sections of each object, by which they are found.
+    /// The sections of an object, in the order of its headers.
+    pub fn sections_of(&self, object: ObjectIndex) -> &[InputSection] {
+        let bound = |at: usize| self.first_sections.get(at).map(|first| *first as usize);
+        let bounds = bound(object.0 as usize).zip(bound(object.0 as usize + 1));
+        bounds.and_then(|(first, end)| self.sections.get(first..end)).unwrap_or_default()
+    }
+
+    /// Counts the sections of each object, by which they are found: they are in the order of objects, and of headers.
     pub(crate) fn count_sections(&mut self) {
-        self.first_sections.clear();
+        (self.first_sections, self.first_headers, self.by_header) = Default::default();
         for (index, section) in self.sections.iter().enumerate() {
             let count = (section.object.0 as usize + 1).max(self.first_sections.len());
             self.first_sections.resize(count, index as u32);
+            self.first_headers.resize(count, self.by_header.len() as u32);
+            let first = self.first_headers.last().copied().unwrap_or(0);
+            if let Some(number) = section.number() {
+                self.by_header.resize(first as usize + number.0 as usize, NOWHERE);
+                self.by_header.push(index as u32);
+            }
         }
         self.first_sections.push(self.sections.len() as u32);
+        self.first_headers.push(self.by_header.len() as u32);
     }
 
     /// The name of an input section.

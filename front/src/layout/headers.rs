@@ -1,10 +1,10 @@
 //! How many program headers GNU ld's image has, for SIZEOF_HEADERS: guessed before the first layout, found after each.
 
 use super::flags::Flags;
-use super::ids::OutputId;
+use super::ids::{OutputId, SectionId};
 use super::link::Link;
+use super::make_evaluation::kind_of;
 use super::program::Place;
-use super::result::kind_of;
 use super::segments::{is_relro, loads, InMemory, Paging};
 use object::elf;
 
@@ -16,6 +16,8 @@ const PROGRAM_HEADER: u64 = 56;
 pub(crate) struct Headers {
     /// Whether an object says of its stack.
     pub has_stack: bool,
+    /// The section of the table of `.eh_frame`, for PT_GNU_EH_FRAME.
+    pub eh_frame_hdr: Option<SectionId>,
     /// Whether there is anything for PT_GNU_RELRO.
     pub has_relro: bool,
     /// From DATA_SEGMENT_ALIGN to DATA_SEGMENT_RELRO_END.
@@ -28,7 +30,7 @@ pub(crate) struct Headers {
 
 impl Headers {
     pub fn new(has_relro: bool) -> Headers {
-        Headers { has_stack: false, has_relro, relro: None, count: None, is_wanted: false }
+        Headers { has_stack: false, eh_frame_hdr: None, has_relro, relro: None, count: None, is_wanted: false }
     }
 }
 
@@ -62,11 +64,22 @@ impl Link<'_> {
         let has_tls = self.places().any(|(_, place)| place.flags.has(Flags::TLS));
         2 + 2 * u64::from(self.has_interpreter())
             + u64::from(self.headers.has_relro)
+            + u64::from(self.headers.eh_frame_hdr.is_some())
             + u64::from(self.headers.has_stack)
             + u64::from(self.has_properties())
             + self.note_headers(false)
+            + self.large_headers()
             + u64::from(has_tls)
             + u64::from(self.has_dynamic(false))
+    }
+
+    /// How many it counts for the large model (elf64-x86-64.c, `elf_x86_64_additional_program_headers`).
+    fn large_headers(&self) -> u64 {
+        let is_loaded = |name: &&&[u8]| {
+            let place = super::make_evaluation::first_made(self, name).and_then(|output| self.place(output));
+            place.map_or(false, |place| !place.is_gone && place.flags.has(Flags::LOAD))
+        };
+        [&b".lrodata"[..], b".ldata"].iter().filter(is_loaded).count() as u64
     }
 
     /// Whether there is something for PT_DYNAMIC.
@@ -83,6 +96,12 @@ impl Link<'_> {
             let is_it = |output: &super::program::Output| self.program.names.get(output.name) == ".interp";
             place.size != 0 && place.flags.has(Flags::LOAD) && self.output(id).map_or(false, is_it)
         })
+    }
+
+    /// Whether there is a table of `.eh_frame` that is loaded.
+    fn has_loaded_eh_frame_hdr(&self) -> bool {
+        let output = self.headers.eh_frame_hdr.and_then(|id| self.section(id)?.output());
+        output.and_then(|output| self.place(output)).map_or(false, |place| place.flags.has(Flags::LOAD))
     }
 
     fn has_properties(&self) -> bool {
@@ -103,7 +122,7 @@ impl Link<'_> {
             }
             let is_joined = before.map_or(false, |before| {
                 let end = before.load.wrapping_add(before.size);
-                let next = super::expression::align_up(end, place.align);
+                let next = super::expr::compiled::align_up(end, place.align);
                 before.align == place.align && (!must_touch || next == place.load)
             });
             count += u64::from(!is_joined);
@@ -151,7 +170,7 @@ impl Link<'_> {
         let mut count = loads.len() as u64 + 2 * u64::from(self.has_interpreter()) + self.note_headers(true);
         count += u64::from(self.places().any(|(_, place)| place.flags.has(Flags::TLS)));
         count += u64::from(self.has_properties()) + u64::from(self.headers.has_stack);
-        count += u64::from(self.has_dynamic(true));
+        count += u64::from(self.has_dynamic(true)) + u64::from(self.has_loaded_eh_frame_hdr());
         if let (true, Some((low, high))) = (self.headers.has_relro, self.headers.relro) {
             count += u64::from(loads.iter().any(|load| is_relro(load, &sections, (low, high))));
         }

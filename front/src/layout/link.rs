@@ -1,16 +1,17 @@
 //! The state of a layout while its passes run.
 
+use super::eh_frame::discard::Frames;
+use super::eh_frame::hdr::EhFrameHdr;
 use super::evaluation::{Base, FramesLeft, InputSection};
-use super::expression::power_of;
-use super::fold::{DataSegment, Folded, Phase};
-use super::frames::Frames;
+use super::expr::assignment_place::{AssignmentPlace, Source};
+use super::expr::compiled::power_of;
+use super::expr::fold::{DataSegment, Folded, Phase};
 use super::headers::Headers;
 use super::ids::{ExprId, NameId, OutputId, RegionId, SectionId, StatementId, SymbolId};
+use super::interned_names::FastMap;
 use super::merging::Merges;
-use super::names::QuickMap;
 use super::program::{Output, Place, Program, Region, Step};
 use super::settings::Settings;
-use super::standing::{Source, Standing};
 use super::stop::{refused, RefusedReason, Stop};
 use super::symbols::SymbolState;
 use crate::objects::Shortened;
@@ -41,7 +42,7 @@ pub(crate) struct Link<'a> {
     /// The symbols that the expression names (ldexp.c, `assign_src`).
     pub source: Source,
     /// How far a pass is among the output sections.
-    pub standing: Standing,
+    pub standing: AssignmentPlace,
     /// Counts the sizing passes, but for the one that finds empty sections.
     pub sizing: u32,
     pub headers: Headers,
@@ -52,15 +53,18 @@ pub(crate) struct Link<'a> {
     /// `-z relro`, as long as there is anything that it is for.
     pub relro: bool,
     /// The sections with SHF_LINK_ORDER, and those that they belong to.
-    pub linked: QuickMap<SectionId, SectionId>,
+    pub linked: FastMap<SectionId, SectionId>,
     /// What is merged, and what is of sections that are not loaded.
     pub merges: Arc<Merges>,
     pub merges_beside: Arc<Merges>,
     /// The sections of which rows are left out.
-    pub shortened: QuickMap<SectionId, Arc<Shortened>>,
+    pub shortened: FastMap<SectionId, Arc<Shortened>>,
     /// What stays of `.eh_frame`, while it is found.
     pub frames: Frames,
     pub frames_left: FramesLeft,
+    /// The section of the table of these entries, while there is to be one, and what it has.
+    pub eh_frame_hdr: Option<SectionId>,
+    pub eh_frame_hdr_made: Option<EhFrameHdr>,
 }
 
 impl<'a> Link<'a> {
@@ -81,18 +85,20 @@ impl<'a> Link<'a> {
             assigned: None,
             is_from_address: false,
             source: Source::None,
-            standing: Standing::default(),
+            standing: AssignmentPlace::default(),
             sizing: 0,
             headers: Headers::new(settings.relro),
             bounds: Vec::new(),
             orphans: Vec::new(),
             relro: settings.relro,
-            linked: QuickMap::default(),
+            linked: FastMap::default(),
             merges: Arc::default(),
             merges_beside: Arc::default(),
-            shortened: QuickMap::default(),
+            shortened: FastMap::default(),
             frames: Frames::default(),
             frames_left: FramesLeft::default(),
+            eh_frame_hdr: None,
+            eh_frame_hdr_made: None,
         }
     }
 

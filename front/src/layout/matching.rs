@@ -3,7 +3,7 @@
 use super::evaluation::InputSection;
 use super::glob;
 use super::ids::{NameId, SectionId};
-use super::names::Names;
+use super::interned_names::InternedNames;
 use super::program::Taking;
 use crate::objects::Object;
 use crate::script::tree::{InputStatement, Name};
@@ -21,7 +21,7 @@ pub(crate) struct Match {
 pub(crate) fn matches_of(
     takings: &[Taking],
     sections: &[InputSection],
-    names: &Names,
+    names: &InternedNames,
     objects: &[Object],
 ) -> Vec<Vec<Match>> {
     let index = Index::new(takings);
@@ -64,7 +64,7 @@ struct Rule {
 }
 
 impl Rule {
-    fn new(index: &Index, takings: &[Taking], name: NameId, names: &Names) -> Rule {
+    fn new(index: &Index, takings: &[Taking], name: NameId, names: &InternedNames) -> Rule {
         let candidates = index.of(names.get(name), takings);
         let asks = |candidate: &Candidate| {
             takings.get(candidate.taking as usize).map_or(false, |taking| {

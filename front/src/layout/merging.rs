@@ -5,11 +5,11 @@ use super::evaluation::InputSection;
 use super::flags::Flags;
 use super::ids::{OutputId, SectionId};
 use super::link::Link;
+use crate::fast_map::FastMap;
 use crate::objects::{
     MergeKind, MergeSource, Merged, MergedPart, Object, ObjectIndex, OwnMerged, Section, SectionFlags, SectionIndex,
     SectionKind,
 };
-use crate::quick::QuickMap;
 use crate::snapshot::Bytes;
 use std::sync::Arc;
 
@@ -29,7 +29,7 @@ pub struct Merges {
     /// All sections, by object and number.
     sources: Vec<MergeSource>,
     /// By section: its group, and its number there.
-    numbers: QuickMap<MergeSource, (u32, u32)>,
+    numbers: FastMap<MergeSource, (u32, u32)>,
 }
 
 /// Sections that are merged with each other.
@@ -83,7 +83,7 @@ impl Link<'_> {
         if !self.settings.merges {
             return;
         }
-        let mut followed = QuickMap::default();
+        let mut followed = FastMap::default();
         let (loaded, beside) = self.candidates(objects, &mut followed);
         self.merges = Arc::new(self.merged(loaded, &before.loaded));
         self.merges_beside = Arc::new(self.merged(beside, &before.beside));
@@ -113,9 +113,9 @@ impl Link<'_> {
     }
 
     /// The sections that are merged, by those that they are merged with; those that are not loaded apart.
-    fn candidates(&self, objects: &[Object], followed: &mut QuickMap<OutputId, bool>) -> (Groups, Groups) {
+    fn candidates(&self, objects: &[Object], followed: &mut FastMap<OutputId, bool>) -> (Groups, Groups) {
         let (mut loaded, mut beside) = (Groups::new(), Groups::new());
-        let mut numbers: QuickMap<(OutputId, MergeKind), usize> = QuickMap::default();
+        let mut numbers: FastMap<(OutputId, MergeKind), usize> = FastMap::default();
         let may_merge = |(_, section): &(usize, &InputSection)| section.flags.has(Flags::MERGE);
         for (number, section) in self.sections.iter().enumerate().filter(may_merge) {
             let is_loaded = section.output().and_then(|output| self.place(output)).map(|place| place.is_loaded());
@@ -137,7 +137,7 @@ impl Link<'_> {
 
     /// Whether a section that is not loaded is merged here: if something goes by its size, relocations are written,
     /// or it may have names, as none of debug information and of `.comment` has.
-    fn is_merged_beside(&self, section: &InputSection, followed: &mut QuickMap<OutputId, bool>) -> bool {
+    fn is_merged_beside(&self, section: &InputSection, followed: &mut FastMap<OutputId, bool>) -> bool {
         let output = match section.output() {
             None => return false,
             Some(output) => output,

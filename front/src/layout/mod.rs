@@ -7,62 +7,51 @@
 //!
 //! A rule's test names it as GNU ld's manual does, or by the function of its source that has it.
 
-mod collect;
 mod commons;
 mod compile;
-mod deleted;
-mod entries;
+mod eh_frame;
 pub mod evaluation;
-mod expression;
+mod expr;
 pub mod flags;
-mod fold;
-mod following;
-mod frames;
+mod gc;
 pub mod glob;
 mod headers;
 pub mod ids;
-mod insert;
-mod left_out;
+pub mod interned_names;
+mod known_names;
 mod link;
-mod mapping;
+mod make_evaluation;
 mod matching;
 mod merging;
 pub mod name_table;
-pub mod names;
-mod ordering;
 mod orphans;
-mod overlaps;
 mod passes;
+mod placement_by_name;
 mod program;
-mod reading;
-mod result;
 mod rows;
 pub mod segments;
 pub mod settings;
-mod sizing;
+mod size_used;
 mod sorting;
-mod special;
+mod special_sections;
 mod stabs;
-mod standing;
 pub mod stop;
 mod symbols;
-mod taker;
 #[cfg(test)]
 mod tests;
-mod unwinding;
-mod values;
 
+pub use eh_frame::hdr::{EhFrameHdr, EhFrameHdrProblem, FrameRow};
 pub use evaluation::Evaluation;
 pub use flags::Flags;
 pub use merging::{AllMerges, Merges};
+pub use placement_by_name::NamePlacement;
 pub use settings::Settings;
 pub use stop::{NotEvaluated, Refused, RefusedReason, Stop};
-pub use taker::Taker;
 
 use crate::objects::{Object, ObjectIndex};
 use crate::script::tree::{Name, Script, Span};
 use bstr::{BStr, BString, ByteSlice};
-pub(crate) use expression::is_plain as gives_number;
+pub(crate) use expr::compiled::is_plain as gives_number;
 pub(crate) use glob::has_wildcard;
 use link::Link;
 use program::Program;
@@ -108,8 +97,8 @@ impl Layout {
 
     /// Takes objects some of which changed; gives whether that is all: their sections have the names, types, flags and
     /// alignments that they had, and `evaluate` may follow. Else a new one must be made.
-    pub fn renew(&mut self, objects: &[Object], changed: &[ObjectIndex]) -> bool {
-        self.rows.renew(&self.program.names, objects, changed)
+    pub fn update(&mut self, objects: &[Object], changed: &[ObjectIndex]) -> bool {
+        self.rows.update(&self.program.names, objects, changed)
     }
 
     /// Sets whether what `.eh_frame` names is kept with it.
@@ -123,7 +112,7 @@ impl Layout {
     }
 
     /// Takes what an evaluation merged, of which the next one uses what is the same.
-    pub fn remember(&mut self, merged: AllMerges) {
+    pub fn set_merged(&mut self, merged: AllMerges) {
         self.merged = merged;
     }
 

@@ -1,8 +1,8 @@
 //! The order of GNU ld's table of symbols.
 
 use super::link::Link;
+use crate::fast_map::FastSet;
 use crate::objects::Object;
-use crate::quick::QuickSet;
 
 /// The names in the order of GNU ld's table of symbols, which depends on the order in which they were entered.
 pub(crate) fn table_order<'a>(link: &'a Link<'_>, objects: &'a [Object]) -> Vec<&'a [u8]> {
@@ -15,7 +15,7 @@ pub(crate) fn table_order<'a>(link: &'a Link<'_>, objects: &'a [Object]) -> Vec<
     }
     names.extend(named.map(|(_, name)| name.as_slice()));
     let mut found: Vec<&[u8]> = Vec::new();
-    let mut seen: QuickSet<&[u8]> = QuickSet::default();
+    let mut seen: FastSet<&[u8]> = FastSet::default();
     for name in names {
         if seen.insert(name) {
             found.push(name);

@@ -68,7 +68,7 @@ enum Sort {
     Data,
     Bss,
     Relocations,
-    Notes,
+    GnuProperty,
     NotAllocated,
 }
 
@@ -162,7 +162,7 @@ impl Orphans {
         let flags = self.flags_of(link, id, section);
         let sort = sort_of(flags, section.kind);
         let after = sort.and_then(|sort| self.after(link, sort, section, flags));
-        self.insert(link, id, name, sort, after, is_special)
+        self.insert(link, id, sort, &NewOutput { name, after, is_special })
     }
 
     /// The output sections after which sorts go, if the script has them.
@@ -217,65 +217,79 @@ impl Orphans {
         found
     }
 
-    /// A new output section, after another one.
-    fn insert(
-        &mut self,
-        link: &mut Link<'_>,
-        id: SectionId,
-        name: NameId,
-        sort: Option<Sort>,
-        after: Option<OutputId>,
-        is_special: bool,
-    ) -> Result<(), Stop> {
-        let name = link.program.names.get(name).to_owned();
-        let is_loaded = link.section(id).map_or(false, |section| section.flags.has(Flags::LOAD | Flags::ALLOC));
-        let own = link.program.output(&name, None);
-        let (region, load_region, segments) = match after.and_then(|after| link.output(after)) {
-            Some(after) if is_loaded => (after.region, after.load_region, after.segments.clone()),
-            _ => (link.program.region(DEFAULT), None, Vec::new()),
-        };
-        let default = link.program.default_region;
-        let address = if is_loaded { None } else { Some(link.program.expressions.number(0)) };
-        if let Some(output) = link.output_mut(own) {
-            output.is_orphan = true;
-            output.constraint = if is_special { Constraint::Special } else { Constraint::None };
-            output.address = address;
-            output.load_region = load_region;
-            output.segments = segments;
-            output.region = match load_region {
-                Some(load) if Some(region) == default && address.is_none() => load,
-                _ => region,
-            };
-        }
+    /// A new output section with its first input section, after another one.
+    fn insert(&mut self, link: &mut Link<'_>, id: SectionId, sort: Option<Sort>, new: &NewOutput) -> Result<(), Stop> {
+        let own = make_output(link, id, new);
         add(link, own, id)?;
-        match sort.and_then(|sort| self.holds.get_mut(sort as usize)) {
+        match sort {
+            Some(sort) => self.put_after(link, id, own, sort, new.after),
             None => append(link, own),
-            Some(hold) => {
-                let next = hold.next_listed(link, own, after);
-                let beside = match next {
-                    Some(_) if is_note_section(link, id) => {
-                        let beside = beside_of_note(link, own, id);
-                        self.has_notes = beside.is_some();
-                        beside
-                    }
-                    Some(next) if self.has_notes && is_note(link, next) => Some(last_note(link, next)),
-                    _ => None,
-                };
-                list(link, own, next, beside);
-                let (after, is_apart) = match beside {
-                    Some(beside) => (beside.after(link), true),
-                    None => (after, hold.last.is_none()),
-                };
-                if is_apart {
-                    insert_after(link, own, after);
-                } else if let Some(last) = hold.last {
-                    insert_behind(link, own, last);
-                }
-                hold.last = Some(own);
-            }
         }
         Ok(())
     }
+
+    /// Puts a new output section after another one, behind those of its sort that were put there before; a note goes
+    /// beside others.
+    fn put_after(&mut self, link: &mut Link<'_>, id: SectionId, own: OutputId, sort: Sort, after: Option<OutputId>) {
+        let hold = match self.holds.get_mut(sort as usize) {
+            Some(hold) => hold,
+            None => return append(link, own),
+        };
+        let next = hold.next_listed(link, own, after);
+        let beside = match next {
+            Some(_) if is_note_section(link, id) => {
+                let beside = beside_of_note(link, own, id);
+                self.has_notes = beside.is_some();
+                beside
+            }
+            Some(next) if self.has_notes && is_note(link, next) => Some(last_note(link, next)),
+            _ => None,
+        };
+        list(link, own, next, beside);
+        match (beside, hold.last) {
+            (Some(beside), _) => {
+                let after = beside.after(link);
+                insert_after(link, own, after);
+            }
+            (None, Some(last)) => insert_behind(link, own, last),
+            (None, None) => insert_after(link, own, after),
+        }
+        hold.last = Some(own);
+    }
+}
+
+/// An output section that is made for orphans.
+struct NewOutput {
+    name: NameId,
+    /// The one after which it goes; `None`: in front of all.
+    after: Option<OutputId>,
+    /// Whether it is another one than that of its name in the script.
+    is_special: bool,
+}
+
+/// Makes an output section for an input section, in the memory of the one after which it goes.
+fn make_output(link: &mut Link<'_>, id: SectionId, new: &NewOutput) -> OutputId {
+    let name = link.program.names.get(new.name).to_owned();
+    let is_loaded = link.section(id).map_or(false, |section| section.flags.has(Flags::LOAD | Flags::ALLOC));
+    let own = link.program.output(&name, None);
+    let (region, load_region, segments) = match new.after.and_then(|after| link.output(after)) {
+        Some(after) if is_loaded => (after.region, after.load_region, after.segments.clone()),
+        _ => (link.program.region(DEFAULT), None, Vec::new()),
+    };
+    let default = link.program.default_region;
+    let address = if is_loaded { None } else { Some(link.program.expressions.number(0)) };
+    if let Some(output) = link.output_mut(own) {
+        output.is_orphan = true;
+        output.constraint = if new.is_special { Constraint::Special } else { Constraint::None };
+        output.address = address;
+        output.load_region = load_region;
+        output.segments = segments;
+        output.region = match load_region {
+            Some(load) if Some(region) == default && address.is_none() => load,
+            _ => region,
+        };
+    }
+    own
 }
 
 fn set_fate(link: &mut Link<'_>, id: SectionId, fate: Fate) {
@@ -325,7 +339,7 @@ fn sort_of(flags: Flags, kind: u32) -> Option<Sort> {
     }
     let is_loaded = flags.has(Flags::LOAD);
     Some(if is_loaded && kind == elf::SHT_NOTE {
-        Sort::Notes
+        Sort::GnuProperty
     } else if !flags.has(Flags::LOAD | Flags::CONTENTS | Flags::TLS) {
         Sort::Bss
     } else if flags.has(Flags::TLS) {

@@ -1,10 +1,10 @@
 //! A script in the form that the passes use: tables of its statements, with what each pass leaves for the next.
 
 use super::evaluation::{Base, Gap};
-use super::expression::Expressions;
+use super::expr::compiled::Expressions;
 use super::flags::Flags;
 use super::ids::{ExprId, NameId, OutputId, RegionId, SectionId, StatementId, SymbolId};
-use super::names::{Names, QuickMap};
+use super::interned_names::{FastMap, InternedNames};
 use super::symbols::Symbols;
 use crate::script::tree::{DataWidth, InputStatement, InsertPlace, Name, Provision, Span};
 
@@ -235,13 +235,13 @@ pub(crate) struct Program {
     /// The output sections that are made, as GNU ld lists them: in the order in which that was done, those of orphans
     /// at their places.
     pub made: Vec<OutputId>,
-    pub outputs_of: QuickMap<NameId, Vec<OutputId>>,
+    pub outputs_of: FastMap<NameId, Vec<OutputId>>,
     pub takings: Vec<Taking>,
     pub expressions: Expressions,
     pub symbols: Symbols,
-    pub names: Names,
+    pub names: InternedNames,
     pub regions: Vec<Region>,
-    pub region_names: QuickMap<Name, RegionId>,
+    pub region_names: FastMap<Name, RegionId>,
     /// `*default*`
     pub default_region: Option<RegionId>,
     /// LD_FEATURE("SANE_EXPR")

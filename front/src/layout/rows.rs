@@ -4,8 +4,8 @@ use super::commons;
 use super::evaluation::{Fate, InputSection, Origin};
 use super::flags::Flags;
 use super::ids::{NameId, SectionId};
+use super::interned_names::{FastMap, InternedNames};
 use super::matching::{matches_of, Match};
-use super::names::{Names, QuickMap};
 use super::program::Taking;
 use super::settings::Settings;
 use crate::objects::{Object, ObjectIndex, Section, SectionIndex, SectionKind};
@@ -21,7 +21,7 @@ pub(crate) struct Rows {
     /// By object: its first section.
     first: Vec<usize>,
     /// By object: the section of its common blocks.
-    commons: QuickMap<ObjectIndex, SectionId>,
+    commons: FastMap<ObjectIndex, SectionId>,
 }
 
 /// A section that no header has.
@@ -73,14 +73,14 @@ fn build_id_section(size: u64) -> Made {
 
 impl Rows {
     /// The rows of objects; names are entered into `names`.
-    pub fn new(takings: &[Taking], names: &mut Names, objects: &[Object], settings: &Settings) -> Rows {
+    pub fn new(takings: &[Taking], names: &mut InternedNames, objects: &[Object], settings: &Settings) -> Rows {
         let owners = commons::owners(objects);
         let count = objects.iter().map(|object| object.section_count()).sum::<usize>() + 16;
         let mut rows = Rows {
             sections: Vec::with_capacity(count),
             matches: Vec::new(),
             first: Vec::with_capacity(objects.len()),
-            commons: QuickMap::default(),
+            commons: FastMap::default(),
         };
         let is_properties = |section: Section<'_>| section.name == ".note.gnu.property";
         let own = objects.iter().position(|object| linked(object).any(is_properties)).unwrap_or(0);
@@ -107,7 +107,7 @@ impl Rows {
     }
 
     /// Adds a section that no header has.
-    fn add(&mut self, object: ObjectIndex, names: &mut Names, made: &Made) {
+    fn add(&mut self, object: ObjectIndex, names: &mut InternedNames, made: &Made) {
         self.sections.push(InputSection {
             object,
             origin: made.origin,
@@ -117,6 +117,7 @@ impl Rows {
             bits: 0,
             entry_size: 0,
             size: made.size,
+            own_size: made.size,
             own_align: made.align,
             align: made.align,
             fate: Fate::Open,
@@ -141,7 +142,7 @@ impl Rows {
 
     /// Takes the sizes of objects that changed; gives whether the rows stay: names, types, flags, alignments and the
     /// objects with common blocks are as they were.
-    pub fn renew(&mut self, names: &Names, objects: &[Object], changed: &[ObjectIndex]) -> bool {
+    pub fn update(&mut self, names: &InternedNames, objects: &[Object], changed: &[ObjectIndex]) -> bool {
         if objects.len() != self.first.len() || commons::owners(objects).len() != self.commons.len() {
             return false;
         }
@@ -161,10 +162,10 @@ impl Rows {
                     Some(name) => of_object(*id, object, &section, name),
                     None => return false,
                 };
-                if new != (InputSection { size: new.size, ..old.clone() }) {
+                if new != (InputSection { size: new.size, own_size: new.size, ..old.clone() }) {
                     return false;
                 }
-                old.size = new.size;
+                (old.size, old.own_size) = (new.size, new.size);
             }
         }
         commons::owners(objects).iter().all(|id| self.commons.contains_key(id))
@@ -182,6 +183,11 @@ pub(crate) fn of_object(number: ObjectIndex, object: &Object, section: &Section<
     let flags = Flags::of_section(section.name, section.kind.0, section.flags.0);
     // ldelf.c, `ldelf_setup_build_id`: the note's section has no SEC_HAS_CONTENTS, by which an orphan finds its place.
     let flags = if object.is_build_note() { flags.without(Flags::CONTENTS) } else { flags };
+    // ldelf.c, `ldelf_after_open`: the table of `.eh_frame` is none of SEC_DATA, and has no type until it is written.
+    let (flags, kind) = match object.is_eh_frame_hdr() {
+        true => (flags.without(Flags::DATA), elf::SHT_NULL),
+        false => (flags, section.kind.0),
+    };
     let align = 1u64.checked_shl(section.align.trailing_zeros()).unwrap_or(1);
     let is_out = flags.has(Flags::EXCLUDE);
     InputSection {
@@ -189,10 +195,11 @@ pub(crate) fn of_object(number: ObjectIndex, object: &Object, section: &Section<
         origin: Origin::Header(section.index),
         name,
         flags,
-        kind: section.kind.0,
+        kind,
         bits: section.flags.0,
         entry_size: section.entry_size,
         size: section.size,
+        own_size: section.size,
         own_align: align,
         align,
         fate: if is_out { Fate::Discarded } else { Fate::Open },

@@ -1,8 +1,8 @@
 //! The order of the sections that an input statement takes (ldlang.c, `wild_sort`).
 
 use super::evaluation::InputSection;
+use super::interned_names::InternedNames;
 use super::matching::Match;
-use super::names::Names;
 use super::settings::SectionSort;
 use super::stop::{not_evaluated, NotEvaluatedReason, Stop};
 use crate::script::tree::{InputStatement, Pattern, Sort, Span};
@@ -26,7 +26,7 @@ pub(crate) type FileNames<'a> = (&'a [u8], &'a [u8]);
 /// What a sort goes by.
 pub(crate) struct Sorting<'a> {
     pub sections: &'a [InputSection],
-    pub names: &'a Names,
+    pub names: &'a InternedNames,
     /// By object.
     pub files: &'a [FileNames<'a>],
     /// `--sort-section`

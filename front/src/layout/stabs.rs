@@ -2,9 +2,9 @@
 //! table of names of those of all objects, and leaves out rows that describe a header again, or code that is not in the
 //! image (bfd/stabs.c of 2.40: `_bfd_link_section_stabs`, `_bfd_discard_section_stabs`, `_bfd_write_section_stabs`).
 
-use super::deleted::Deleted;
 use super::evaluation::InputSection;
 use super::flags::Flags;
+use super::gc::deleted_symbols::DeletedSymbols;
 use super::ids::{NameId, SectionId};
 use super::link::Link;
 use crate::objects::{Object, ObjectIndex, SectionFlags, SectionIndex, Shortened};
@@ -152,7 +152,7 @@ impl Link<'_> {
             Some((section.object, section.number()?))
         };
         let own: Vec<Option<(ObjectIndex, SectionIndex)>> = stabs.sections.iter().map(own).collect();
-        let deleted = Deleted::of(self, objects, own.iter().flatten().copied());
+        let deleted = DeletedSymbols::of(self, objects, own.iter().flatten().copied());
         let codes = |(index, number): (ObjectIndex, SectionIndex)| {
             let relocations = objects.get(index.0 as usize).map(|object| object.relocations(number));
             let relocations = relocations.into_iter().flatten();

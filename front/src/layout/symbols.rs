@@ -2,7 +2,7 @@
 
 use super::evaluation::Base;
 use super::ids::{OutputId, SectionId, StatementId, SymbolId};
-use super::names::QuickMap;
+use super::interned_names::FastMap;
 use crate::script::tree::Name;
 use bstr::ByteSlice;
 
@@ -63,7 +63,7 @@ impl SymbolState {
 #[derive(Clone, Default, Debug)]
 pub(crate) struct Symbols {
     all: Vec<SymbolState>,
-    ids: QuickMap<Name, SymbolId>,
+    ids: FastMap<Name, SymbolId>,
     /// The symbols that something has named, in the order in which it did, each with the number of objects that were
     /// read before.
     named: Vec<(usize, SymbolId)>,

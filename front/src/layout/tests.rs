@@ -528,11 +528,11 @@ fn rows_stay_while_sizes_change_alone() {
     let old = [of(b"123", ".text"), plain()];
     let mut layout = Layout::new(&reading.script, &old, &settings).unwrap();
     let new = [of(b"1234567", ".text"), plain()];
-    assert!(layout.renew(&new, &[ObjectIndex(0)]));
+    assert!(layout.update(&new, &[ObjectIndex(0)]));
     let found = layout.evaluate(&new).unwrap();
     assert_eq!(sections(&found), sections(&evaluate(&reading.script, &new, &settings).unwrap()));
-    assert!(!layout.renew(&[of(b"1", ".text.x"), plain()], &[ObjectIndex(0)]));
-    assert!(!layout.renew(&new[..1], &[ObjectIndex(0)]));
+    assert!(!layout.update(&[of(b"1", ".text.x"), plain()], &[ObjectIndex(0)]));
+    assert!(!layout.update(&new[..1], &[ObjectIndex(0)]));
 }
 
 #[test]
@@ -593,4 +593,31 @@ fn entries_of_frames_are_those_of_gnu_ld() {
     assert_eq!(of(all, &objects), (vec![0x2c, 0x14, 0x2c], Some(vec![0x10, 0, 0, 0, 0x30, 0, 0, 0])));
     let without = "SECTIONS { /DISCARD/ : { b.o(.text) } .text : { *(.text) } .eh_frame : { *(.eh_frame) } }";
     assert_eq!(laid_with(without, &objects[..2], &settings).unwrap().section(SectionId::new(2)).unwrap().size, 0);
+}
+
+/// elf-eh-frame.c, `write_dwarf_eh_frame_hdr`: a row for each entry, ascending by the code; none if a section is not
+/// understood, and no table without entries.
+#[test]
+fn a_table_of_frames_has_a_row_for_each() {
+    let own = Object::eh_frame_hdr("t".into(), Origin::of_file(Path::new("a.o")));
+    let objects = [with_entry("a.o", "f", b"zR"), own, with_entry("b.o", "g", b"zR"), with_entry("c.o", "h", b"zX")];
+    let settings = Settings { merges: true, ..Settings::default() };
+    let frames = "SECTIONS { . = 0x1000; .table : { *(.eh_frame_hdr) } .eh_frame : { *(.eh_frame) }";
+    let of = |script: &str, objects: &[Object]| {
+        let found = laid_with(&format!("{script} .text : {{ b.o(.text) *(.text) }} }}"), objects, &settings).unwrap();
+        let place =
+            |name: &str| found.in_image().find(|(output, _)| output.name == name).map(|(_, place)| place.clone());
+        let size = place(".table").map(|place| place.size);
+        let starts = [".text", ".eh_frame"].map(|name| place(name).map_or(0, |place| place.address));
+        (size, starts, found.eh_frame_hdr)
+    };
+    let (size, [text, entries], table) = of(frames, &objects[..3]);
+    let table = table.unwrap();
+    let rows: Vec<_> =
+        table.rows.unwrap().iter().map(|row| (row.code - text, row.range, row.entry - entries)).collect();
+    assert_eq!((size, rows, table.problem), (Some(28), vec![(0, 3, 0x2c), (4, 3, 0x18)], None));
+    let (size, _, table) = of(frames, &objects);
+    assert_eq!((size, table.map(|table| (table.rows, table.unknown.len()))), (Some(8), Some((None, 1))));
+    let without = frames.replace(".eh_frame :", "/DISCARD/ :");
+    assert_eq!(of(&without, &objects[..3]), (None, [0x1000, 0], None));
 }

@@ -89,11 +89,21 @@ impl<'a> Headers<'a> {
         (at, entries(bytes))
     }
 
-    /// Whether a section has the entries by which exceptions find their way, which say nothing of what is left out.
-    pub(super) fn is_of_exceptions(self, section: &SectionHeader64<Little>) -> bool {
+    /// The number of the section of names of sections.
+    pub(super) fn names_in(self) -> SectionIndex {
+        SectionIndex(self.names_in as u32)
+    }
+
+    /// The name of a section; empty if the table of names does not have it.
+    pub(super) fn name(self, section: &SectionHeader64<Little>) -> &'a [u8] {
         let names = self.headers.get(self.names_in).map_or(&[][..], |names| self.contents(names).1);
         let name = names.get(section.sh_name(Little) as usize..).unwrap_or_default();
-        let name = name.split(|byte| *byte == 0).next().unwrap_or_default();
+        name.split(|byte| *byte == 0).next().unwrap_or_default()
+    }
+
+    /// Whether a section has the entries by which exceptions find their way, which say nothing of what is left out.
+    pub(super) fn is_of_exceptions(self, section: &SectionHeader64<Little>) -> bool {
+        let name = self.name(section);
         name == b".eh_frame" || name == b".gcc_except_table"
     }
 

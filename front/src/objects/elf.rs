@@ -36,6 +36,7 @@ pub struct Elf {
     hashes: Vec<u32>,
     has_commons: bool,
     has_groups: bool,
+    has_unlinked: bool,
     /// Flags that the bytes do not have any more, by section; ascending.
     cleared: Vec<(SectionIndex, SectionFlags)>,
 }
@@ -96,6 +97,7 @@ impl Elf {
         tables.relocations = relocation_tables(headers, &data);
         tables.has_groups = headers.iter().any(|one| one.sh_type.get(Little) == elf::SHT_GROUP)
             || tables.section_names.iter().any(|name| tables.text(*name).starts_with(LINK_ONCE));
+        tables.has_unlinked = headers.iter().skip(1).any(|one| is_unlinked(one.sh_type.get(Little)));
         tables.read_globals();
         if tables.has_commons && tables.globals().any(|symbol| symbol.name == SLIM_LTO) {
             return Err(ObjectFault::SlimLto);
@@ -114,6 +116,7 @@ impl Elf {
             hashes: Vec::new(),
             has_commons: false,
             has_groups: false,
+            has_unlinked: false,
             cleared: Vec::new(),
         }
     }
@@ -221,6 +224,11 @@ impl Elf {
         self.has_groups
     }
 
+    /// Whether there are headers of groups, or without a type, as those of sections that were left out have none.
+    pub fn has_unlinked(&self) -> bool {
+        self.has_unlinked
+    }
+
     /// The flags of sections that the bytes do not have any more.
     pub(super) fn cleared(&self) -> &[(SectionIndex, SectionFlags)] {
         &self.cleared
@@ -241,6 +249,19 @@ impl Elf {
         self.hashes.iter().enumerate().map(move |(index, hash)| (*hash, SymbolIndex((first + index) as u32)))
     }
 
+    /// The sections that have tables of relocations, with the number of relocations, in the order of their headers.
+    pub fn relocated_sections(&self) -> impl Iterator<Item = (SectionIndex, usize)> + '_ {
+        let mut rest = self.relocations.as_slice();
+        std::iter::from_fn(move || {
+            let (section, _) = *rest.first()?;
+            let (own, others) = rest.split_at(rest.partition_point(|(other, _)| *other == section));
+            rest = others;
+            let count = own.iter().map(|(_, table)| table.length as usize / RELOCATION as usize).sum();
+            Some((section, count))
+        })
+        .filter(|(section, _)| (1..self.section_count()).contains(&(section.0 as usize)))
+    }
+
     /// Whether a section has relocations.
     pub fn has_relocations(&self, section: SectionIndex) -> bool {
         self.tables_of(section).any(|table| table.length > 0)
@@ -249,11 +270,6 @@ impl Elf {
     /// Whether a section has a table of relocations, which may be empty.
     pub fn has_relocation_table(&self, section: SectionIndex) -> bool {
         self.tables_of(section).next().is_some()
-    }
-
-    /// How many relocations a section has.
-    pub fn relocation_count(&self, section: SectionIndex) -> usize {
-        self.tables_of(section).map(|table| table.length as usize / std::mem::size_of::<Rela64<Little>>()).sum()
     }
 
     /// The relocations of a section, in the order of its tables.
@@ -371,6 +387,11 @@ fn header_of(data: &[u8]) -> Result<&FileHeader64<Little>, ObjectFault> {
         (elf::ET_REL, _) => Ok(header),
         (kind, _) => Err(ObjectFault::NotRelocatable(kind)),
     }
+}
+
+/// Whether a type is that of a group, or none.
+fn is_unlinked(kind: u32) -> bool {
+    matches!(kind, elf::SHT_NULL | elf::SHT_GROUP)
 }
 
 fn relocation_of(entry: &Rela64<Little>) -> Relocation {

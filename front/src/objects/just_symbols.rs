@@ -1,6 +1,6 @@
 //! `-R FILE`: an object of the symbols of another image, each at its address (GNU ld manual, `--just-symbols`).
 
-use super::tabled::Written;
+use super::got_entries::Written;
 use crate::snapshot::Bytes;
 use object::elf::{self, FileHeader64, Sym64};
 use object::read::elf::FileHeader;

@@ -2,46 +2,52 @@
 
 mod aliases;
 mod build_note;
-mod commons;
+mod common_definitions;
 mod draft;
+mod eh_frame_hdr;
 mod elf;
 mod filter;
+mod gnu_property;
+mod got_entries;
+mod got_relaxing;
 mod groups;
 mod just_symbols;
-mod merged;
-mod merging;
-mod names;
+mod link_names;
+mod merge_strings;
+mod merged_object;
 mod overridden;
 mod profile;
-mod properties;
-mod relaxing;
 mod section;
 mod shortened;
 mod symbol;
-mod tabled;
 #[cfg(test)]
 pub(crate) mod tests;
+mod unpacked;
 mod wrapping;
 
 pub use aliases::with_aliases;
 pub use build_note::{build_note, build_note_object, BUILD_ID_SECTION, NOTE_HEAD};
-pub use commons::{with_common_section, BlockPlace, CommonSection};
+pub use common_definitions::{with_common_section, BlockPlace, CommonSection};
+pub use eh_frame_hdr::{
+    eh_frame_hdr_object, no_eh_frame_hdr_object, with_section_names, Distance, EH_FRAME_HDR, EH_FRAME_HDR_HEAD,
+    EH_FRAME_HDR_SECTION, EH_FRAME_HDR_START, FRAME_ANCHOR, FRAME_COUNT_SIZE, FRAME_ROW_SIZE,
+};
 pub use elf::Elf;
 pub(crate) use filter::NameFilter;
+pub use gnu_property::{Properties, PROPERTIES};
+pub use got_entries::{
+    got_object, GotReference, GotSlot, GotUse, NamedLocal, ENTRY_SIZE, GLOBAL_OFFSET_TABLE, GOT_START, HEADER_SECTION,
+};
 pub use groups::{once_of, Once, OnceKey};
 pub use just_symbols::just_symbols;
-pub use merged::{Leaving, MergeFindings, MergeRequests, OwnMerged, MERGED};
-pub use merging::{MergeKind, MergeSource, Merged, MergedPart};
-pub use names::{Definition, LinkNames};
+pub use link_names::{Definition, LinkNames};
+pub use merge_strings::{MergeKind, MergeSource, Merged, MergedPart};
+pub use merged_object::{Leaving, MergeFindings, MergeRequests, OwnMerged, MERGED};
 pub use overridden::without_names;
-pub use profile::{binary_object, session_name, with_loaded, GREATEST_NAME};
-pub use properties::{Properties, PROPERTIES};
+pub use profile::{binary_object, session_name, with_loaded};
 pub use section::{Relocation, Section, SectionFlags, SectionIndex, SectionKind};
 pub use shortened::{with_shortened, Shortened};
 pub use symbol::{Binding, Home, Rank, Symbol, SymbolIndex, SymbolKind, Visibility};
-pub use tabled::{
-    table_object, NamedLocal, TableEntry, Tabled, Wanted, ENTRY_SIZE, GLOBAL_OFFSET_TABLE, HEADER_SECTION, TABLE,
-};
 pub use wrapping::{with_wraps, wrapped_name};
 
 use crate::snapshot::Bytes;
@@ -136,9 +142,10 @@ struct Inner {
     retained: Vec<SectionIndex>,
     relaxed: Vec<(SectionIndex, u64)>,
     unique: Vec<SymbolIndex>,
-    tabled: Vec<Tabled>,
+    tabled: Vec<GotReference>,
     has_note_of_link: bool,
     is_build_note: bool,
+    is_eh_frame_hdr: bool,
 }
 
 impl Object {
@@ -148,6 +155,7 @@ impl Object {
     /// by a global offset table if none is needed. Sections with SHF_GNU_RETAIN are in [`Object::retained`]. Bytes
     /// that are no object have no sections and no symbols, and [`Object::fault`] says why.
     pub fn new(name: BString, origin: Origin, data: Bytes) -> Object {
+        let data = unpacked::unpacked(&data).unwrap_or(data);
         let Profiled { data, cleared, retained, relaxed, tabled, unique } = Profiled::of(data);
         let (elf, fault) = match Elf::parse_cleared(data.clone(), cleared) {
             Ok(elf) => (elf, None),
@@ -164,6 +172,7 @@ impl Object {
             tabled,
             has_note_of_link: false,
             is_build_note: false,
+            is_eh_frame_hdr: false,
         }))
     }
 
@@ -182,7 +191,7 @@ impl Object {
     }
 
     /// The references that need a global offset table.
-    pub fn tabled(&self) -> &[Tabled] {
+    pub fn got_references(&self) -> &[GotReference] {
         &self.0.tabled
     }
 
@@ -252,6 +261,20 @@ impl Object {
     /// Whether it is the linker's own, with the note of a build ID.
     pub fn is_build_note(&self) -> bool {
         self.0.is_build_note
+    }
+
+    /// An object of the linker's own, with a table of the entries of `.eh_frame` in its section number 1, which has no
+    /// rows yet.
+    pub fn eh_frame_hdr(name: BString, origin: Origin) -> Object {
+        let data = eh_frame_hdr_object(&[0; EH_FRAME_HDR_HEAD as usize], &[], &[]);
+        let mut object = Object::new(name, origin, data).with_retained(&[EH_FRAME_HDR_SECTION]);
+        Arc::make_mut(&mut object.0).is_eh_frame_hdr = true;
+        object
+    }
+
+    /// Whether it is the linker's own, with a table of the entries of `.eh_frame`.
+    pub fn is_eh_frame_hdr(&self) -> bool {
+        self.0.is_eh_frame_hdr
     }
 
     /// Whether its note of properties is that of the whole link.

@@ -1,9 +1,10 @@
 //! Converts an object into the profile: what `ldi` need not know is removed, and names become those of its session.
 
 use super::draft::{Draft, Headers};
-use super::relaxing::{relaxed, Reference, Referred};
-use super::tabled::{tabled, wants_table, Tabled};
+use super::got_entries::{got_references, wants_table, GotReference};
+use super::got_relaxing::{relaxed, Reference, Referred};
 use super::{SectionFlags, SectionIndex, SymbolIndex};
+use crate::profile::limits::MAX_OBJECT_NAME;
 use crate::snapshot::Bytes;
 use bstr::{BString, ByteVec};
 use object::elf::{self, FileHeader64, Rela64, SectionHeader64, Sym64};
@@ -11,8 +12,6 @@ use object::read::elf::{FileHeader, SectionHeader};
 use object::LittleEndian as Little;
 use std::collections::HashSet;
 
-/// The most bytes of a name in the session of `ldi`.
-pub const GREATEST_NAME: usize = 255;
 /// The number of `ELFOSABI_GNU` and that of `ELFOSABI_FREEBSD`, under which SHF_GNU_RETAIN and STB_GNU_UNIQUE count.
 const SYSTEMS: [u8; 2] = [elf::ELFOSABI_GNU, elf::ELFOSABI_FREEBSD];
 /// Where `EI_OSABI` is.
@@ -27,14 +26,15 @@ const ADDEND_AT: usize = 16;
 pub(super) struct Profiled {
     /// The bytes.
     pub(super) data: Bytes,
-    /// Flags that `ldi` need not know and that the layout goes by: SHF_GROUP and SHF_LINK_ORDER; ascending.
+    /// Flags that `ldi` need not know and that the layout goes by: SHF_GROUP, SHF_LINK_ORDER and SHF_X86_64_LARGE;
+    /// ascending.
     pub(super) cleared: Vec<(SectionIndex, SectionFlags)>,
     /// The sections that had SHF_GNU_RETAIN.
     pub(super) retained: Vec<SectionIndex>,
     /// Where references by a global offset table became others: section and offset, in the order of the tables.
     pub(super) relaxed: Vec<(SectionIndex, u64)>,
     /// The references that need a table.
-    pub(super) tabled: Vec<Tabled>,
+    pub(super) tabled: Vec<GotReference>,
     /// The symbols that had the binding STB_GNU_UNIQUE, ascending.
     pub(super) unique: Vec<SymbolIndex>,
 }
@@ -75,7 +75,7 @@ impl Profiled {
         is_of_system: bool,
     ) {
         let retain = if is_of_system { SectionFlags::GNU_RETAIN.0 } else { 0 };
-        let cleared = flags.0 & (SectionFlags::GROUP.0 | SectionFlags::LINK_ORDER.0);
+        let cleared = flags.0 & (SectionFlags::GROUP.0 | SectionFlags::LINK_ORDER.0 | SectionFlags::X86_64_LARGE.0);
         if flags.0 & retain != 0 {
             self.retained.push(number);
         }
@@ -112,7 +112,7 @@ impl Profiled {
             let relaxed = match relaxed(code, reference) {
                 Some(relaxed) => relaxed,
                 None => {
-                    self.tabled.extend(tabled(number, at, entry));
+                    self.tabled.extend(got_references(number, at, entry));
                     continue;
                 }
             };
@@ -182,7 +182,7 @@ pub fn with_loaded(data: &[u8], sections: &[SectionIndex]) -> Option<Vec<u8>> {
 /// A name that the session of `ldi` takes, and none of those in use, to which it is added: bytes outside of `!` to `~`
 /// are `_`, long names lose their front, and a name in use gets `#2`, `#3` and so on.
 pub fn session_name(name: &[u8], used: &mut HashSet<BString>) -> BString {
-    let front = name.len().saturating_sub(GREATEST_NAME);
+    let front = name.len().saturating_sub(MAX_OBJECT_NAME);
     let plain: Vec<u8> =
         name.iter().skip(front).map(|&byte| if byte.is_ascii_graphic() { byte } else { b'_' }).collect();
     let plain = if plain.is_empty() { b"_".to_vec() } else { plain };
@@ -191,7 +191,7 @@ pub fn session_name(name: &[u8], used: &mut HashSet<BString>) -> BString {
     while used.contains(&candidate) {
         count += 1;
         let end = format!("#{count}");
-        let kept = plain.len().min(GREATEST_NAME - end.len());
+        let kept = plain.len().min(MAX_OBJECT_NAME - end.len());
         candidate = BString::from(plain.get(plain.len() - kept..).unwrap_or_default());
         candidate.push_str(end);
     }

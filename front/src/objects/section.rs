@@ -81,6 +81,8 @@ impl SectionFlags {
     pub const COMPRESSED: SectionFlags = SectionFlags(0x800);
     /// SHF_GNU_RETAIN, in files of the systems GNU and FreeBSD
     pub const GNU_RETAIN: SectionFlags = SectionFlags(0x20_0000);
+    /// SHF_X86_64_LARGE
+    pub const X86_64_LARGE: SectionFlags = SectionFlags(0x1000_0000);
     /// SHF_EXCLUDE
     pub const EXCLUDE: SectionFlags = SectionFlags(0x8000_0000);
 

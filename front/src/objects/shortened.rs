@@ -2,7 +2,7 @@
 //! then, and the object that has no more than that.
 
 use super::draft::Headers;
-use super::merged::Written;
+use super::merged_object::Written;
 use super::SectionIndex;
 use crate::snapshot::Bytes;
 use object::elf::{self, Rela64, Sym64};

@@ -96,9 +96,10 @@ impl SymbolKind {
 }
 
 /// Where a symbol is (`st_shndx`).
-#[derive(Clone, Copy, PartialEq, Eq, Hash, Debug)]
+#[derive(Clone, Copy, PartialEq, Eq, Hash, Debug, Default)]
 pub enum Home {
     /// SHN_UNDEF
+    #[default]
     Undefined,
     /// SHN_ABS: its value is a number
     Absolute,

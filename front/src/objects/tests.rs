@@ -1,6 +1,7 @@
 //! An object that is written by hand after the gABI, and bytes that are no object.
 
 use super::*;
+use crate::profile::limits::MAX_OBJECT_NAME;
 use std::collections::HashSet;
 
 /// Of an object that is written: a section's name, type, flags and bytes.
@@ -309,9 +310,9 @@ fn names_of_the_session_are_printable_short_and_used_once() {
     assert_eq!(name("my file\u{e9}.o".as_bytes()), "my_file__.o");
     assert_eq!(name(b""), "_");
     let long = [b"d/".repeat(200), b"a.o".to_vec()].concat();
-    assert_eq!(name(&long).as_bytes(), &long[long.len() - GREATEST_NAME..]);
+    assert_eq!(name(&long).as_bytes(), &long[long.len() - MAX_OBJECT_NAME..]);
     let second = name(&long);
-    assert!(second.len() == GREATEST_NAME && second.ends_with("a.o#2"), "{second}");
+    assert!(second.len() == MAX_OBJECT_NAME && second.ends_with("a.o#2"), "{second}");
 }
 
 #[test]

@@ -6,7 +6,8 @@ use bstr::ByteSlice;
 
 use crate::command::{help, Ask, Command};
 use crate::plan::{own_version, Environment, Scripts};
-use crate::streams::{self, Stream};
+use crate::stdio;
+use crate::stdio::Stream;
 
 /// The release of GNU ld whose command line this is; the last word of the version, which builds ask for.
 const FOLLOWS: &str = "2.40";
@@ -16,7 +17,7 @@ pub(super) fn print(command: &Command, scripts: Option<&Scripts>, environment: &
     let mut out = Vec::new();
     // Memory takes all that is written.
     let _ = write(&mut out, command, scripts, environment);
-    streams::print(Stream::Output, &out);
+    stdio::print(Stream::Output, &out);
 }
 
 fn write(

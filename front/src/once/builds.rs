@@ -9,8 +9,8 @@ use std::hash::{Hash, Hasher};
 use std::os::unix::fs::OpenOptionsExt;
 use std::path::Path;
 
-use crate::place::runtime_folder;
 use crate::plan::Environment;
+use crate::publish::runtime_folder;
 
 /// The names of programs that run builds.
 const BUILDERS: &[&str] = &[
@@ -19,7 +19,7 @@ const BUILDERS: &[&str] = &[
 ];
 const PREFIX: &str = "told.";
 /// How many processes above this one are looked at.
-const GREATEST_DEPTH: usize = 64;
+const MAX_DEPTH: usize = 64;
 
 /// A process: its name, its parent, and the time of its start.
 struct Process {
@@ -38,7 +38,7 @@ fn process(number: u32) -> Option<Process> {
 /// What tells the build of a process from others; `None` if it is in none.
 fn build_of(mut number: u32) -> Option<String> {
     let mut found = None;
-    for _ in 0..GREATEST_DEPTH {
+    for _ in 0..MAX_DEPTH {
         let above = match process(number) {
             Some(above) => above,
             None => break,

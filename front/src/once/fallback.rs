@@ -9,7 +9,9 @@ use std::process::Command as Process;
 use super::builds::is_first;
 use super::{say, Status};
 use crate::plan::{is_own, others, Environment};
-use crate::streams::{self, Printed};
+use crate::report::os_message;
+use crate::stdio;
+use crate::stdio::Printed;
 
 /// The variable that names another linker.
 const VARIABLE: &str = "LDI_FALLBACK";
@@ -88,7 +90,7 @@ pub(crate) struct HandedOver {
 impl HandedOver {
     /// The reasons, with the text that `say_more` prints.
     pub(crate) fn of(reasons: &Reasons<'_>, environment: &Environment, is_verbose: bool) -> HandedOver {
-        let ((), more) = streams::keep(streams::error_style(), || reasons.say_more());
+        let ((), more) = stdio::keep(stdio::error_style(), || reasons.say_more());
         HandedOver {
             lines: reasons.lines.clone(),
             kind: reasons.kind.clone(),
@@ -106,7 +108,7 @@ impl HandedOver {
         if self.is_forbidden {
             forbid(&mut environment);
         }
-        let say_more = || self.more.iter().for_each(|one| streams::print(one.stream, &one.text));
+        let say_more = || self.more.iter().for_each(|one| stdio::print(one.stream, &one.text));
         let first = || self.first.clone().unwrap_or_default();
         let reasons = Reasons {
             lines: self.lines.clone(),
@@ -238,9 +240,7 @@ pub(super) fn hand_over(
     // What leads back here ends here.
     let mut process = Process::new(&path);
     process.arg0(&name).args(program.get(1..).unwrap_or_default()).args(of_others(words)).env(VARIABLE, NONE);
-    let fault = process.exec();
-    let why = fault.to_string();
-    let why = why.split(" (os error").next().unwrap_or_default();
+    let why = os_message(&process.exec());
     say(format!("{VARIABLE}: {}: {why}", name.to_string_lossy()));
     Status::Device
 }

@@ -7,8 +7,8 @@ use rustix::fs::Mode;
 
 use super::fallback::{hand_over, Reasons};
 use super::Status;
-use crate::place::{write_file, NotWritten, Reader};
 use crate::plan::Environment;
+use crate::publish::{write_file, NotWritten, Reader};
 
 /// What a link leaves to the process that makes it.
 pub(crate) trait Host {

@@ -6,32 +6,36 @@ use std::path::{Path, PathBuf};
 
 use bstr::{BStr, ByteSlice};
 
+use super::build_id::{with_build_id, without_build_id, Beside, FileFault, WithoutBuildId};
 use super::fallback::Reasons;
 use super::host::{Asked, Host};
-use super::identified::{identified, unidentified, Beside, FileFault};
 use super::maps::{self, Maps};
 use super::verdict::Verdict;
-use super::{messages, orphans, reasons_for_gnu_ld, say, tables, verdict};
+use super::{fatal, messages, orphans, reasons_for_gnu_ld, say, tables, verdict};
+use crate::adapted::{Note, NoteKind, Topic};
 use crate::checker::NoImage;
 use crate::command::Command;
-use crate::finish::LaidOut;
-use crate::finish::{FileImage, FinishError, Finished};
+use crate::finish::{FileImage, FinishError, Finished, KeptTables, LaidOut};
 use crate::inputs::InputFault;
 use crate::layout::stop::RefusedReason;
 use crate::layout::Stop;
-use crate::mirror::{Answered, Brought, Held, Mirror, Options, SessionError, Wanted};
-use crate::place::{NotWritten, PROGRAM, TEXT};
-use crate::plan::{find_program, options_of, Inputs, LinkPlan, PlanFault, Scripts, ScriptsFault};
+use crate::parallel::beside;
+use crate::plan::{find_program, options_of, Inputs, Kept, LinkPlan, PlanFault, Scripts, ScriptsFault};
+use crate::publish::{NotWritten, PROGRAM, TEXT};
 use crate::report::link_map::LinkMap;
-use crate::residual::{Note, NoteKind, Topic};
 use crate::script::tree::{Script, SectionsStatement, Statement};
+use crate::session_client::{Options, SessionClient, SessionError, SessionObject, SyncOutcome, Target};
 use crate::snapshot::Snapshot;
-use crate::streams::{self, Stream};
+use crate::stdio;
+use crate::stdio::Stream;
+use crate::unloaded::{KeptStrings, NotMade};
 
+/// Why no image is written if it is another than GNU ld's.
+pub(crate) const DIFFERS: &str = "the image would differ from GNU ld's (see above): none is written";
 /// The refused objects that are named.
-const GREATEST_LIST: usize = 20;
+const MAX_LIST: usize = 20;
 /// The references that NOCROSSREFS prohibits and that are named.
-const GREATEST_LINES: usize = 1000;
+const MAX_LINES: usize = 1000;
 
 /// The statuses of `ldi link`.
 #[derive(Clone, Copy, PartialEq, Eq, Debug)]
@@ -121,12 +125,12 @@ pub(crate) fn plan_link(
     mut command: Command,
     scripts: Scripts,
     snapshot: &mut Snapshot,
-    mirror: &mut Mirror,
+    client: &mut SessionClient,
     asked: &Asked<'_>,
 ) -> Result<Planned, LinkFault> {
-    if mirror.session().is_none() {
+    if client.session().is_none() {
         // It gets ready while the objects are read; if it cannot be started, that is said once they are.
-        let _ = mirror.start(&options_of(&command, None));
+        let _ = client.start(&options_of(&command, None));
     }
     let inputs = Inputs::load(&command, scripts, snapshot)?;
     if let (Some(output), false) = (inputs.scripts.output(), command.has_output) {
@@ -136,30 +140,42 @@ pub(crate) fn plan_link(
         inputs.loaded.objects.iter().for_each(|object| println!("{}", object.name()));
     }
     check_outputs(&command, snapshot)?;
-    let plan = make_plan(&command, inputs, mirror).map_err(|fault| session_fault(fault, asked))?;
+    let plan = make_plan(&command, inputs, client).map_err(|fault| session_fault(fault, asked))?;
     Ok(Planned { command, plan, verdict: None })
 }
 
 /// Links what is planned, and gives the exit status.
 pub(crate) fn make(
     planned: &mut Planned,
-    mirror: &mut Mirror,
+    client: &mut SessionClient,
     asked: Asked<'_>,
     host: &dyn Host,
 ) -> Result<Status, LinkFault> {
-    let session = |fault| session_fault(fault, &asked);
     let Planned { command, plan, verdict } = planned;
-    let link = Link { command, plan, known: verdict, asked, host };
-    if link.plan.residual.is_left() {
-        return link.end_with_left(mirror).map_err(session);
+    let mut kept = std::mem::take(&mut plan.kept);
+    let made = Link { command, plan, asked, host }.make(verdict, client, &mut kept);
+    plan.kept = kept;
+    let mut made = match made? {
+        Outcome::Made(made) => made,
+        Outcome::Ended(status) => return Ok(status),
+    };
+    let laid_out = LaidOut::of(made.verdict.agrees, made.pieces.as_ref());
+    let finished = made.file.and_then(|file| with_build_id(plan, file, laid_out, client));
+    let link = Link { command, plan, asked, host };
+    let finished = match finished {
+        Ok(finished) => finished,
+        Err(fault) => return link.no_file(fault),
+    };
+    if let Some(why) = fatal::warning(command, link.plan, &finished.file) {
+        return Ok(link.no_image(Some(why.clone()), &|| say(&why), Status::Faults));
     }
-    let plan = &*link.plan;
-    let wanted = Wanted { options: &plan.options, objects: plan.held(), script: &plan.residual.text };
-    let brought = mirror.bring(wanted).map_err(session)?;
-    match link.not_good(&brought, mirror).map_err(session)? {
-        Some(status) => Ok(status),
-        None => link.write_files(mirror, &session),
+    made.verdict.maps = made.maps;
+    link.write_files(&finished, &made.map, &made.verdict, client)?;
+    if host.keeps_session() {
+        client.reuse(finished.file.into_image());
     }
+    *verdict = Some(made.verdict);
+    Ok(Status::Good)
 }
 
 fn session_fault(fault: SessionError, asked: &Asked<'_>) -> LinkFault {
@@ -167,11 +183,11 @@ fn session_fault(fault: SessionError, asked: &Asked<'_>) -> LinkFault {
 }
 
 /// Plans a link. A session without objects takes them meanwhile; one that has some gets changes when the plan is made.
-fn make_plan(command: &Command, inputs: Inputs, mirror: &mut Mirror) -> Result<LinkPlan, SessionError> {
-    if mirror.has_objects() {
+fn make_plan(command: &Command, inputs: Inputs, client: &mut SessionClient) -> Result<LinkPlan, SessionError> {
+    if client.has_objects() {
         return Ok(LinkPlan::new(command, inputs));
     }
-    plan_while_sending(command, inputs, mirror)
+    plan_while_sending(command, inputs, client)
 }
 
 /// A plan that is made while a session takes the objects: first those that are sent as they were read, whatever the
@@ -179,24 +195,24 @@ fn make_plan(command: &Command, inputs: Inputs, mirror: &mut Mirror) -> Result<L
 pub(crate) fn plan_while_sending(
     command: &Command,
     inputs: Inputs,
-    mirror: &mut Mirror,
+    client: &mut SessionClient,
 ) -> Result<LinkPlan, SessionError> {
     let options = options_of(command, None);
     let unaltered = inputs.unaltered();
-    let begun = while_sending(mirror, &options, &unaltered, || LinkPlan::begin(command, inputs))?;
+    let begun = while_sending(client, &options, &unaltered, || LinkPlan::begin(command, inputs))?;
     let held = begun.held().to_vec();
-    while_sending(mirror, &options, &held, || LinkPlan::finish(command, begun))
+    while_sending(client, &options, &held, || LinkPlan::finish(command, begun))
 }
 
 /// Runs `act` on this thread while another sends objects to the session.
 fn while_sending<T>(
-    mirror: &mut Mirror,
+    client: &mut SessionClient,
     options: &Options,
-    objects: &[Held],
+    objects: &[SessionObject],
     act: impl FnOnce() -> T,
 ) -> Result<T, SessionError> {
     std::thread::scope(|scope| {
-        let sending = scope.spawn(|| mirror.prepare(options, objects));
+        let sending = scope.spawn(|| client.prepare(options, objects));
         let done = act();
         match sending.join() {
             Ok(sent) => sent.map(|()| done),
@@ -208,22 +224,80 @@ fn while_sending<T>(
 /// A link whose plan is made.
 struct Link<'a> {
     command: &'a Command,
-    plan: &'a mut LinkPlan,
-    /// The outcome of the comparison, if an image of the plan was compared before.
-    known: &'a mut Option<Verdict>,
+    plan: &'a LinkPlan,
     asked: Asked<'a>,
     host: &'a dyn Host,
 }
 
-impl Link<'_> {
+/// What goes by the layout alone, and is made while the session links.
+struct Ahead<'a> {
+    beside: Beside<'a>,
+    /// The maps as of an image that is laid out as was evaluated, if they were not known.
+    maps: Option<Maps>,
+}
+
+/// A good link before the build ID is in its file.
+struct Made {
+    file: Result<WithoutBuildId, FileFault>,
+    maps: Option<Maps>,
+    /// The outcome of the comparison.
+    verdict: Verdict,
+    /// The map of `ldi`, if it is wanted; what it says if the image is not laid out as was evaluated.
+    map: Vec<u8>,
+    pieces: Option<LinkMap>,
+}
+
+/// What a link has come to before its build ID is found.
+enum Outcome {
+    /// A file.
+    Made(Box<Made>),
+    /// No file.
+    Ended(Status),
+}
+
+impl<'a> Link<'a> {
+    /// Has the session link, and makes the file. `known` is the outcome of the comparison, if an image of the plan was
+    /// compared before.
+    fn make(
+        &self,
+        known: &mut Option<Verdict>,
+        client: &mut SessionClient,
+        kept: &mut Kept,
+    ) -> Result<Outcome, LinkFault> {
+        let session = |fault| session_fault(fault, &self.asked);
+        if self.plan.adapted.is_left() {
+            return self.end_with_left(client).map(Outcome::Ended).map_err(session);
+        }
+        let wants_maps = known.as_ref().map_or(true, |known| known.maps.is_none());
+        let (brought, ahead) = self.sync(wants_maps, client, &mut kept.strings);
+        match self.not_good(&brought.map_err(session)?, client).map_err(session)? {
+            Some(status) => Ok(Outcome::Ended(status)),
+            None => self.make_file(known, ahead, client, &mut kept.tables),
+        }
+    }
+
+    /// Brings the session to the plan. What goes by the layout alone is made meanwhile.
+    fn sync(
+        &self,
+        wants_maps: bool,
+        client: &mut SessionClient,
+        strings: &mut KeptStrings,
+    ) -> (Result<SyncOutcome, SessionError>, Result<Ahead<'a>, NotMade>) {
+        let plan = self.plan;
+        let wanted = Target { options: &plan.options, objects: plan.held(), script: &plan.adapted.text };
+        let command = self.command;
+        let (ahead, brought) = beside(|| Ahead::of(command, plan, wants_maps, strings), || client.sync(wanted));
+        (brought, ahead.unwrap_or_else(|| Ahead::of(command, plan, wants_maps, strings)))
+    }
+
     fn path(&self) -> String {
         self.plan.inputs.scripts.path.display().to_string()
     }
 
     /// The status of a link of whose script something is left; objects that are refused go before.
-    fn end_with_left(&self, mirror: &mut Mirror) -> Result<Status, SessionError> {
-        let wanted = Wanted { options: &self.plan.options, objects: self.plan.held(), script: b"" };
-        let brought = mirror.bring(wanted)?;
+    fn end_with_left(&self, client: &mut SessionClient) -> Result<Status, SessionError> {
+        let wanted = Target { options: &self.plan.options, objects: self.plan.held(), script: b"" };
+        let brought = client.sync(wanted)?;
         if !brought.refused.is_empty() {
             return Ok(self.refused(&brought));
         }
@@ -233,20 +307,20 @@ impl Link<'_> {
 
     /// Says what is left of the script.
     fn say_left(&self) {
-        let left: Vec<&Note> = self.plan.residual.notes.iter().filter(|note| note.kind == NoteKind::Left).collect();
+        let left: Vec<&Note> = self.plan.adapted.notes.iter().filter(|note| note.kind == NoteKind::Left).collect();
         for note in &left {
             eprintln!("{note}");
         }
         self.say_section_outside();
         self.say_changed();
-        let places = if left.len() == 1 { "1 place".to_owned() } else { format!("{} places", left.len()) };
-        say(format!("{}: {places} cannot be linked by ldi, as is said above", self.path()));
+        let constructs = if left.len() == 1 { "1 construct".to_owned() } else { format!("{} constructs", left.len()) };
+        say(format!("{}: ldi does not support {constructs} of it (see above)", self.path()));
     }
 
     /// Says what is changed in the script.
     fn say_changed(&self) {
         self.plan
-            .residual
+            .adapted
             .changed()
             .filter(|note| verdict::is_said(self.plan, note))
             .for_each(|note| eprintln!("{note}"));
@@ -272,7 +346,7 @@ impl Link<'_> {
     }
 
     /// What ends a link without an image.
-    fn not_good(&self, brought: &Brought, mirror: &mut Mirror) -> Result<Option<Status>, SessionError> {
+    fn not_good(&self, brought: &SyncOutcome, client: &mut SessionClient) -> Result<Option<Status>, SessionError> {
         if !brought.refused.is_empty() {
             return Ok(Some(self.refused(brought)));
         }
@@ -287,14 +361,14 @@ impl Link<'_> {
             };
             return Ok(Some(self.no_image(why, &say, status)));
         }
-        if let Some((name, refusal)) = brought.stuck.first() {
+        if let Some((name, refusal)) = brought.not_removed.first() {
             // A session that is kept, and does not let go of an object of an earlier link: the next one is another.
-            mirror.end();
+            client.end();
             let text = format!("{name} was not taken out: refused {} {}", refusal.number, refusal.inner);
             return Err(SessionError::NoAnswer(text));
         }
         if !brought.is_good {
-            let faults = mirror.faults()?;
+            let faults = client.faults()?;
             let say = || {
                 self.report();
                 self.say_changed();
@@ -308,10 +382,10 @@ impl Link<'_> {
     }
 
     /// Objects that are refused go to the other linker, but not for memory.
-    fn refused(&self, brought: &Brought) -> Status {
+    fn refused(&self, brought: &SyncOutcome) -> Status {
         let name = |index: usize| self.plan.held().get(index).map_or_else(String::new, |held| held.name.to_string());
         let say_more = || {
-            for (index, refusal) in brought.refused.iter().take(GREATEST_LIST) {
+            for (index, refusal) in brought.refused.iter().take(MAX_LIST) {
                 messages::say_refused_object(self.plan, *index, *refusal, self.asked.environment);
             }
         };
@@ -333,7 +407,7 @@ impl Link<'_> {
     /// What was done to the script: with `--verbose` all of it.
     fn report(&self) {
         messages::say_warnings(self.plan);
-        for note in &self.plan.residual.notes {
+        for note in &self.plan.adapted.notes {
             let is_wanted = self.command.is_verbose && note.kind != NoteKind::Changed;
             if is_wanted && note.topic != Topic::Segments {
                 eprintln!("{note}");
@@ -346,63 +420,92 @@ impl Link<'_> {
         notes_of(self.command, self.plan).into_iter().for_each(say);
     }
 
-    /// Writes the files of a good link.
-    fn write_files(
-        mut self,
-        mirror: &mut Mirror,
-        session: &dyn Fn(SessionError) -> LinkFault,
-    ) -> Result<Status, LinkFault> {
-        let command = self.command;
-        let image = mirror.image().map_err(session)?;
-        let tables = command.prints_memory_usage || command.collects_sections && command.prints_collected;
-        let known = self.known.take();
-        let is_compared = known.is_none() && verdict::wants_map(self.plan, command.collects_sections);
-        let may_differ = known.as_ref().map_or_else(|| self.plan.may_differ(), |known| !known.agrees);
-        let wants_map = command.map_file.is_some() || command.prints_map || tables || is_compared || may_differ;
-        let map = if wants_map { mirror.map().map_err(session)? } else { Vec::new() };
-        if !self.host.keeps_session() && self.plan.inputs.identity().is_none() {
-            mirror.dismiss();
+    /// Compares the image with GNU ld's, and makes the file.
+    fn make_file(
+        &self,
+        known: &mut Option<Verdict>,
+        ahead: Result<Ahead<'_>, NotMade>,
+        client: &mut SessionClient,
+        tables: &mut KeptTables,
+    ) -> Result<Outcome, LinkFault> {
+        let session = |fault| session_fault(fault, &self.asked);
+        let image = client.image().map_err(session)?;
+        let known = known.take();
+        let is_compared = known.is_none() && verdict::wants_map(self.plan, self.command.collects_sections);
+        let wants_map = self.wants_map(is_compared, known.as_ref());
+        let mut map = if wants_map { client.map().map_err(session)? } else { Vec::new() };
+        if !self.host.keeps_session() && self.plan.inputs.build_id_note().is_none() {
+            client.ask_to_end();
         }
-        let compare = || verdict::verdict(self.plan, &image, if is_compared { &map } else { b"" }, command.is_verbose);
+        let compared = if is_compared { &map[..] } else { b"" };
+        let compare = || verdict::compare(self.plan, &image, compared, self.command.is_verbose);
         let mut verdict = known.map_or_else(compare, Ok)?;
         if let Some(why) = reasons_for_gnu_ld::verdict(self.plan, &verdict) {
             let say = || self.say_verdict(&verdict);
-            return Ok(self.no_image(Some(why), &say, Status::Faults));
+            return Ok(Outcome::Ended(self.no_image(Some(why), &say, Status::Faults)));
         }
         self.say_verdict(&verdict);
         if !verdict.prohibited.is_empty() {
-            return Ok(Status::Faults);
+            return Ok(Outcome::Ended(Status::Faults));
+        }
+        if !wants_map && !verdict.agrees && maps::has_map(self.command) {
+            map = client.map().map_err(session)?;
         }
         let pieces = if verdict.agrees { None } else { LinkMap::read(&map).ok() };
         let laid_out = LaidOut::of(verdict.agrees, pieces.as_ref());
-        let finished = match self.file_and_maps(image, laid_out, &mut verdict, mirror) {
-            Ok(finished) => finished,
-            Err(FileFault::Form(fault @ (FinishError::NoHeaders(_) | FinishError::NoTable(_)))) => {
+        let mut maps = verdict.maps.take();
+        let file = ahead.map_err(FileFault::from).and_then(|ahead| {
+            maps = maps.take().or_else(|| Some(ahead.maps?.of_laid_out(verdict.agrees)));
+            without_build_id(self.plan, image, laid_out, &ahead.beside, (tables, client))
+        });
+        Ok(Outcome::Made(Box::new(Made { file, maps, verdict, map, pieces })))
+    }
+
+    /// Whether the map of `ldi` is asked for.
+    fn wants_map(&self, is_compared: bool, known: Option<&Verdict>) -> bool {
+        let command = self.command;
+        let tables = command.prints_memory_usage || command.collects_sections && command.prints_collected;
+        let may_differ = known.map_or_else(|| self.plan.may_differ(), |known| !known.agrees);
+        // The session's own map, if there is to be one; a session that ends now cannot be asked later.
+        let is_written = maps::has_map(command) && (command.has_own_map || !self.host.keeps_session());
+        is_written || tables || is_compared || may_differ
+    }
+
+    /// What ends a link of whose image no file can be made.
+    fn no_file(&self, fault: FileFault) -> Result<Status, LinkFault> {
+        match fault {
+            FileFault::Form(fault @ (FinishError::NoHeaders(_) | FinishError::NoTable(_))) => {
                 let why = format!("{}: {fault}", self.path());
-                return Ok(self.no_image(Some(why.clone()), &|| say(&why), Status::Faults));
+                Ok(self.no_image(Some(why.clone()), &|| say(&why), Status::Faults))
             }
-            Err(FileFault::Form(fault)) => return Err(LinkFault::Form(fault)),
-            Err(FileFault::Session(fault)) => return Err(session(fault)),
-            Err(FileFault::NotMade(fault)) => {
+            FileFault::Form(fault) => Err(LinkFault::Form(fault)),
+            FileFault::Session(fault) => Err(session_fault(fault, &self.asked)),
+            FileFault::NotMade(fault) => {
                 let why = fault.to_string();
-                return Ok(self.no_image(Some(why.clone()), &|| say(&why), Status::Refused));
+                Ok(self.no_image(Some(why.clone()), &|| say(&why), Status::Refused))
             }
-        };
+        }
+    }
+
+    /// Writes the files of a good link.
+    fn write_files(
+        &self,
+        finished: &Finished,
+        map: &[u8],
+        verdict: &Verdict,
+        client: &mut SessionClient,
+    ) -> Result<(), LinkFault> {
         if !self.host.keeps_session() {
-            mirror.dismiss();
+            client.ask_to_end();
         }
         for note in &finished.notes {
             say(format!("{}: {note}", self.path()));
         }
-        self.write_map(&map, verdict.maps.as_ref())?;
+        self.write_map(map, verdict.maps.as_ref())?;
         self.write_image(&finished.file)?;
         self.write_dependencies()?;
-        self.print_tables(&map);
-        if self.host.keeps_session() {
-            mirror.reuse(finished.file.into_image());
-        }
-        *self.known = Some(verdict);
-        Ok(Status::Good)
+        self.print_tables(map);
+        Ok(())
     }
 
     /// Prints the outcome of the comparison with GNU ld's image.
@@ -411,37 +514,15 @@ impl Link<'_> {
         verdict.lines.iter().for_each(|line| eprintln!("{line}"));
         self.notes();
         if verdict.differs {
-            let why = "the image would be another than GNU ld's, as is said above: none is written";
-            say(format!("{}: {why}", self.path()));
+            say(format!("{}: {DIFFERS}", self.path()));
         }
-        let prohibited = verdict.prohibited.iter().take(GREATEST_LINES);
+        let prohibited = verdict.prohibited.iter().take(MAX_LINES);
         prohibited.for_each(|one| say(one.to_string()));
     }
 
     fn write_image(&self, file: &FileImage) -> Result<(), LinkFault> {
         let zeros = zeros_of(file);
         self.host.write(&self.command.output, &pieces_of(file, &zeros), PROGRAM).map_err(LinkFault::NotWritten)
-    }
-
-    /// Makes the file of an image, and the maps, if they are not known.
-    fn file_and_maps(
-        &mut self,
-        image: Answered,
-        laid_out: LaidOut<'_>,
-        verdict: &mut Verdict,
-        mirror: &mut Mirror,
-    ) -> Result<Finished, FileFault> {
-        let mut kept = std::mem::take(&mut self.plan.kept);
-        let (command, plan, agrees) = (self.command, &*self.plan, verdict.agrees);
-        let known = verdict.maps.take();
-        let made = Beside::of(plan, &mut kept.strings).map_err(FileFault::from).and_then(|beside| {
-            let file = unidentified(plan, image, laid_out, &beside, (&mut kept.tables, &mut *mirror))?;
-            Ok((file, known.unwrap_or_else(|| maps::of(command, plan, agrees, beside.spans.as_ref()))))
-        });
-        self.plan.kept = kept;
-        let (file, maps) = made?;
-        verdict.maps = Some(maps);
-        identified(self.plan, file, laid_out, mirror)
     }
 
     fn write_map(&self, map: &[u8], maps: Option<&Maps>) -> Result<(), LinkFault> {
@@ -453,13 +534,13 @@ impl Link<'_> {
             say(format!("{}: the image is laid out otherwise than GNU ld's: the map is that of ldi", self.path()));
         }
         if !has_map {
-            streams::print(Stream::Output, references);
+            stdio::print(Stream::Output, references);
             return Ok(());
         }
         let map = own.unwrap_or(map);
         let is_printed = path.as_deref() == Some(Path::new("-"));
         if self.command.prints_map || is_printed {
-            streams::print(Stream::Output, &[map, references].concat());
+            stdio::print(Stream::Output, &[map, references].concat());
         }
         match path.filter(|_| !is_printed) {
             Some(path) => self.host.write(&path, &[map, references], TEXT).map_err(LinkFault::NotWritten),
@@ -498,9 +579,22 @@ impl Link<'_> {
         }
         if self.command.prints_memory_usage {
             if let Ok(evaluation) = &self.plan.evaluation {
-                streams::print(Stream::Output, tables::memory_usage(evaluation).as_bytes());
+                stdio::print(Stream::Output, tables::memory_usage(evaluation).as_bytes());
             }
         }
+    }
+}
+
+impl<'a> Ahead<'a> {
+    fn of(
+        command: &Command,
+        plan: &'a LinkPlan,
+        wants_maps: bool,
+        strings: &mut KeptStrings,
+    ) -> Result<Ahead<'a>, NotMade> {
+        let beside = Beside::of(plan, strings)?;
+        let maps = wants_maps.then(|| maps::of(command, plan, beside.spans.as_ref()));
+        Ok(Ahead { beside, maps })
     }
 }
 
@@ -514,7 +608,8 @@ pub(crate) fn notes_of(command: &Command, plan: &LinkPlan) -> Vec<String> {
     let absent = command.section_starts.keys().filter(|name| !has_section(script, name) && !is_placed(name));
     let absent = absent.map(|section| format!("the address of {section}: the script has no such section"));
     let placed = orphans::warnings(command, plan);
-    command.notes.iter().cloned().chain(absent).chain(plan.inputs.why_no_build_id()).chain(placed).collect()
+    let notes = command.notes.iter().cloned().chain(absent).chain(plan.inputs.why_no_build_id());
+    notes.chain(plan.eh_frame_hdr_warnings(command)).chain(placed).collect()
 }
 
 /// Why a symbol has no value, if its section is not in the image.

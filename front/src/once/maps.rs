@@ -26,8 +26,16 @@ pub(super) fn has_map(command: &Command) -> bool {
     command.map_file.is_some() || command.prints_map
 }
 
-/// The maps of a plan. `spans` are those of what is not loaded; without them they are found here.
-pub(super) fn of(command: &Command, plan: &LinkPlan, agrees: bool, spans: Option<&Spans>) -> Maps {
+impl Maps {
+    /// The maps of an image, if they are those of one that is laid out as was evaluated: a map goes by the layout.
+    pub(super) fn of_laid_out(self, agrees: bool) -> Maps {
+        Maps { own: self.own.filter(|_| agrees), ..self }
+    }
+}
+
+/// The maps of a plan whose image is laid out as was evaluated. `spans` are those of what is not loaded; without them
+/// they are found here.
+pub(super) fn of(command: &Command, plan: &LinkPlan, spans: Option<&Spans>) -> Maps {
     let evaluation = match &plan.evaluation {
         Ok(evaluation) if are_wanted(command) => evaluation,
         _ => return Maps::default(),
@@ -47,7 +55,7 @@ pub(super) fn of(command: &Command, plan: &LinkPlan, agrees: bool, spans: Option
         files: &plan.inputs.loaded.files,
         spans: &spans,
     };
-    let is_wanted = has_map(command) && !command.has_own_map && agrees;
+    let is_wanted = has_map(command) && !command.has_own_map;
     let references = if command.has_cross_references { cross_references(&request) } else { Vec::new() };
     Maps { own: is_wanted.then(|| map(&request)), references }
 }

@@ -6,22 +6,22 @@ use std::os::unix::ffi::OsStrExt;
 use bstr::ByteSlice;
 
 use crate::command::Command;
-use crate::mirror::Refusal;
 use crate::plan::{find_program, Environment, LinkPlan};
 use crate::report::{fault_diagnostics, refusals_of_object, refusals_of_script, Diagnostic, Inputs, RefusedInput};
 use crate::script::{Place, ScriptError};
+use crate::session_client::Refusal;
 
 /// The faults of a link that are said.
-const GREATEST_FAULTS: usize = 1000;
+const MAX_FAULTS: usize = 1000;
 
 fn say_all(diagnostics: &[Diagnostic]) {
-    let style = crate::streams::error_style();
+    let style = crate::stdio::error_style();
     diagnostics.iter().for_each(|diagnostic| eprintln!("{}", diagnostic.render(style)));
 }
 
 /// Where a line of the script that was sent came from.
 fn origin(plan: &LinkPlan, line: u32) -> Option<Place> {
-    plan.residual.lines.get((line as usize).checked_sub(1)?).cloned()
+    plan.adapted.lines.get((line as usize).checked_sub(1)?).cloned()
 }
 
 /// The messages of an object that is refused.
@@ -62,20 +62,20 @@ pub(super) fn say_refused_script(plan: &LinkPlan, refusal: Refusal, environment:
 pub(crate) fn of_script(plan: &LinkPlan, refusal: Refusal, environment: &Environment) -> Vec<Diagnostic> {
     let ldi = find_program("ldi", environment);
     let name = plan.inputs.scripts.path.as_os_str().as_bytes().as_bstr();
-    let input = RefusedInput { name, refusal, data: Some(&plan.residual.text), ldi: &ldi };
+    let input = RefusedInput { name, refusal, data: Some(&plan.adapted.text), ldi: &ldi };
     refusals_of_script(&input, &|line| origin(plan, line))
 }
 
 /// Prints the faults of a link.
 pub(super) fn say_faults(command: &Command, plan: &LinkPlan, faults: &[u8]) {
-    say_all(&of_faults(command, plan, faults, Some(GREATEST_FAULTS)));
+    say_all(&of_faults(command, plan, faults, Some(MAX_FAULTS)));
 }
 
 /// The messages of the faults of a link, so many at most.
 pub(crate) fn of_faults(command: &Command, plan: &LinkPlan, faults: &[u8], limit: Option<usize>) -> Vec<Diagnostic> {
     let inputs = Inputs {
         script_path: &plan.inputs.scripts.path,
-        script: &plan.residual.text,
+        script: &plan.adapted.text,
         origin: &|line| origin(plan, line),
         objects: plan.inputs.objects(),
         entry: command.entry.as_ref().map(|entry| OsStr::from_bytes(entry.as_ref())),

@@ -1,10 +1,11 @@
 //! `ld.ldi`: one link by GNU ld's command line.
 
 mod ask;
+mod build_id;
 mod builds;
 mod fallback;
+mod fatal;
 mod host;
-mod identified;
 mod link;
 mod maps;
 pub(crate) mod messages;
@@ -20,19 +21,19 @@ use bstr::BString;
 
 use crate::command::{expand_words, read_command, Ask, Command, WordsRefused};
 use crate::inputs::InputFault;
-use crate::mirror::Mirror;
 use crate::plan::{find_program, Environment, PlanFault, Scripts, ScriptsFault};
+use crate::session_client::SessionClient;
 use crate::snapshot::Snapshot;
+pub(crate) use build_id::{file_of, FileFault};
 pub(crate) use fallback::{HandedOver, Reasons};
 use host::Alone;
 pub(crate) use host::{Asked, Host};
-pub(crate) use identified::{file_of, FileFault};
 use link::plan_link;
-pub(crate) use link::{make, notes_of, pieces_of, plan_while_sending, section_outside, zeros_of, Planned};
+pub(crate) use link::{make, notes_of, pieces_of, plan_while_sending, section_outside, zeros_of, Planned, DIFFERS};
 pub use link::{LinkFault, Status};
 
 /// Prints a line on standard error, after the program's name.
-fn say(text: impl AsRef<str>) {
+pub(crate) fn say(text: impl AsRef<str>) {
     eprintln!("ld.ldi: {}", text.as_ref());
 }
 
@@ -44,10 +45,10 @@ pub fn main(words: &[OsString]) -> u8 {
 
 /// Links without a server.
 fn by_itself(words: &[OsString], environment: &Environment) -> u8 {
-    let mut mirror = Mirror::new(find_program("ldi", environment), None);
+    let mut client = SessionClient::new(find_program("ldi", environment), None);
     let asked = Asked { words, environment, is_verbose: false };
     let mut snapshot = Snapshot::new();
-    let Done(status, planned) = report_end(run(asked, &mut snapshot, &mut mirror, &Alone));
+    let Done(status, planned) = report_end(run(asked, &mut snapshot, &mut client, &Alone));
     // The process ends, by which its memory is given back at once.
     std::mem::forget((planned, snapshot));
     status as u8
@@ -89,7 +90,7 @@ pub(crate) fn read_words(words: &[OsString]) -> (Vec<BString>, Result<Command, W
 pub(crate) fn run(
     asked: Asked<'_>,
     snapshot: &mut Snapshot,
-    mirror: &mut Mirror,
+    client: &mut SessionClient,
     host: &dyn Host,
 ) -> Result<Done, LinkFault> {
     let (expanded, read) = read_words(asked.words);
@@ -105,7 +106,7 @@ pub(crate) fn run(
         Err(fault) => return Ok(host.hand_over(&Reasons::of(vec![fault.to_string()]), &asked).into()),
     };
     asked.is_verbose = command.is_verbose;
-    match run_command(command, asked, snapshot, mirror, host) {
+    match run_command(command, asked, snapshot, client, host) {
         Err(LinkFault::Plan(PlanFault::Input(InputFault::OfOtherLinkers(text)))) => {
             let asked = Asked { is_verbose, ..asked };
             Ok(host.hand_over(&Reasons::of(vec![text]), &asked).into())
@@ -119,7 +120,7 @@ fn run_command(
     command: Command,
     asked: Asked<'_>,
     snapshot: &mut Snapshot,
-    mirror: &mut Mirror,
+    client: &mut SessionClient,
     host: &dyn Host,
 ) -> Result<Done, LinkFault> {
     let environment = asked.environment;
@@ -151,8 +152,8 @@ fn run_command(
         return Ok(Status::Refused.into());
     }
     ask::print(&command, Some(&scripts), environment);
-    let mut planned = plan_link(command, scripts, snapshot, mirror, &asked)?;
-    let status = make(&mut planned, mirror, asked, host)?;
+    let mut planned = plan_link(command, scripts, snapshot, client, &asked)?;
+    let status = make(&mut planned, client, asked, host)?;
     Ok(Done(status, Some(planned)))
 }
 

@@ -1,11 +1,8 @@
 //! `--orphan-handling=warn`: a line for each section that no statement of the script takes, as GNU ld has it (ldlang.c,
 //! `lang_place_orphans`).
 
-use object::elf;
-
 use crate::command::{Command, Orphans};
 use crate::layout::evaluation::{Evaluation, InputSection};
-use crate::layout::Flags;
 use crate::plan::LinkPlan;
 
 /// The lines that `--orphan-handling=warn` prints.
@@ -14,7 +11,7 @@ pub(super) fn warnings(command: &Command, plan: &LinkPlan) -> Vec<String> {
         Ok(evaluation) if command.orphans == Some(Orphans::Warn) => evaluation,
         _ => return Vec::new(),
     };
-    let placed = evaluation.orphans.iter().filter_map(|id| evaluation.section(*id)).filter(|one| is_linked(one));
+    let placed = evaluation.orphans.iter().filter_map(|id| evaluation.section(*id)).filter(|one| one.is_linked());
     placed.filter_map(|section| line(plan, evaluation, section)).collect()
 }
 
@@ -23,9 +20,4 @@ fn line(plan: &LinkPlan, evaluation: &Evaluation, section: &InputSection) -> Opt
     let object = plan.inputs.objects().get(section.object.0 as usize)?.origin().full_name();
     let output = &evaluation.output(section.output()?)?.name;
     Some(format!("warning: orphan section `{name}' from `{object}' being placed in section `{output}'"))
-}
-
-fn is_linked(section: &InputSection) -> bool {
-    let is_loaded = section.bits & u64::from(elf::SHF_ALLOC) != 0 || section.is_common();
-    is_loaded && !section.flags.has(Flags::CREATED | Flags::EXCLUDE)
 }

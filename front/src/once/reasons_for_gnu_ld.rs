@@ -4,6 +4,7 @@ use bstr::ByteSlice;
 
 use super::messages;
 use super::verdict::Verdict;
+use crate::adapted::{Note, NoteKind};
 use crate::command::{Command, Leniency, Orphans};
 use crate::layout::evaluation::Fate;
 use crate::layout::{Flags, Stop};
@@ -11,7 +12,6 @@ use crate::objects::{Binding, Home, LinkNames, Object, ObjectIndex, SectionIndex
 use crate::plan::LinkPlan;
 use crate::report::rules::FaultRule;
 use crate::report::{fault_lines, FaultLine, Value};
-use crate::residual::{Note, NoteKind};
 
 /// How sections begin whose references to what is left out are 0 to GNU ld.
 const OF_TABLES: [&[u8]; 4] = [b".eh_frame", b".gcc_except_table", b".stab", b".debug"];
@@ -22,7 +22,7 @@ const SCRIPT: &[u8] = b"script";
 
 /// Why GNU ld may make a link of whose script something is left.
 pub(crate) fn left_constructs(plan: &LinkPlan) -> Option<String> {
-    let left = plan.residual.notes.iter().filter(|note| note.kind == NoteKind::Left);
+    let left = plan.adapted.notes.iter().filter(|note| note.kind == NoteKind::Left);
     first(left.map(Note::to_string).collect())
 }
 
@@ -136,8 +136,8 @@ fn is_own(rule: FaultRule, words: &[Value<'_>], command: &Command, stops: bool) 
         FaultRule::UndefinedEntry
         | FaultRule::EntryNotInOutput
         | FaultRule::ImageTooLong
-        | FaultRule::AddressesMeet
-        | FaultRule::LoadAddressesMeet => false,
+        | FaultRule::AddressesOverlap
+        | FaultRule::LoadAddressesOverlap => false,
         FaultRule::FieldOverflow => true,
     }
 }
@@ -148,7 +148,7 @@ fn leniency(rule: FaultRule) -> Option<Leniency> {
         FaultRule::DuplicateDefinition => Some(Leniency::MultipleDefinitions),
         FaultRule::UndefinedSymbol => Some(Leniency::UndefinedNames),
         FaultRule::FieldOverflow => Some(Leniency::RelocationOverflow),
-        FaultRule::AddressesMeet | FaultRule::LoadAddressesMeet => Some(Leniency::NoCheckSections),
+        FaultRule::AddressesOverlap | FaultRule::LoadAddressesOverlap => Some(Leniency::NoCheckSections),
         _ => None,
     }
 }

@@ -1,16 +1,16 @@
 //! Messages about where an image differs from GNU ld's, and whether it is written.
 
 use super::maps::Maps;
+use crate::adapted::{Note, Topic};
 use crate::checker::{check, Checked, DifferenceKind, NoImage};
 use crate::layout::evaluation::StatementKind;
 use crate::layout::Stop;
 use crate::plan::{prohibited, LinkPlan, Prohibited};
 use crate::report::link_map::LinkMap;
-use crate::residual::{Note, Topic};
 use crate::script::tree::Span;
 
 /// The input sections up to which their places are compared too, by the map.
-const SMALL: usize = 5000;
+const MAX_COMPARED_SECTIONS: usize = 5000;
 
 /// What came of a comparison.
 #[derive(Debug, Default)]
@@ -30,16 +30,16 @@ pub(crate) struct Verdict {
 /// Whether the map is wanted for a comparison.
 pub(crate) fn wants_map(plan: &LinkPlan, collects_sections: bool) -> bool {
     match &plan.evaluation {
-        Ok(evaluation) => collects_sections || evaluation.sections.len() <= SMALL,
+        Ok(evaluation) => collects_sections || evaluation.sections.len() <= MAX_COMPARED_SECTIONS,
         Err(_) => false,
     }
 }
 
 /// Compares an image with what GNU ld makes of the script; says what is changed.
-pub(crate) fn verdict(plan: &LinkPlan, image: &[u8], map: &[u8], is_verbose: bool) -> Result<Verdict, NoImage> {
+pub(crate) fn compare(plan: &LinkPlan, image: &[u8], map: &[u8], is_verbose: bool) -> Result<Verdict, NoImage> {
     let evaluation = match &plan.evaluation {
         Ok(evaluation) => evaluation,
-        Err(stop) => return Ok(Verdict { lines: unknown(plan, stop), ..Verdict::default() }),
+        Err(stop) => return Ok(Verdict { lines: report_unknown(plan, stop), ..Verdict::default() }),
     };
     let map = if map.is_empty() { None } else { LinkMap::read(map).ok() };
     let mut checked = check(evaluation, plan.inputs.objects(), image, map.as_ref())?;
@@ -54,10 +54,10 @@ pub(crate) fn verdict(plan: &LinkPlan, image: &[u8], map: &[u8], is_verbose: boo
     }
     let mut verdict = if checked.differences.is_empty() {
         let is_beside = |note: &&Note| matches!(note.topic, Topic::Beside | Topic::NotLoaded) && is_said(plan, note);
-        let beside = plan.residual.changed().filter(is_beside);
+        let beside = plan.adapted.changed().filter(is_beside);
         Verdict { lines: beside.map(Note::to_string).collect(), ..Verdict::default() }
     } else {
-        different(plan, &checked, is_verbose)
+        report_differences(plan, &checked, is_verbose)
     };
     verdict.agrees = checked.differences.is_empty();
     let inputs = &plan.inputs;
@@ -83,9 +83,9 @@ pub(crate) fn verdict(plan: &LinkPlan, image: &[u8], map: &[u8], is_verbose: boo
 }
 
 /// The differences: with the constructs that explain them, if some are said otherwise.
-fn different(plan: &LinkPlan, checked: &Checked, is_verbose: bool) -> Verdict {
+fn report_differences(plan: &LinkPlan, checked: &Checked, is_verbose: bool) -> Verdict {
     let mut lines: Vec<String> =
-        plan.residual.changed().filter(|note| is_said(plan, note)).map(Note::to_string).collect();
+        plan.adapted.changed().filter(|note| is_said(plan, note)).map(Note::to_string).collect();
     let has_cause = !lines.is_empty();
     let differences = &checked.differences;
     if !has_cause {
@@ -111,9 +111,9 @@ pub(crate) fn is_said(plan: &LinkPlan, note: &Note) -> bool {
 }
 
 /// Why it is not known whether GNU ld makes the same.
-fn unknown(plan: &LinkPlan, stop: &Stop) -> Vec<String> {
+fn report_unknown(plan: &LinkPlan, stop: &Stop) -> Vec<String> {
     let mut lines: Vec<String> =
-        plan.residual.changed().filter(|note| is_said(plan, note)).map(Note::to_string).collect();
+        plan.adapted.changed().filter(|note| is_said(plan, note)).map(Note::to_string).collect();
     let place = line(plan, stop.span(), "");
     if lines.iter().any(|line| line.starts_with(&place)) {
         return lines;

@@ -5,11 +5,11 @@
 
 use bstr::{BStr, ByteSlice};
 
+use crate::fast_map::FastMap;
 use crate::layout::evaluation::{InputSection, Origin, StatementKind};
 use crate::layout::ids::SectionId;
 use crate::layout::{Evaluation, Flags};
 use crate::objects::{Binding, Home, Object, Rank, Relocation, SectionIndex, Symbol};
-use crate::quick::QuickMap;
 use crate::script::tree::{InputStatement, Name, Script, SectionStatement, SectionsStatement, Span, Statement};
 
 /// Where a reference leads: a section of an object, or its common blocks.
@@ -81,16 +81,16 @@ struct Reach<'a> {
     objects: &'a [Object],
     evaluation: &'a Evaluation,
     /// By name: where its definition is, if it is in a section.
-    definitions: QuickMap<&'a BStr, Part>,
+    definitions: FastMap<&'a BStr, Part>,
     /// The sections that may be reached: those that are linked, also if GNU ld leaves them out as unused.
-    linked: QuickMap<Part, SectionId>,
-    reached: QuickMap<Part, ()>,
+    linked: FastMap<Part, SectionId>,
+    reached: FastMap<Part, ()>,
     waiting: Vec<Part>,
 }
 
 impl<'a> Reach<'a> {
     fn new(objects: &'a [Object], evaluation: &'a Evaluation) -> Reach<'a> {
-        let mut linked = QuickMap::default();
+        let mut linked = FastMap::default();
         for (index, section) in evaluation.sections.iter().enumerate() {
             let may_stay = section.output().is_some() || section.flags.has(Flags::EXCLUDE);
             if may_stay && !section.flags.has(Flags::CREATED) {
@@ -98,7 +98,7 @@ impl<'a> Reach<'a> {
             }
         }
         let definitions = definitions(objects, evaluation);
-        Reach { objects, evaluation, definitions, linked, reached: QuickMap::default(), waiting: Vec::new() }
+        Reach { objects, evaluation, definitions, linked, reached: FastMap::default(), waiting: Vec::new() }
     }
 
     fn add(&mut self, part: Part) {
@@ -139,8 +139,8 @@ impl<'a> Reach<'a> {
 }
 
 /// Where the names of a link are defined, of those that the script does not assign (docs/manual.md, 'Names').
-pub(super) fn definitions<'a>(objects: &'a [Object], evaluation: &Evaluation) -> QuickMap<&'a BStr, Part> {
-    let mut found: QuickMap<&'a BStr, (Rank, Part)> = QuickMap::default();
+pub(super) fn definitions<'a>(objects: &'a [Object], evaluation: &Evaluation) -> FastMap<&'a BStr, Part> {
+    let mut found: FastMap<&'a BStr, (Rank, Part)> = FastMap::default();
     for (number, object) in objects.iter().enumerate() {
         for symbol in object.globals() {
             let (rank, section) = match (symbol.rank(), symbol.home) {

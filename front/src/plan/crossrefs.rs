@@ -6,10 +6,10 @@ use std::fmt;
 use bstr::{BStr, BString, ByteSlice};
 
 use super::collecting::{definitions, Part};
+use crate::fast_map::FastMap;
 use crate::layout::evaluation::{Base, Definer, Origin, OutputSection};
 use crate::layout::Evaluation;
 use crate::objects::{Binding, Home, Object, SectionIndex, Symbol};
-use crate::quick::QuickMap;
 use crate::script::tree::{Name, Script, Statement};
 
 /// A relocation that a script prohibits.
@@ -91,13 +91,13 @@ pub fn prohibited(script: &Script, objects: &[Object], evaluation: &Evaluation) 
 /// In which output section everything is.
 struct Places<'a> {
     evaluation: &'a Evaluation,
-    definitions: QuickMap<&'a BStr, Part>,
-    outputs: QuickMap<Part, &'a OutputSection>,
+    definitions: FastMap<&'a BStr, Part>,
+    outputs: FastMap<Part, &'a OutputSection>,
 }
 
 impl<'a> Places<'a> {
     fn new(objects: &'a [Object], evaluation: &'a Evaluation) -> Places<'a> {
-        let mut outputs = QuickMap::default();
+        let mut outputs = FastMap::default();
         for section in &evaluation.sections {
             let number = match section.origin {
                 Origin::Header(number) => Some(number.0),

@@ -6,8 +6,8 @@ use object::elf;
 
 use crate::layout::evaluation::InputSection;
 use crate::layout::{Evaluation, Flags};
-use crate::mirror::Held;
 use crate::objects::{with_loaded, SectionIndex};
+use crate::session_client::SessionObject;
 
 const ALLOC: u64 = elf::SHF_ALLOC as u64;
 
@@ -39,7 +39,7 @@ fn becomes_loaded(section: &InputSection, evaluation: &Evaluation) -> bool {
 }
 
 /// The objects with these sections loaded.
-pub(super) fn with_flags(held: &mut [Held], made_loaded: &MadeLoaded) {
+pub(super) fn with_flags(held: &mut [SessionObject], made_loaded: &MadeLoaded) {
     for (number, sections) in made_loaded {
         if let Some(held) = held.get_mut(*number as usize) {
             if let Some(data) = with_loaded(&held.data, sections) {

@@ -3,27 +3,27 @@
 //! [`Inputs::load`] reads scripts and objects; [`LinkPlan::new`] lays the script out over the objects and writes it in
 //! the profile. [`LinkPlan::replan`] is the same plan with other bytes of some objects.
 
-mod aliases;
-mod alike;
-mod begun;
-mod build_id;
+mod aliased_objects;
+mod build_id_note;
 mod collecting;
-mod commons;
 mod crossrefs;
-mod first_values;
-mod frame_table;
+mod draft;
+mod eh_frame_hdr;
+mod gnu_property;
+mod got;
+mod got_references;
+mod got_unrelaxed;
+mod incremental;
 mod loaded;
-mod merged;
-mod notes;
+mod merged_objects;
 mod overridden;
+mod placed_commons;
+mod program_headers;
 mod programs;
-mod references;
 mod scripts;
 mod settings;
-mod shortened;
-mod stack;
+mod shortened_objects;
 mod symbols;
-mod table;
 mod wraps;
 
 use std::collections::HashSet;
@@ -32,29 +32,33 @@ use std::sync::Arc;
 
 use bstr::{BStr, BString, ByteSlice};
 
+use crate::adapted::{adapted_script, has_names, AdaptedScript, Request};
 use crate::command::{Command, Orphans, OutputFormat};
 use crate::finish::{Form, KeptTables, LaidOut, LinkedNames, Rights, Strip, Symbols, PAGE};
-use crate::gnu_map::Named;
+use crate::gnu_map::{Named, NamedDefinition};
 use crate::inputs::{self, InputFault, Loaded, ScriptInputs};
 use crate::layout::evaluation::Placed;
+use crate::layout::ids::SectionId;
 use crate::layout::{AllMerges, Evaluation, Flags, Layout, Settings, Stop};
-use crate::mirror::{self, Held};
-use crate::objects::{LinkNames, Object, ObjectIndex};
-use crate::residual::{has_names, residual, Request, Residual};
+use crate::objects::{LinkNames, Object, ObjectIndex, ENTRY_SIZE, HEADER_SECTION};
+use crate::session_client;
+use crate::session_client::SessionObject;
 use crate::snapshot::Snapshot;
 use crate::unloaded::{KeptStrings, Spans};
-pub use begun::Begun;
-pub use build_id::Identity;
-use build_id::NoIdentity;
+pub use build_id_note::BuildIdNote;
+use build_id_note::NoBuildId;
 pub use crossrefs::{prohibited, Prohibited};
+pub use draft::PlanDraft;
+use eh_frame_hdr::EhFrameHdrs;
+use gnu_property::GnuProperty;
+use got::Got;
 use loaded::MadeLoaded;
-use merged::Remade;
-use notes::Notes;
+use merged_objects::MergedObjects;
+pub(crate) use program_headers::is_stack_executed;
 pub use programs::{find_program, is_own, others, own_version, Environment, WITHIN};
 pub use scripts::{Scripts, ScriptsFault};
 pub use settings::settings_of;
-use shortened::ShortenedObjects;
-use table::Table;
+use shortened_objects::ShortenedObjects;
 
 /// Why there is no plan.
 #[derive(Debug, thiserror::Error)]
@@ -78,13 +82,15 @@ pub struct Inputs {
     /// The objects.
     pub loaded: Loaded,
     /// The objects as the session holds them.
-    pub held: Vec<Held>,
+    pub held: Vec<SessionObject>,
     /// The note of properties of the link, and the objects with it.
-    notes: Option<Notes>,
+    notes: Option<GnuProperty>,
+    /// The table of the entries of `.eh_frame`, and the objects with it.
+    eh_frame_hdr: Option<EhFrameHdrs>,
     /// The global offset table, and the objects with it.
-    table: Option<Table>,
+    got: Option<Got>,
     /// The note of the build ID, and the objects with it.
-    identity: Result<Identity, NoIdentity>,
+    build_id_note: Result<BuildIdNote, NoBuildId>,
     /// The names of `--retain-symbols-file`.
     retained: HashSet<BString>,
 }
@@ -104,7 +110,7 @@ impl Inputs {
         if let Some(name) = loaded.missing_required(command) {
             return Err(PlanFault::Required(name.to_owned()));
         }
-        references::check(command, &loaded.objects)?;
+        got_references::check(command, &loaded.objects)?;
         wraps::check(command, &scripts)?;
         scripts.rename_files(&loaded.renamed);
         let mut inputs = Inputs {
@@ -112,64 +118,76 @@ impl Inputs {
             loaded,
             held: Vec::new(),
             notes: None,
-            table: None,
-            identity: Err(NoIdentity::NotWanted),
+            eh_frame_hdr: None,
+            got: None,
+            build_id_note: Err(NoBuildId::NotWanted),
             retained: symbols::retained(command, snapshot)?,
         };
         inputs.loaded.files.extend(command.retained.clone());
-        inputs.compose(command);
+        inputs.add_linker_objects(command);
         Ok(inputs)
     }
 
     /// The objects.
     pub fn objects(&self) -> &[Object] {
-        self.identity.as_ref().map_or_else(|_| self.objects_with_table(), Identity::objects)
+        self.build_id_note.as_ref().map_or_else(|_| self.objects_with_got(), BuildIdNote::objects)
     }
 
     /// The note of the build ID.
-    pub fn identity(&self) -> Option<&Identity> {
-        self.identity.as_ref().ok()
+    pub fn build_id_note(&self) -> Option<&BuildIdNote> {
+        self.build_id_note.as_ref().ok()
     }
 
     /// Why the image has no build ID, if one is asked for.
     pub fn why_no_build_id(&self) -> Option<String> {
-        self.identity.as_ref().err().filter(|why| **why != NoIdentity::NotWanted).map(ToString::to_string)
+        self.build_id_note.as_ref().err().filter(|why| **why != NoBuildId::NotWanted).map(ToString::to_string)
     }
 
     /// The objects with the table of references, and without the note of the build ID.
-    fn objects_with_table(&self) -> &[Object] {
-        self.table.as_ref().map_or_else(|| self.objects_with_note(), Table::objects)
+    fn objects_with_got(&self) -> &[Object] {
+        self.got.as_ref().map_or_else(|| self.objects_with_eh_frame_hdr(), Got::objects)
+    }
+
+    /// The objects with the note of properties and the table of entries, and without the other two.
+    fn objects_with_eh_frame_hdr(&self) -> &[Object] {
+        self.eh_frame_hdr.as_ref().map_or_else(|| self.objects_with_note(), EhFrameHdrs::objects)
     }
 
     /// The objects that the session gets as they were read, whatever the plan is.
-    pub fn unaltered(&self) -> Vec<Held> {
+    pub fn unaltered(&self) -> Vec<SessionObject> {
         let objects = self.held.iter().zip(self.objects());
-        objects.filter(|(_, object)| !merged::may_change(object)).map(|(held, _)| held.clone()).collect()
+        objects
+            .filter(|(_, object)| !merged_objects::may_change(object) && !object.is_eh_frame_hdr())
+            .map(|(held, _)| held.clone())
+            .collect()
     }
 
-    /// The objects with the note of properties, and without the other two.
+    /// The objects with the note of properties, and without the other three.
     fn objects_with_note(&self) -> &[Object] {
-        self.notes.as_ref().map_or(&self.loaded.objects, Notes::objects)
+        self.notes.as_ref().map_or(&self.loaded.objects, GnuProperty::objects)
     }
 
-    /// Makes what GNU ld makes of all objects: a note of properties, a global offset table, and the note of a build ID;
-    /// says whether the objects stand where they stood.
-    fn compose(&mut self, command: &Command) -> bool {
-        let before = self.table.as_ref().map(Table::at);
-        self.notes = Notes::of(command, &self.scripts.reading.script, &self.loaded.objects);
-        self.table = Table::of(command, &self.scripts, self.objects_with_note());
-        let id = self.identity.as_ref().ok().map(|identity| identity.id().to_owned());
-        self.identity = match is_flat(command, &self.scripts) {
-            true => Err(NoIdentity::NotWanted),
-            false => Identity::of(command, &self.scripts, self.objects_with_table(), id),
+    /// Makes what GNU ld makes of all objects: a note of properties, a table of the entries of `.eh_frame`, a global
+    /// offset table, and the note of a build ID; says whether the objects stand where they stood.
+    fn add_linker_objects(&mut self, command: &Command) -> bool {
+        let places =
+            |inputs: &Inputs| (inputs.got.as_ref().map(Got::at), inputs.eh_frame_hdr.as_ref().map(EhFrameHdrs::at));
+        let before = places(self);
+        self.notes = GnuProperty::of(command, &self.scripts.reading.script, &self.loaded.objects);
+        self.eh_frame_hdr = EhFrameHdrs::of(command, &self.scripts, self.objects_with_note());
+        self.got = Got::of(command, &self.scripts, self.objects_with_eh_frame_hdr());
+        let id = self.build_id_note.as_ref().ok().map(|build_id_note| build_id_note.id().to_owned());
+        self.build_id_note = match is_flat(command, &self.scripts) {
+            true => Err(NoBuildId::NotWanted),
+            false => BuildIdNote::of(command, &self.scripts, self.objects_with_got(), id),
         };
         self.held = held_of(self.objects());
-        self.table.as_ref().map(Table::at) == before
+        places(self) == before
     }
 }
 
-fn held_of(objects: &[Object]) -> Vec<Held> {
-    objects.iter().map(|object| Held { name: object.name().to_owned(), data: object.data().clone() }).collect()
+fn held_of(objects: &[Object]) -> Vec<SessionObject> {
+    objects.iter().map(|object| SessionObject { name: object.name().to_owned(), data: object.data().clone() }).collect()
 }
 
 /// What was made for a file, of which the next one has what is the same.
@@ -189,9 +207,9 @@ pub struct LinkPlan {
     /// What GNU ld makes of them, or why that is not known.
     pub evaluation: Result<Evaluation, Stop>,
     /// The script of the profile.
-    pub residual: Residual,
+    pub adapted: AdaptedScript,
     /// The options of the session.
-    pub options: mirror::Options,
+    pub options: session_client::Options,
     /// The form of the file.
     pub form: Form,
     /// What was made for the last file.
@@ -202,21 +220,21 @@ pub struct LinkPlan {
     /// The sections that are loaded though their objects do not say so.
     made_loaded: MadeLoaded,
     /// The objects that merging has made.
-    remade: Remade,
+    merged_objects: MergedObjects,
     /// The objects of which rows are left out.
     shortened: ShortenedObjects,
     /// The objects as the session is to hold them, where these are others than were read.
-    changed: Option<Vec<Held>>,
+    changed: Option<Vec<SessionObject>>,
 }
 
 /// The options of a session for a command; `entry` is the entry symbol if the script cannot name it.
-pub fn options_of(command: &Command, entry: Option<&BStr>) -> mirror::Options {
+pub fn options_of(command: &Command, entry: Option<&BStr>) -> session_client::Options {
     let orphans = command.orphans.map(|orphans| match orphans {
-        Orphans::Discard => mirror::Orphans::Discard,
-        Orphans::Place | Orphans::Warn | Orphans::Error => mirror::Orphans::Error,
+        Orphans::Discard => session_client::Orphans::Discard,
+        Orphans::Place | Orphans::Warn | Orphans::Error => session_client::Orphans::Error,
     });
     let entry = entry.map(|name| name.to_os_str_lossy().into_owned());
-    mirror::Options { collects_sections: command.collects_sections, entry, orphans }
+    session_client::Options { collects_sections: command.collects_sections, entry, orphans }
 }
 
 impl LinkPlan {
@@ -226,38 +244,36 @@ impl LinkPlan {
     }
 
     /// Lays the script out over the objects.
-    pub fn begin(command: &Command, inputs: Inputs) -> Begun {
+    pub fn begin(command: &Command, inputs: Inputs) -> PlanDraft {
         let settings = settings_of(command, &inputs.scripts);
         let laid_out = as_collected(command, &inputs, laid_out(&inputs, &settings));
-        Begun::new(command, inputs, laid_out, None, Default::default())
+        PlanDraft::new(command, inputs, laid_out, None, Default::default())
     }
 
     /// Writes the script in the profile.
-    pub fn finish(command: &Command, begun: Begun) -> LinkPlan {
-        let Begun { inputs, layout, evaluation, made_loaded, remade, shortened, names, held } = begun;
+    pub fn finish(command: &Command, begun: PlanDraft) -> LinkPlan {
+        let PlanDraft { inputs, layout, evaluation, made_loaded, merged_objects, shortened, names, held } = begun;
         let keeps_more = layout.as_ref().map_or(false, Layout::keeps_named_by_frames);
-        let mut residual = written(command, &inputs, evaluation.as_ref().ok(), keeps_more);
-        let table =
-            evaluation.as_ref().ok().and_then(|evaluation| frame_table::note(command, &inputs.scripts, evaluation));
-        residual.notes.extend(table);
-        let options = options_of(command, residual.entry.as_ref().map(|name| name.as_bstr()));
-        let form = form_of(command, &inputs, &residual, evaluation.as_ref().ok());
-        let changed = evaluation.as_ref().ok();
-        let changed = changed.and_then(|found| changed_of(held, &inputs, found, &made_loaded, &residual));
+        let mut adapted = write_script(command, &inputs, evaluation.as_ref().ok(), keeps_more);
+        let table = evaluation.as_ref().ok().and_then(|evaluation| eh_frame_hdr::note(&inputs.scripts, evaluation));
+        adapted.notes.extend(table);
+        let options = options_of(command, adapted.entry.as_ref().map(|name| name.as_bstr()));
+        let form = form_of(command, &inputs, &adapted, evaluation.as_ref().ok());
+        let changed = as_changed(held, &inputs, &evaluation, &made_loaded, &adapted);
         let wanted = evaluation.as_ref().ok().filter(|_| !form.is_flat && form.symbols.strip != Strip::All);
         let names = wanted.map(|evaluation| LinkedNames::of(inputs.objects(), evaluation, names));
         let kept = Kept::default();
         LinkPlan {
             inputs,
             evaluation,
-            residual,
+            adapted,
             options,
             form,
             kept,
             layout,
             names,
             made_loaded,
-            remade,
+            merged_objects,
             shortened,
             changed,
         }
@@ -270,7 +286,7 @@ impl LinkPlan {
             return None;
         }
         let before = std::mem::take(&mut self.inputs.held);
-        let is_in_place = self.inputs.compose(command);
+        let is_in_place = self.inputs.add_linker_objects(command);
         let others: Vec<usize> = (0..self.inputs.held.len())
             .filter(|at| {
                 let (old, new) = (before.get(*at), self.inputs.held.get(*at));
@@ -284,14 +300,14 @@ impl LinkPlan {
             .layout
             .take()
             .filter(|_| is_in_place)
-            .and_then(|mut layout| layout.renew(objects, &changed).then_some(layout));
+            .and_then(|mut layout| layout.update(objects, &changed).then_some(layout));
         let merged = self.evaluation.as_ref().ok().map(|evaluation| AllMerges {
             loaded: Arc::clone(&evaluation.merges),
             beside: Arc::clone(&evaluation.merges_beside),
         });
         let laid_out = match kept {
             Some(mut layout) => {
-                merged.into_iter().for_each(|merged| layout.remember(merged));
+                merged.into_iter().for_each(|merged| layout.set_merged(merged));
                 layout.set_keeps_named_by_frames(false);
                 let evaluation = layout.evaluate(objects);
                 (Some(layout), evaluation)
@@ -299,7 +315,7 @@ impl LinkPlan {
             None => laid_out(&self.inputs, &settings),
         };
         let laid_out = as_collected(command, &self.inputs, laid_out);
-        let begun = Begun::new(command, self.inputs, laid_out, self.names, (self.remade, self.shortened));
+        let begun = PlanDraft::new(command, self.inputs, laid_out, self.names, (self.merged_objects, self.shortened));
         let kept = Kept { strings: self.kept.strings, ..Kept::default() };
         Some(LinkPlan { kept, ..LinkPlan::finish(command, begun) })
     }
@@ -307,44 +323,45 @@ impl LinkPlan {
     /// Takes an object in the place of another one that says the same of names, sections and relocations.
     fn put(&mut self, place: usize, new: Object) {
         let noted = self.inputs.notes.as_mut().map_or_else(|| new.clone(), |notes| notes.put(place, &new));
-        let (at, tabled) = match &mut self.inputs.table {
-            Some(table) => table.put(place, &noted),
-            None => (place, noted),
+        let framed = self.inputs.eh_frame_hdr.as_mut().map_or(place, |table| table.put(place, &noted));
+        let (at, with_got) = match &mut self.inputs.got {
+            Some(got) => got.put(framed, &noted),
+            None => (framed, noted),
         };
-        self.inputs.identity.iter_mut().for_each(|identity| identity.put(at, tabled.clone()));
+        self.inputs.build_id_note.iter_mut().for_each(|build_id_note| build_id_note.put(at, with_got.clone()));
         self.inputs.loaded.put(place, new);
     }
 
     /// Holds the objects as they are now, if all of the plan but their bytes stays.
-    fn hold_again(&mut self) {
+    fn update_session_objects(&mut self) {
         self.inputs.held = held_of(self.inputs.objects());
         if let Some(names) = &mut self.names {
             names.hold(self.inputs.objects());
         }
-        let evaluation = self.evaluation.as_ref().ok();
-        self.changed = evaluation.and_then(|evaluation| {
-            let (inputs, made_loaded) = (&self.inputs, &self.made_loaded);
-            let mut held = inputs.held.clone();
+        let (inputs, made_loaded) = (&self.inputs, &self.made_loaded);
+        let mut held = inputs.held.clone();
+        if let Ok(evaluation) = &self.evaluation {
             let collects = self.options.collects_sections;
-            self.remade.put(&mut held, inputs.objects(), evaluation, made_loaded, collects);
+            self.merged_objects.put(&mut held, inputs.objects(), evaluation, made_loaded, collects);
             self.shortened.put(&mut held, evaluation);
-            changed_of(held, inputs, evaluation, made_loaded, &self.residual)
-        });
+        }
+        eh_frame_hdr::put(&mut held, inputs.objects(), self.evaluation.as_ref().ok());
+        self.changed = as_changed(held, inputs, &self.evaluation, made_loaded, &self.adapted);
     }
 
     /// Gives the note of the build ID other bytes.
     pub fn set_id(&mut self, id: Vec<u8>) {
-        self.inputs.identity.iter_mut().for_each(|identity| identity.set(id.clone()));
+        self.inputs.build_id_note.iter_mut().for_each(|build_id_note| build_id_note.set(id.clone()));
         if self.hold_note().is_none() {
-            self.hold_again();
+            self.update_session_objects();
         }
     }
 
     /// Holds the note of the build ID as it is now; `None` if that is not all, as it was not held as it is.
     fn hold_note(&mut self) -> Option<()> {
-        let identity = self.inputs.identity.as_ref().ok()?;
-        let at = identity.place().0 .0 as usize;
-        let now = identity.objects().get(at)?.data().clone();
+        let build_id_note = self.inputs.build_id_note.as_ref().ok()?;
+        let at = build_id_note.place().0 .0 as usize;
+        let now = build_id_note.objects().get(at)?.data().clone();
         let held = self.inputs.held.get_mut(at)?;
         if let Some(changed) = &mut self.changed {
             let one = changed.get_mut(at).filter(|one| one.data.is_identical(&held.data))?;
@@ -352,9 +369,14 @@ impl LinkPlan {
         }
         held.data = now;
         if let Some(names) = &mut self.names {
-            names.hold(identity.objects());
+            names.hold(build_id_note.objects());
         }
         Some(())
+    }
+
+    /// The lines of GNU ld's about a table of `.eh_frame` that is not there, or has no rows.
+    pub fn eh_frame_hdr_warnings(&self, command: &Command) -> Vec<String> {
+        eh_frame_hdr::warnings(command, self.inputs.objects(), self.evaluation.as_ref().ok())
     }
 
     /// What the table of symbols of an image is made of; `None` if the layout is not known. `spans` are those of what
@@ -372,7 +394,7 @@ impl LinkPlan {
 
     /// Whether the image may be laid out otherwise than was evaluated.
     pub fn may_differ(&self) -> bool {
-        self.evaluation.is_ok() && self.residual.changed().next().is_some()
+        self.evaluation.is_ok() && self.adapted.changed().next().is_some()
     }
 
     /// The names of script and objects, in the order of GNU ld's table of symbols.
@@ -384,37 +406,53 @@ impl LinkPlan {
         let names = layout.map_or_else(Vec::new, |layout| layout.table_order(objects, &|_| true));
         let known = LinkNames::look_up(objects, &names);
         let named = |name: BString| {
-            let definition = known.definition(name.as_bstr()).copied();
+            let definition = known.definition(name.as_bstr()).map(NamedDefinition::from);
             Named { name: name.into(), definition, is_spoken: true }
         };
         names.into_iter().map(named).collect()
     }
 
     /// The objects as the session holds them.
-    pub fn held(&self) -> &[Held] {
+    pub fn held(&self) -> &[SessionObject] {
         self.changed.as_ref().unwrap_or(&self.inputs.held)
+    }
+}
+
+/// The objects as the session is to hold them, of those that were merged and of the table of entries; `None` if they
+/// are those that were read.
+fn as_changed(
+    held: Vec<SessionObject>,
+    inputs: &Inputs,
+    evaluation: &Result<Evaluation, Stop>,
+    made_loaded: &MadeLoaded,
+    adapted: &AdaptedScript,
+) -> Option<Vec<SessionObject>> {
+    match evaluation {
+        Ok(evaluation) => changed_of(held, inputs, evaluation, made_loaded, adapted),
+        Err(_) => inputs.eh_frame_hdr.is_some().then_some(held),
     }
 }
 
 /// The objects as the session is to hold them, of those that were merged; `None` if they are those that were read.
 fn changed_of(
-    mut held: Vec<Held>,
+    mut held: Vec<SessionObject>,
     inputs: &Inputs,
     evaluation: &Evaluation,
     made_loaded: &MadeLoaded,
-    residual: &Residual,
-) -> Option<Vec<Held>> {
+    adapted: &AdaptedScript,
+) -> Option<Vec<SessionObject>> {
     let has_commons = inputs.objects().iter().any(|object| object.has_commons());
     let overridden = overridden::names(evaluation);
-    let is_as_read = made_loaded.is_empty() && !has_commons && residual.aliases.is_empty() && overridden.is_empty();
+    let is_as_read = made_loaded.is_empty() && !has_commons && adapted.aliases.is_empty() && overridden.is_empty();
+    let is_as_read = is_as_read && inputs.eh_frame_hdr.is_none();
     if is_as_read && evaluation.merges.is_empty() && evaluation.shortened.is_empty() {
         return None;
     }
     loaded::with_flags(&mut held, made_loaded);
     if has_commons {
-        commons::with_places(&mut held, inputs.objects(), evaluation);
+        placed_commons::with_places(&mut held, inputs.objects(), evaluation);
     }
-    aliases::with_names(&mut held, evaluation, &residual.aliases);
+    aliased_objects::with_names(&mut held, evaluation, &adapted.aliases);
     overridden::undefine(&mut held, inputs.objects(), &overridden);
     Some(held)
 }
@@ -463,14 +501,19 @@ fn kept_beside(command: &Command, inputs: &Inputs, evaluation: Option<&Evaluatio
 }
 
 /// The script in the profile; `keeps_more`: as many sections are kept as `.eh_frame` names.
-fn written(command: &Command, inputs: &Inputs, evaluation: Option<&Evaluation>, keeps_more: bool) -> Residual {
+fn write_script(
+    command: &Command,
+    inputs: &Inputs,
+    evaluation: Option<&Evaluation>,
+    keeps_more: bool,
+) -> AdaptedScript {
     let objects: Vec<&BStr> = inputs.held.iter().map(|held| held.name.as_bstr()).collect();
     let defines =
         |name: &BStr| inputs.objects().iter().any(|object| object.globals_named(name).any(|one| one.rank().is_some()));
     let (kept, keeps_others) = kept_beside(command, inputs, evaluation);
-    let of = |evaluation| first_values::kept_by_first_values(inputs.objects(), evaluation);
+    let of = |evaluation| got_unrelaxed::kept_by_first_values(inputs.objects(), evaluation);
     let without_entries = evaluation.map_or_else(Vec::new, of);
-    residual(Request {
+    adapted_script(Request {
         script: &inputs.scripts.reading.script,
         source: &inputs.scripts.reading.source,
         evaluation,
@@ -492,15 +535,16 @@ fn written(command: &Command, inputs: &Inputs, evaluation: Option<&Evaluation>, 
 }
 
 /// The form of the file that a command and a script ask for.
-fn form_of(command: &Command, inputs: &Inputs, residual: &Residual, evaluation: Option<&Evaluation>) -> Form {
+fn form_of(command: &Command, inputs: &Inputs, adapted: &AdaptedScript, evaluation: Option<&Evaluation>) -> Form {
     let scripts = &inputs.scripts;
     Form {
         page: if command.is_omagic || command.is_nmagic { 1 } else { command.page_size.unwrap_or(PAGE) },
-        segments: residual.segments.clone(),
-        segments_problem: residual.segments_problem.clone(),
-        headers: evaluation.and_then(|evaluation| stack::headers_of(command, &inputs.loaded.objects, evaluation)),
-        names: residual.names.clone(),
-        rights: evaluation.map_or_else(Vec::new, rights_of),
+        segments: adapted.segments.clone(),
+        segments_problem: adapted.segments_problem.clone(),
+        headers: evaluation
+            .and_then(|evaluation| program_headers::headers_of(command, &inputs.loaded.objects, evaluation)),
+        names: adapted.names.clone(),
+        rights: evaluation.map_or_else(Vec::new, |evaluation| rights_of(inputs, evaluation)),
         symbols: symbols::options_of(command, &inputs.retained),
         strips_debugging: symbols::strips_debugging(command),
         is_flat: is_flat(command, scripts),
@@ -522,11 +566,22 @@ fn is_flat(command: &Command, scripts: &Scripts) -> bool {
     }
 }
 
-/// The rights of GNU ld's sections.
-fn rights_of(evaluation: &Evaluation) -> Vec<Rights> {
+/// The rights of GNU ld's sections. What has `.got.plt` says the size of its entries (elfxx-x86.c,
+/// `_bfd_x86_elf_finish_dynamic_sections`).
+fn rights_of(inputs: &Inputs, evaluation: &Evaluation) -> Vec<Rights> {
+    let table = inputs.got.as_ref().and_then(Got::at).map(|at| ObjectIndex(at as u32));
+    let is_of_table = |id: &SectionId| {
+        let section = evaluation.sections.get(id.index());
+        section.map_or(false, |one| Some(one.object) == table && one.number() == Some(HEADER_SECTION))
+    };
+    let rights = |place: &Placed| Rights {
+        address: place.address,
+        size: place.size,
+        flags: place.bits,
+        kind: place.kind,
+        entry_size: if place.inputs.iter().any(is_of_table) { ENTRY_SIZE as u64 } else { place.entry_size },
+    };
     let loaded = evaluation.in_image().filter(|(_, place)| place.is_allocated() && place.size != 0);
-    let rights =
-        |place: &Placed| Rights { address: place.address, size: place.size, flags: place.bits, kind: place.kind };
     loaded.map(|(_, place)| rights(place)).collect()
 }
 

@@ -4,8 +4,8 @@
 use bstr::{BStr, ByteSlice};
 
 use crate::layout::Evaluation;
-use crate::mirror::Held;
 use crate::objects::{without_names, Object, Rank};
+use crate::session_client::SessionObject;
 
 /// The names that the script overrides.
 pub(super) fn names(evaluation: &Evaluation) -> Vec<&BStr> {
@@ -13,7 +13,7 @@ pub(super) fn names(evaluation: &Evaluation) -> Vec<&BStr> {
 }
 
 /// Makes these names undefined in the objects that define them. A weak definition is no fault.
-pub(super) fn undefine(held: &mut [Held], objects: &[Object], names: &[&BStr]) {
+pub(super) fn undefine(held: &mut [SessionObject], objects: &[Object], names: &[&BStr]) {
     if names.is_empty() {
         return;
     }

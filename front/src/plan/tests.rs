@@ -62,7 +62,7 @@ fn with_data(code: &[u8], section: &str, data: &[u8], symbols: &[WrittenSymbol])
 /// Tests that a plan is the one that is made anew of the same files.
 fn is_as_anew(found: &LinkPlan, command: &Command) {
     let anew = plan(command, &mut Snapshot::new());
-    assert_eq!(found.residual.text.as_bstr(), anew.residual.text.as_bstr());
+    assert_eq!(found.adapted.text.as_bstr(), anew.adapted.text.as_bstr());
     assert_eq!(found.held(), anew.held());
     assert_eq!(found.options, anew.options);
     assert_eq!(found.form, anew.form);

@@ -6,11 +6,12 @@
 //! what that number excludes.
 
 mod expressions;
+pub mod limits;
 mod names;
+pub(crate) mod reserved_words;
 mod sections;
 mod statements;
 pub(crate) mod text;
-pub(crate) mod words;
 
 use std::collections::HashSet;
 use std::path::{Path, PathBuf};
@@ -59,8 +60,8 @@ pub struct Objection {
 
 /// All constructs of a text that the profile does not have, in its order. `files` are those that INCLUDE names.
 pub fn objections(path: &Path, text: &[u8], files: &mut dyn ScriptFiles, folders: Vec<PathBuf>) -> Vec<Objection> {
-    if text.len() > text::GREATEST_SCRIPT {
-        let sentence = format!("the text is longer than {} bytes", text::GREATEST_SCRIPT);
+    if text.len() > limits::MAX_SCRIPT {
+        let sentence = format!("the text is longer than {} bytes", limits::MAX_SCRIPT);
         return vec![Objection {
             cause: Cause::Limit,
             place: Place { path: path.into(), line: 1, column: 1 },

@@ -4,7 +4,8 @@ use std::path::Path;
 
 use bstr::ByteSlice;
 
-use super::words::{is_name, is_reserved, is_word, GREATEST_NAME};
+use super::limits::MAX_WORD;
+use super::reserved_words::{is_name, is_reserved, is_word};
 use super::{Cause, Check};
 use crate::script::tree::{ExprKind, Fill, Span};
 
@@ -17,7 +18,7 @@ impl Check<'_> {
         let shown = name.as_bstr();
         if self.is_quoted(at) {
             self.outside(at, format!("the name \"{shown}\" in quotes"), "write it without quotes");
-        } else if name.len() > GREATEST_NAME {
+        } else if name.len() > MAX_WORD {
             self.object(Cause::Limit, at, TOO_LONG);
         } else if is_reserved(name) {
             self.object(Cause::Grammar, at, format!("`{shown}` is a reserved word, and no name"));
@@ -33,7 +34,7 @@ impl Check<'_> {
         if is_quoted {
             let instead = "write it without, and `\\` before bytes that no pattern has";
             self.object(Cause::Tokens, at, format!("\"{shown}\": a pattern stands without quotes: {instead}"));
-        } else if glob.len() > GREATEST_NAME {
+        } else if glob.len() > MAX_WORD {
             self.object(Cause::Limit, at, TOO_LONG);
         } else if is_reserved(glob) {
             self.object(Cause::Grammar, at, format!("`{shown}` is a reserved word, and no pattern"));

@@ -1,14 +1,9 @@
 //! What the text itself shows: comments of `#`, and the limits on braces and signs (docs/limits.md, 'Scripts').
 
+use super::limits::{MAX_BRACES, MAX_SIGNS};
 use super::{Cause, Check};
 use crate::script::tree::Span;
 
-/// The bytes of a script, at most.
-pub(super) const GREATEST_SCRIPT: usize = 1 << 20;
-/// The braces that a script opens, at most.
-const MOST_BRACES: usize = 4096;
-/// The signs of a run, at most.
-const MOST_SIGNS: usize = 64;
 /// The words whose parentheses hold an expression among patterns.
 const BEFORE_EXPRESSIONS: [&[u8]; 6] = [b"BYTE", b"SHORT", b"LONG", b"QUAD", b"PROVIDE", b"ASSERT"];
 
@@ -176,7 +171,7 @@ impl Counts {
         let is_over = self.count_sign(byte, is_pattern);
         self.last = byte;
         self.braces += usize::from(byte == b'{');
-        if byte == b'{' && self.braces == MOST_BRACES + 1 {
+        if byte == b'{' && self.braces == MAX_BRACES + 1 {
             return Some("over a limit: this is `{` number 4,097 of the text");
         }
         is_over.then_some("over a limit: more than 64 operators and `(` with no `;`, `{` or `}` between them")
@@ -198,7 +193,7 @@ impl Counts {
             (_, byte) => b"!-~*/%+<>&|?(".contains(&byte),
         };
         self.signs += usize::from(is_sign);
-        is_sign && self.signs == MOST_SIGNS + 1
+        is_sign && self.signs == MAX_SIGNS + 1
     }
 }
 

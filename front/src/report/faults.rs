@@ -13,12 +13,11 @@ use super::rules::{FaultRule, RELOCATIONS};
 use super::slim_lto::{is_slim, SLIM};
 use super::{plain, Diagnostic};
 use crate::objects::{Object, Relocation, SymbolIndex, SymbolKind};
+use crate::profile::limits::MAX_IMAGE;
 use crate::script::Place;
 
 /// What stands at the front if no file is to blame.
 const PROGRAM: &str = "ldi";
-/// The longest image of `ldi`, in bytes.
-const MOST_IMAGE_BYTES: u64 = 1 << 28;
 /// GNU ld's types of output sections, which are read as the address of the section by `ldi`.
 const SECTION_TYPES: [&[u8]; 5] = [b"COPY", b"INFO", b"OVERLAY", b"DSECT", b"READONLY"];
 
@@ -95,10 +94,10 @@ impl Sentences<'_> {
             (FaultRule::PastAddressSpace, [Number(line)]) => self
                 .at_line(line_number(*line), "an address, an end or `.' would be 2^64 or more".into())
                 .with_advice("lower the address or the size"),
-            (FaultRule::AddressesMeet, [Name(section), Name(earlier)]) => {
+            (FaultRule::AddressesOverlap, [Name(section), Name(earlier)]) => {
                 self.meeting("addresses", section, earlier).with_advice("move one of the two")
             }
-            (FaultRule::LoadAddressesMeet, [Name(section), Name(earlier)]) => {
+            (FaultRule::LoadAddressesOverlap, [Name(section), Name(earlier)]) => {
                 self.meeting("load addresses", section, earlier).with_advice("correct AT(..), or use AT>")
             }
             (FaultRule::ImageTooLong, [Number(length)]) => self.too_long(*length),
@@ -267,7 +266,7 @@ impl Sentences<'_> {
         });
         let (section_name, region, numbers) = (plain(section), plain(region), numbers.unwrap_or_default());
         let place = format!("section `{section_name}' will not fit in region `{region}'{numbers}");
-        self.at_output(section, format!("{place}: its {what} do not lie there"))
+        self.at_output(section, format!("{place}: its {what} are not all in it"))
             .with_advice("raise LENGTH, or place less there")
     }
 
@@ -281,7 +280,7 @@ impl Sentences<'_> {
 
     /// The message of F11.
     fn too_long(&self, length: u64) -> Diagnostic {
-        Diagnostic::error(format!("the image would have {length} bytes, more than {MOST_IMAGE_BYTES}"))
+        Diagnostic::error(format!("the image would have {length} bytes, more than {MAX_IMAGE}"))
             .of_file(self.inputs.script_path)
             .with_advice(
                 "close the gaps in sections with file bytes, or keep what has no contents in sections of its own at \

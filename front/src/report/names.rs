@@ -11,7 +11,7 @@ use super::Diagnostic;
 use crate::objects::{Binding, Home, Object, Rank, Relocation, SectionIndex, Symbol, SymbolIndex, SymbolKind};
 
 /// The objects whose variables are looked for in debug information in one run of messages.
-const MOST_VARIABLE_OBJECTS: usize = 50;
+const MAX_VARIABLE_OBJECTS: usize = 50;
 
 /// Where a relocation or a definition is: what stands of it at the front of a message.
 #[derive(Clone, Debug)]
@@ -203,7 +203,7 @@ impl<'a> Names<'a> {
     /// The source line of a variable, for a bounded number of objects.
     fn variable(&mut self, index: usize, section: SectionIndex, offset: u64) -> Option<SourceLine> {
         if !self.variable_objects.contains(&index) {
-            if self.variable_objects.len() >= MOST_VARIABLE_OBJECTS {
+            if self.variable_objects.len() >= MAX_VARIABLE_OBJECTS {
                 return None;
             }
             self.variable_objects.push(index);

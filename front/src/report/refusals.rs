@@ -20,15 +20,16 @@ use super::plain::{plain, trimmed};
 use super::relocation_names::{need_of, relocation_name, Need};
 use super::rules::{EDITS, LIMIT, NOT_AN_OBJECT, NOT_A_SCRIPT, OBJECTS, RELOCATIONS, SCRIPTS};
 use super::Diagnostic;
-use crate::mirror::{Refusal, GREATEST_NAME, GREATEST_PAYLOAD};
 use crate::objects::{Object, Relocation, Section, SectionFlags, SymbolKind};
+use crate::profile::limits::{MAX_OBJECT_NAME, MAX_PAYLOAD};
 use crate::profile::{objections, refused_for, Objection};
 use crate::script::Place;
+use crate::session_client::Refusal;
 
 /// How long `readobj` may take.
 const PATIENCE: Duration = Duration::from_secs(10);
 /// The places of a refusal that are said.
-const MOST_PLACES: usize = 20;
+const MAX_PLACES: usize = 20;
 /// What to do about thread-local storage.
 const WITHOUT_TLS: &str = "there is no TLS: no __thread, thread_local or #[thread_local]";
 /// What to do about references to a global offset table.
@@ -97,7 +98,7 @@ pub fn refusals_of_script(input: &RefusedInput<'_>, origin_of: &dyn Fn(u32) -> O
         diagnostic.excerpt = lines.excerpt(one.place.line);
         diagnostic
     };
-    let found = refused_for(found, input.refusal.inner).into_iter().take(MOST_PLACES);
+    let found = refused_for(found, input.refusal.inner).into_iter().take(MAX_PLACES);
     let mut said: Vec<Diagnostic> = found.map(at_line).collect();
     if said.is_empty() {
         let sentence = sentence_of(SCRIPTS, input.refusal.inner).unwrap_or_else(|| edit_sentence(NOT_A_SCRIPT));
@@ -142,13 +143,13 @@ fn of_edit(input: &RefusedInput<'_>) -> Diagnostic {
         let unknown = || format!("refused {number} {inner}");
         return Diagnostic::error(sentence_of(EDITS, number).unwrap_or_else(unknown));
     }
-    if input.data.map_or(false, |data| data.len() > GREATEST_PAYLOAD) {
-        return Diagnostic::error(format!("it has more than {GREATEST_PAYLOAD} bytes"));
+    if input.data.map_or(false, |data| data.len() > MAX_PAYLOAD) {
+        return Diagnostic::error(format!("it has more than {MAX_PAYLOAD} bytes"));
     }
     let rule = "an object's name has 1 to 255 bytes, each from `!' to `~'";
     match input.name.iter().find(|byte| !byte.is_ascii_graphic()) {
         Some(byte) => Diagnostic::error(format!("its name has the byte {byte:#04x}: {rule}")),
-        None if input.name.is_empty() || input.name.len() > GREATEST_NAME => {
+        None if input.name.is_empty() || input.name.len() > MAX_OBJECT_NAME => {
             Diagnostic::error(format!("its name has {} bytes: {rule}", input.name.len()))
         }
         None => Diagnostic::error(edit_sentence(LIMIT)),
@@ -169,7 +170,7 @@ fn places_of(object: &Object, inner: u32) -> Vec<Diagnostic> {
     if !found.is_empty() && inner != 11 {
         found.extend(of_relocations(object, &is_tls));
     }
-    found.truncate(MOST_PLACES);
+    found.truncate(MAX_PLACES);
     found
 }
 
@@ -204,7 +205,7 @@ fn of_symbols(object: &Object) -> Vec<Diagnostic> {
         diagnostic.advice = advice.map(str::to_owned);
         diagnostic.file = Some(plain(object.name()));
         found.push(diagnostic);
-        if found.len() == MOST_PLACES {
+        if found.len() == MAX_PLACES {
             break;
         }
     }
@@ -221,7 +222,7 @@ fn of_relocations(object: &Object, is_meant: &dyn Fn(Need) -> bool) -> Vec<Diagn
         for relocation in object.relocations(section.index) {
             let is_known = RELOCATIONS.iter().any(|row| row.number == relocation.kind);
             let is_known = is_known || !is_meant(need_of(relocation.kind));
-            if is_known || found.len() == MOST_PLACES || !seen.insert((relocation.kind, relocation.symbol)) {
+            if is_known || found.len() == MAX_PLACES || !seen.insert((relocation.kind, relocation.symbol)) {
                 continue;
             }
             let is_it = |_: &Object, other: Relocation| other == relocation;
@@ -262,7 +263,7 @@ fn reasons_of_object(input: &RefusedInput<'_>) -> Vec<String> {
             _ => reasons.push(text),
         }
     }
-    reasons.truncate(MOST_PLACES);
+    reasons.truncate(MAX_PLACES);
     reasons
 }
 

@@ -39,7 +39,7 @@ pub fn has_colours(stream: &impl AsFd) -> bool {
 }
 
 /// How long the text of a line is at most where it stands in a message.
-const LONGEST_TEXT: usize = 160;
+const MAX_TEXT: usize = 160;
 
 /// The escape sequences of a style (ECMA-48, 'SGR'); empty ones without colour.
 struct Colours {
@@ -123,8 +123,8 @@ impl Diagnostic {
         }
         let line = self.excerpt.as_ref().map_or("", |excerpt| excerpt.text.trim());
         if !line.is_empty() {
-            let end = if line.chars().nth(LONGEST_TEXT).is_some() { " .." } else { "" };
-            let short: String = line.chars().take(LONGEST_TEXT).collect();
+            let end = if line.chars().nth(MAX_TEXT).is_some() { " .." } else { "" };
+            let short: String = line.chars().take(MAX_TEXT).collect();
             text.push_str(&format!(": {short}{end}"));
         }
         text

@@ -64,6 +64,53 @@ pub const RELOCATIONS: &[RelocationRule] = &[
     row(24, "R_X86_64_PC64", 8, None, true),
 ];
 
+/// The psABI's names of all types of relocations, by their numbers, without `R_X86_64_`.
+pub const RELOCATION_NAMES: [&str; 43] = [
+    "NONE",
+    "64",
+    "PC32",
+    "GOT32",
+    "PLT32",
+    "COPY",
+    "GLOB_DAT",
+    "JUMP_SLOT",
+    "RELATIVE",
+    "GOTPCREL",
+    "32",
+    "32S",
+    "16",
+    "PC16",
+    "8",
+    "PC8",
+    "DTPMOD64",
+    "DTPOFF64",
+    "TPOFF64",
+    "TLSGD",
+    "TLSLD",
+    "DTPOFF32",
+    "GOTTPOFF",
+    "TPOFF32",
+    "PC64",
+    "GOTOFF64",
+    "GOTPC32",
+    "GOT64",
+    "GOTPCREL64",
+    "GOTPC64",
+    "GOTPLT64",
+    "PLTOFF64",
+    "SIZE32",
+    "SIZE64",
+    "GOTPC32_TLSDESC",
+    "TLSDESC_CALL",
+    "TLSDESC",
+    "IRELATIVE",
+    "RELATIVE64",
+    "PC32_BND",
+    "PLT32_BND",
+    "GOTPCRELX",
+    "REX_GOTPCRELX",
+];
+
 /// The rules of fault lines.
 #[derive(Clone, Copy, PartialEq, Eq, Hash, Debug)]
 pub enum FaultRule {
@@ -84,9 +131,9 @@ pub enum FaultRule {
     /// `F8 LINE`
     PastAddressSpace,
     /// `F9 SECTION EARLIER`
-    AddressesMeet,
+    AddressesOverlap,
     /// `F10 SECTION EARLIER`
-    LoadAddressesMeet,
+    LoadAddressesOverlap,
     /// `F11 LENGTH`
     ImageTooLong,
     /// `F12 OBJECT SECTION OFFSET NAME`
@@ -111,8 +158,8 @@ pub const FAULTS: &[FaultForm] = &[
     FaultForm { code: "F6", rule: FaultRule::MovedBack, words: &[Number] },
     FaultForm { code: "F7", rule: FaultRule::RegionFull, words: &[Name, Name] },
     FaultForm { code: "F8", rule: FaultRule::PastAddressSpace, words: &[Number] },
-    FaultForm { code: "F9", rule: FaultRule::AddressesMeet, words: &[Name, Name] },
-    FaultForm { code: "F10", rule: FaultRule::LoadAddressesMeet, words: &[Name, Name] },
+    FaultForm { code: "F9", rule: FaultRule::AddressesOverlap, words: &[Name, Name] },
+    FaultForm { code: "F10", rule: FaultRule::LoadAddressesOverlap, words: &[Name, Name] },
     FaultForm { code: "F11", rule: FaultRule::ImageTooLong, words: &[Number] },
     FaultForm { code: "F12", rule: FaultRule::UndefinedSymbol, words: &[Name, Name, Hex, Name] },
     FaultForm { code: "F13", rule: FaultRule::TargetNotInOutput, words: &[Name, Name, Hex, Number] },

@@ -13,11 +13,11 @@ use super::plain;
 use crate::objects::{Elf, Home, Object, Relocation, SectionFlags, SectionIndex, SectionKind};
 
 /// An object with more bytes of line programs, or of debug information, has no lines of these: they would take seconds.
-const MOST_BYTES: usize = 1 << 24;
+const MAX_BYTES: usize = 1 << 24;
 /// The entries of debug information of an object that are looked at.
-const MOST_ENTRIES: usize = 200_000;
+const MAX_ENTRIES: usize = 200_000;
 /// A compressed section that would be longer is left out.
-const LONGEST_SECTION: usize = 1 << 28;
+const MAX_SECTION: usize = 1 << 28;
 
 type Slice<'a> = EndianSlice<'a, LittleEndian>;
 
@@ -105,7 +105,7 @@ impl CodeLines {
     fn read(object: &Object) -> Option<CodeLines> {
         let owned = load(object)?;
         let dwarf = owned.borrow(|section| EndianSlice::new(section, LittleEndian));
-        if dwarf.debug_line.reader().len() > MOST_BYTES {
+        if dwarf.debug_line.reader().len() > MAX_BYTES {
             return None;
         }
         let folders = unit_folders(&dwarf);
@@ -174,7 +174,7 @@ fn program_at<'a>(
 /// The folders of compilations, by the offsets of their line programs.
 fn unit_folders<'a>(dwarf: &Dwarf<Slice<'a>>) -> HashMap<usize, Slice<'a>> {
     let mut folders = HashMap::new();
-    if dwarf.debug_info.reader().len() > MOST_BYTES {
+    if dwarf.debug_info.reader().len() > MAX_BYTES {
         return folders;
     }
     let mut units = dwarf.units();
@@ -192,7 +192,7 @@ fn unit_folders<'a>(dwarf: &Dwarf<Slice<'a>>) -> HashMap<usize, Slice<'a>> {
 fn variables_of(object: &Object) -> Option<HashMap<u64, SourceLine>> {
     let owned = load(object)?;
     let dwarf = owned.borrow(|section| EndianSlice::new(section, LittleEndian));
-    if dwarf.debug_info.reader().len() > MOST_BYTES {
+    if dwarf.debug_info.reader().len() > MAX_BYTES {
         return None;
     }
     let mut found = HashMap::new();
@@ -206,7 +206,7 @@ fn variables_of(object: &Object) -> Option<HashMap<u64, SourceLine>> {
         let mut entries = unit.entries();
         while let Ok(Some((_, entry))) = entries.next_dfs() {
             count += 1;
-            if count > MOST_ENTRIES {
+            if count > MAX_ENTRIES {
                 return Some(found);
             }
             if entry.tag() == gimli::DW_TAG_variable {
@@ -382,7 +382,7 @@ fn contents(elf: &Elf, index: SectionIndex) -> Option<Vec<u8>> {
         return Some(bytes.to_vec());
     }
     let packed = bytes.get(HEADER_BYTES..).filter(|_| bytes.starts_with(ZLIB))?;
-    miniz_oxide::inflate::decompress_to_vec_zlib_with_limit(packed, LONGEST_SECTION).ok()
+    miniz_oxide::inflate::decompress_to_vec_zlib_with_limit(packed, MAX_SECTION).ok()
 }
 
 #[cfg(test)]

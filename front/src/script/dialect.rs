@@ -2,8 +2,8 @@
 //! one name to GNU ld. A byte that the profile does not have in names stays in a name as in GNU ld, so that a message
 //! can say what is wrong with the name.
 
+use super::keywords::word;
 use super::lexer::{self, is_file_byte, is_file_start, is_wild_byte, mark, quoted, run, Kind, State};
-use super::words::word;
 
 /// Whose tokens a text has.
 #[derive(Clone, Copy, PartialEq, Eq, Debug, Default)]

@@ -7,9 +7,9 @@ use bstr::{BString, ByteSlice};
 
 use super::dialect::{self, Dialect};
 use super::error::{ErrorKind, ScriptError, Warning, WarningKind};
+use super::keywords::word;
 use super::source::Source;
 use super::tree::Span;
-use super::words::word;
 
 /// A state of the lexer.
 #[derive(Clone, Copy, PartialEq, Eq, Debug)]

@@ -5,11 +5,11 @@
 
 mod dialect;
 mod error;
+mod keywords;
 mod lexer;
 mod parser;
 pub mod source;
 pub mod tree;
-mod words;
 
 use std::ffi::OsStr;
 use std::io;
@@ -20,6 +20,7 @@ use std::path::{Path, PathBuf};
 pub use error::{ErrorKind, ScriptError, Warning, WarningKind};
 pub use source::{Place, ScriptFiles, Source};
 
+use crate::report::os_message;
 use dialect::Dialect;
 use lexer::State;
 use parser::Parser;
@@ -73,7 +74,7 @@ impl<'a> Reader<'a> {
                 self.text(&path, text)
             }
             Err(error) => {
-                let reason = ErrorKind::MissingScript(own.to_string(), plain_reason(&error));
+                let reason = ErrorKind::MissingScript(own.to_string(), os_message(&error));
                 Err(self.parser.lexer.error_here(reason))
             }
         }
@@ -151,12 +152,6 @@ impl<'a> Reader<'a> {
             }
         }
     }
-}
-
-/// The reason of an error without its number.
-fn plain_reason(error: &io::Error) -> String {
-    let text = error.to_string();
-    text.split(" (os error").next().unwrap_or_default().to_owned()
 }
 
 /// The file system as it is, for a `Reader`.

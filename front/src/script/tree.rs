@@ -276,6 +276,22 @@ pub enum Query {
     Sizeof,
 }
 
+impl Query {
+    /// Its keyword.
+    pub fn keyword(self) -> &'static str {
+        match self {
+            Query::Addr => "ADDR",
+            Query::Alignof => "ALIGNOF",
+            Query::Constant => "CONSTANT",
+            Query::Defined => "DEFINED",
+            Query::Length => "LENGTH",
+            Query::Loadaddr => "LOADADDR",
+            Query::Origin => "ORIGIN",
+            Query::Sizeof => "SIZEOF",
+        }
+    }
+}
+
 /// How an assignment gives its symbol a value.
 #[derive(Clone, Copy, PartialEq, Eq, Hash, Debug)]
 pub enum AssignOperator {

@@ -16,10 +16,11 @@ use nix::sys::socket::{getsockopt, sockopt::PeerCredentials};
 use super::key::{value_of, Key};
 use super::wire::{Kind, Message, Reader};
 use crate::once::{HandedOver, Status};
-use crate::place::Apart;
 use crate::plan::Environment;
-use crate::report::Style;
-use crate::streams::{self, Printed, Stream};
+use crate::publish::Apart;
+use crate::report::{os_message, Style};
+use crate::stdio;
+use crate::stdio::{Printed, Stream};
 
 /// The time in which a server has to answer at all; LDI_SERVER_ANSWER has others, in seconds.
 const ANSWER: f64 = 0.1;
@@ -57,10 +58,7 @@ impl From<io::Error> for Declined {
                 Declined::gone()
             }
             io::ErrorKind::InvalidData => Declined::because("it gives another answer"),
-            _ => {
-                let text = fault.to_string();
-                Declined::because(text.split(" (os error").next().unwrap_or_default())
-            }
+            _ => Declined::because(os_message(&fault)),
         }
     }
 }
@@ -151,7 +149,7 @@ impl Call<'_> {
             // A server that has gone meanwhile needs no word.
             let _ = Message::of(Kind::Placed).send(stream);
         }
-        answer.texts.iter().for_each(|one| streams::print(one.stream, &one.text));
+        answer.texts.iter().for_each(|one| stdio::print(one.stream, &one.text));
         Ok(answer.status)
     }
 
@@ -159,7 +157,7 @@ impl Call<'_> {
     fn handed_over(&self, message: Message) -> Result<u8, Declined> {
         let wrong = || Declined::because("it gives another answer");
         let (texts, handed_over) = handed_over_of(message).ok_or_else(wrong)?;
-        texts.iter().for_each(|one| streams::print(one.stream, &one.text));
+        texts.iter().for_each(|one| stdio::print(one.stream, &one.text));
         Ok(handed_over.run(self.words, self.environment) as u8)
     }
 }

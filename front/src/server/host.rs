@@ -8,7 +8,7 @@ use std::sync::{Arc, Mutex, MutexGuard, PoisonError};
 use rustix::fs::Mode;
 
 use crate::once::{Asked, HandedOver, Host, Reasons, Status};
-use crate::place::{Apart, NotWritten};
+use crate::publish::{Apart, NotWritten};
 
 /// The new files of a call, which the thread that links writes. The other one removes them when the call is done, and
 /// when the server ends, after which none is written any more.
@@ -75,7 +75,7 @@ pub(super) struct Found {
     /// Why another linker is to link.
     pub(super) handed_over: Option<HandedOver>,
     /// Why the server cannot make this link.
-    pub(super) hindrance: Option<String>,
+    pub(super) why_not_ours: Option<String>,
 }
 
 impl ServerHost {
@@ -94,7 +94,7 @@ impl Host for ServerHost {
     fn write(&self, path: &Path, pieces: &[&[u8]], mode: Mode) -> Result<(), NotWritten> {
         let written = self.files.write(path, pieces, mode);
         if !written.map_err(|fault| NotWritten { path: path.to_owned(), fault })? {
-            self.found.borrow_mut().hindrance = Some(format!("{} is no regular file", path.display()));
+            self.found.borrow_mut().why_not_ours = Some(format!("{} is no regular file", path.display()));
         }
         Ok(())
     }

@@ -11,8 +11,8 @@ use std::path::{Path, PathBuf};
 
 use rustix::fs::{cwd, openat, Mode, OFlags};
 
-use crate::place::runtime_folder;
 use crate::plan::{find_program, Environment};
+use crate::publish::runtime_folder;
 use crate::snapshot::Stamp;
 
 /// The environment that has a part in a link.
@@ -21,7 +21,7 @@ const VARIABLES: [&str; 7] = ["LDI", "LDI_FALLBACK", "LDI_WITHIN", "PATH", "LC_A
 const PREFIX: &str = "ld.";
 const DIGITS: usize = 32;
 /// The bytes of a folder's path at most: a socket's address has room for 108.
-const GREATEST_FOLDER: usize = 64;
+const MAX_FOLDER: usize = 64;
 
 /// The key of a call's server.
 #[derive(Clone, PartialEq, Eq, Debug)]
@@ -36,7 +36,7 @@ impl Key {
     /// If it is not known where names lead, for example because the working folder was removed.
     pub(super) fn of(words: &[OsString], environment: &Environment) -> io::Result<Key> {
         let mut parts: Vec<Vec<u8>> = vec![real_path(&output_of(words)).as_os_str().as_bytes().to_owned()];
-        parts.extend(standing()?);
+        parts.extend(mounts()?);
         parts.extend(program_marks(environment).iter().map(|mark| format!("{mark:?}").into_bytes()));
         parts.extend(VARIABLES.map(|name| value_of(environment, name).as_bytes().to_owned()));
         parts.extend(
@@ -59,7 +59,7 @@ impl Key {
                 format!("{:016x}", hasher.finish())
             })
             .collect();
-        (folder.as_os_str().len() < GREATEST_FOLDER).then(|| folder.join(format!("{PREFIX}{digest}")))
+        (folder.as_os_str().len() < MAX_FOLDER).then(|| folder.join(format!("{PREFIX}{digest}")))
     }
 }
 
@@ -120,7 +120,7 @@ pub(super) fn real_path(path: &Path) -> PathBuf {
 ///
 /// # Errors
 /// If the system does not say one of these.
-pub(super) fn standing() -> io::Result<Vec<Vec<u8>>> {
+pub(super) fn mounts() -> io::Result<Vec<Vec<u8>>> {
     let mut found = vec![
         std::env::current_dir()?.into_os_string().as_bytes().to_owned(),
         fs::read_link("/proc/self/ns/mnt")?.into_os_string().as_bytes().to_owned(),

@@ -14,21 +14,22 @@ use super::call::{hand_over_message, Answer};
 use super::host::{Found, NewFiles, ServerHost};
 use super::wire::{Kind, Message};
 use crate::command::{split_words, Command};
-use crate::mirror::Mirror;
 use crate::once::{make, read_words, report_end, run, Asked, Done, LinkFault, Planned, Status};
 use crate::plan::{find_program, others, Environment};
 use crate::report::Style;
+use crate::session_client::SessionClient;
 use crate::snapshot::{is_by_process, stat, Snapshot, Stamp};
-use crate::streams::{self, Printed};
+use crate::stdio;
+use crate::stdio::Printed;
 
 /// How often a call begins anew as inputs change meanwhile.
 const TRIES: usize = 4;
 /// The depth to which response files that name other ones are looked at.
-const GREATEST_DEPTH: usize = 100;
+const MAX_DEPTH: usize = 100;
 
 /// What a call asks for.
 #[derive(Clone, PartialEq, Eq, Debug)]
-pub(super) struct Wish {
+pub(super) struct LinkRequest {
     /// The words.
     pub(super) words: Vec<OsString>,
     /// The umask.
@@ -66,7 +67,7 @@ struct Kept {
 #[derive(Debug)]
 pub(super) struct Links {
     environment: Environment,
-    mirror: Mirror,
+    client: SessionClient,
     snapshot: Snapshot,
     kept: Option<Kept>,
     files: NewFiles,
@@ -75,8 +76,8 @@ pub(super) struct Links {
 impl Links {
     /// The links of an output of which nothing was linked yet.
     pub(super) fn new(environment: Environment) -> Links {
-        let mirror = Mirror::new(find_program("ldi", &environment), None);
-        Links { environment, mirror, snapshot: Snapshot::shared(), kept: None, files: NewFiles::default() }
+        let client = SessionClient::new(find_program("ldi", &environment), None);
+        Links { environment, client, snapshot: Snapshot::shared(), kept: None, files: NewFiles::default() }
     }
 
     /// The new files of the link that was made last.
@@ -86,26 +87,26 @@ impl Links {
 
     /// The number of the session's process.
     pub(super) fn session(&self) -> Arc<AtomicU32> {
-        self.mirror.process()
+        self.client.process()
     }
 
     /// Makes the link that a call wishes.
-    pub(super) fn make(&mut self, wish: &Wish) -> Outcome {
-        nix::sys::stat::umask(nix::sys::stat::Mode::from_bits_truncate(wish.mask));
-        if !are_lasting_words(&wish.words) {
+    pub(super) fn make(&mut self, request: &LinkRequest) -> Outcome {
+        nix::sys::stat::umask(nix::sys::stat::Mode::from_bits_truncate(request.mask));
+        if !are_lasting_words(&request.words) {
             return Outcome::declined("only the call itself can read a response file");
         }
         let mut has_ended = false;
         for _ in 0..TRIES {
             let host = ServerHost::new(self.files());
-            let (done, texts) = streams::keep(wish.style, || {
-                let done = self.make_once(wish, &host);
+            let (done, texts) = stdio::keep(request.style, || {
+                let done = self.make_once(request, &host);
                 let is_first_end = matches!(done, Err(LinkFault::Session { .. })) && !has_ended;
                 (!is_first_end).then(|| report_end(done))
             });
             let found = host.found();
             let outcome = match done {
-                Some(done) => self.outcome(done, found, texts, wish),
+                Some(done) => self.outcome(done, found, texts, request),
                 None => {
                     has_ended = true; // a session that has ended is started again once
                     None
@@ -120,75 +121,75 @@ impl Links {
     }
 
     /// The outcome of a link; `None` if inputs changed meanwhile.
-    fn outcome(&mut self, done: Done, found: Found, texts: Vec<Printed>, wish: &Wish) -> Option<Outcome> {
+    fn outcome(&mut self, done: Done, found: Found, texts: Vec<Printed>, request: &LinkRequest) -> Option<Outcome> {
         let Done(status, planned) = done;
-        let hindrance = self.hindrance(status, &found);
-        let is_same = self.is_unchanged(wish);
-        if is_same && hindrance.is_none() {
+        let why_not_ours = self.why_not_ours(status, &found);
+        let is_same = self.is_unchanged(request);
+        if is_same && why_not_ours.is_none() {
             if let Some(handed_over) = &found.handed_over {
                 let message = hand_over_message(&texts, handed_over);
                 return Some(Outcome { message, is_made: false });
             }
         }
-        self.keep(planned, wish);
-        if is_same && hindrance.is_none() {
+        self.keep(planned, request);
+        if is_same && why_not_ours.is_none() {
             let answer = Answer { status: status as u8, places: self.files.places(), texts };
             return Some(Outcome { message: answer.message(), is_made: true });
         }
-        hindrance.map(Outcome::declined)
+        why_not_ours.map(Outcome::declined)
     }
 
     /// Why the server cannot make a link.
-    fn hindrance(&self, status: Status, found: &Found) -> Option<String> {
+    fn why_not_ours(&self, status: Status, found: &Found) -> Option<String> {
         if let Some(path) = self.snapshot.refused() {
             return Some(format!("{}: only the call itself can read it", path.display()));
         }
         let is_good = matches!(status, Status::Good | Status::Faults) || found.handed_over.is_some();
-        found.hindrance.clone().or_else(|| (!is_good).then(|| format!("status {}", status as u8)))
+        found.why_not_ours.clone().or_else(|| (!is_good).then(|| format!("status {}", status as u8)))
     }
 
     /// Whether all is still what was read.
-    fn is_unchanged(&mut self, wish: &Wish) -> bool {
+    fn is_unchanged(&mut self, request: &LinkRequest) -> bool {
         let words = || match &self.kept {
-            Some(kept) if has_files(&wish.words) => read_words(&wish.words).1.as_ref() == Ok(&kept.command),
+            Some(kept) if has_files(&request.words) => read_words(&request.words).1.as_ref() == Ok(&kept.command),
             _ => true,
         };
         words() && self.snapshot.is_provable() && self.snapshot.changed().is_empty()
     }
 
-    fn keep(&mut self, planned: Option<Planned>, wish: &Wish) {
-        if let (Some(planned), Ok(command)) = (planned, read_words(&wish.words).1) {
+    fn keep(&mut self, planned: Option<Planned>, request: &LinkRequest) {
+        if let (Some(planned), Ok(command)) = (planned, read_words(&request.words).1) {
             let default_script = self.default_script(&planned);
-            self.kept = Some(Kept { words: wish.words.clone(), command, planned, default_script });
+            self.kept = Some(Kept { words: request.words.clone(), command, planned, default_script });
         }
     }
 
     /// Makes a link, with the plan of the last one if that still holds.
-    fn make_once(&mut self, wish: &Wish, host: &ServerHost) -> Result<Done, LinkFault> {
+    fn make_once(&mut self, request: &LinkRequest, host: &ServerHost) -> Result<Done, LinkFault> {
         let planned = match self.kept.take() {
-            Some(kept) if self.is_same(&kept, wish) => self.plan_again(kept.planned),
+            Some(kept) if self.is_same(&kept, request) => self.plan_again(kept.planned),
             _ => None,
         };
         let environment = self.environment.clone();
-        let asked = Asked { words: &wish.words, environment: &environment, is_verbose: false };
+        let asked = Asked { words: &request.words, environment: &environment, is_verbose: false };
         match planned {
             Some(mut planned) => {
                 let asked = Asked { is_verbose: planned.command.is_verbose, ..asked };
-                let status = make(&mut planned, &mut self.mirror, asked, host);
+                let status = make(&mut planned, &mut self.client, asked, host);
                 Ok(Done(status?, Some(planned)))
             }
             None => {
                 self.snapshot = std::mem::take(&mut self.snapshot).next();
-                run(asked, &mut self.snapshot, &mut self.mirror, host)
+                run(asked, &mut self.snapshot, &mut self.client, host)
             }
         }
     }
 
     /// Whether the words ask for what they did: a compiler's have names of files of its own, which differ each time.
-    fn is_same(&self, kept: &Kept, wish: &Wish) -> bool {
+    fn is_same(&self, kept: &Kept, request: &LinkRequest) -> bool {
         let is_same_command = || {
-            let is_same = wish.words == kept.words && !has_files(&wish.words);
-            is_same || read_words(&wish.words).1.as_ref() == Ok(&kept.command)
+            let is_same = request.words == kept.words && !has_files(&request.words);
+            is_same || read_words(&request.words).1.as_ref() == Ok(&kept.command)
         };
         let says_more = kept.command.traces || kept.command.is_verbose || !kept.command.asks.is_empty();
         !says_more
@@ -243,7 +244,7 @@ fn has_files(words: &[OsString]) -> bool {
 
 /// Whether each response file is a regular one that is the same to each process.
 pub(super) fn are_lasting_words(words: &[OsString]) -> bool {
-    words.iter().all(|word| is_lasting(word.as_bytes(), GREATEST_DEPTH))
+    words.iter().all(|word| is_lasting(word.as_bytes(), MAX_DEPTH))
 }
 
 fn is_lasting(word: &[u8], depth: usize) -> bool {
@@ -268,8 +269,8 @@ fn is_lasting(word: &[u8], depth: usize) -> bool {
 mod tests {
     use super::*;
     use crate::objects::tests::{code, object, WrittenSection};
-    use crate::place::PROGRAM;
     use crate::plan::tests::thin;
+    use crate::publish::PROGRAM;
     use crate::server::wire::Reader;
     use std::os::unix::fs::PermissionsExt;
 
@@ -295,7 +296,7 @@ done
     struct Project {
         folder: PathBuf,
         links: Links,
-        wish: Wish,
+        request: LinkRequest,
     }
 
     impl Project {
@@ -315,7 +316,11 @@ done
             let files = files.iter().map(|name| path(name).into());
             let words = ["-T".into(), path("t.ld").into(), "-o".into(), path("image").into()];
             let words: Vec<OsString> = words.into_iter().chain(files).collect();
-            Project { links: Links::new(environment), wish: Wish { words, mask: 0o22, style: Style::Line }, folder }
+            Project {
+                links: Links::new(environment),
+                request: LinkRequest { words, mask: 0o22, style: Style::Line },
+                folder,
+            }
         }
 
         fn write(&self, name: &str, data: impl AsRef<[u8]>) {
@@ -326,7 +331,7 @@ done
         fn edits(&mut self) -> Vec<String> {
             let log = self.folder.join("log");
             fs::write(&log, "").unwrap();
-            let outcome = self.links.make(&self.wish);
+            let outcome = self.links.make(&self.request);
             assert!(outcome.is_made, "{:?}", outcome.message);
             assert_eq!((outcome.message.kind, self.links.files.places().len()), (Kind::Done, 0));
             assert_eq!(Reader::of(outcome.message).number(), Some(Status::Faults as u8));
@@ -366,10 +371,10 @@ done
     fn other_words_are_another_link_of_the_session() {
         let mut project = Project::new("words", &["a.o", "b.o"]);
         project.edits();
-        project.wish.words.pop();
+        project.request.words.pop();
         assert_eq!(project.edits(), ["remove", "link"]);
-        let first = project.wish.words.len() - 1;
-        project.wish.words.insert(first, project.folder.join("b.o").into());
+        let first = project.request.words.len() - 1;
+        project.request.words.insert(first, project.folder.join("b.o").into());
         assert_eq!(project.edits(), ["add", "link"]);
     }
 
@@ -377,7 +382,7 @@ done
     fn a_thin_archive_that_lists_the_same_members_is_the_same_input() {
         let mut project = Project::new("lists", &["a.o"]);
         let words = ["--whole-archive".into(), project.folder.join("x.a").into()];
-        project.wish.words.extend(words);
+        project.request.words.extend(words);
         project.write("x.a", thin(&[("b.o", 100)]));
         assert_eq!(project.edits(), ["add", "add", "script", "link"]);
         project.write("b.o", with_code(b"\xcc\x90\xc3"));
@@ -396,7 +401,7 @@ done
         project.edits();
         let data = fs::read(project.folder.join("b.o")).unwrap();
         fs::remove_file(project.folder.join("b.o")).unwrap();
-        let outcome = project.links.make(&project.wish);
+        let outcome = project.links.make(&project.request);
         assert_eq!((outcome.message.kind, outcome.is_made), (Kind::Refused, false));
         project.write("b.o", data);
         assert!(project.edits().is_empty());
@@ -406,7 +411,7 @@ done
     fn a_session_that_was_killed_is_started_again() {
         let mut project = Project::new("killed", &["a.o", "b.o"]);
         project.edits();
-        project.links.mirror.dismiss();
+        project.links.client.ask_to_end();
         project.write("b.o", with_code(b"\xcc\xc3"));
         assert_eq!(project.edits(), ["add", "add", "script", "link"]);
     }

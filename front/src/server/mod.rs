@@ -22,19 +22,15 @@ use std::time::Duration;
 
 use signal_hook::consts::{SIGHUP, SIGINT, SIGTERM};
 
-use crate::place::{remove_apart, remove_left};
+use crate::once::say;
 use crate::plan::{Environment, WITHIN};
+use crate::publish::{remove_apart, remove_left};
 use call::{answer_limit, Call, Declined};
 use key::{output_of, sockets_folder, value_of, Key};
 pub use serve::main;
 
 /// The time in which a server that was started has to answer, or longer, by LDI_SERVER_ANSWER.
 const START: Duration = Duration::from_secs(5);
-
-/// Prints a line on standard error, after the program's name.
-fn say(text: impl AsRef<str>) {
-    eprintln!("ld.ldi: {}", text.as_ref());
-}
 
 /// Has the words' link made by the server of the output, or `by_itself`; gives the exit status.
 pub fn call(words: &[OsString], environment: &Environment, by_itself: impl Fn(&[OsString]) -> u8) -> u8 {
@@ -70,7 +66,7 @@ fn served(words: &[OsString], environment: &Environment, is_verbose: bool) -> Op
     if let Some(declined) = &declined {
         clear(words, declined, is_verbose);
     }
-    if let Some(why) = start::hindrance(environment) {
+    if let Some(why) = start::why_not_ours(environment) {
         if is_verbose {
             say(format!("no server is left {why}; LDI_SERVER=1 allows one"));
         }

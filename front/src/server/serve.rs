@@ -20,13 +20,13 @@ use signal_hook::consts::{SIGHUP, SIGINT, SIGTERM};
 
 use super::call::{is_own, seconds_of};
 use super::host::NewFiles;
-use super::key::{output_of, program_marks, real_path, sockets, standing, value_of};
-use super::links::{Links, Outcome, Wish};
+use super::key::{mounts, output_of, program_marks, real_path, sockets, value_of};
+use super::links::{LinkRequest, Links, Outcome};
 use super::status::{ask, State};
 use super::usage::{memory_limit, resident, work_of};
 use super::wire::{Kind, Message, Reader};
-use crate::place::remove_left;
 use crate::plan::Environment;
+use crate::publish::remove_left;
 use crate::report::Style;
 use crate::snapshot::{stat, FileId, Stamp};
 
@@ -35,18 +35,18 @@ const IDLE: f64 = 600.0;
 /// The time after which it looks whether it is still wanted.
 const PERIOD: Duration = Duration::from_secs(1);
 /// The time after which a call hears again that its link is being made.
-const BEAT: Duration = Duration::from_millis(30);
+const HEARTBEAT: Duration = Duration::from_millis(30);
 /// The time that a call has to put its files in place.
-const LONGEST_PLACING: Duration = Duration::from_secs(10);
+const PUBLISH_TIMEOUT: Duration = Duration::from_secs(10);
 /// The time in which neither a link's threads nor its session have worked, after which it is given up, and the server.
-const LONGEST_REST: Duration = Duration::from_secs(5);
+const STALL_TIMEOUT: Duration = Duration::from_secs(5);
 /// The time that a call has to say what it wants. Nobody waits for it, and on a busy machine it may not run for a
 /// while.
-const LONGEST_ASKING: Duration = Duration::from_secs(10);
+const REQUEST_TIMEOUT: Duration = Duration::from_secs(10);
 /// The time in which a message goes on that has begun, and in which a call takes what came of its link.
-const MESSAGE: Duration = Duration::from_secs(1);
+const READ_TIMEOUT: Duration = Duration::from_secs(1);
 /// The time in which a call takes a sign.
-const SIGN: Duration = Duration::from_millis(100);
+const WRITE_TIMEOUT: Duration = Duration::from_millis(100);
 /// The bytes of the stack of the thread that links, as the system's first thread has at least.
 const STACK: usize = 16 << 20;
 
@@ -99,15 +99,15 @@ struct Job {
     placing: Option<Instant>,
     /// What was done for it when that was last another number, and when.
     work: Vec<String>,
-    worked: Instant,
+    last_progress: Instant,
     /// When the server last looked for that.
-    looked: Instant,
+    last_poll: Instant,
 }
 
 impl Job {
     fn new(connection: UnixStream) -> Job {
         let now = Instant::now();
-        Job { connection, placing: None, work: Vec::new(), worked: now, looked: now }
+        Job { connection, placing: None, work: Vec::new(), last_progress: now, last_poll: now }
     }
 }
 
@@ -119,14 +119,14 @@ struct Server {
     wake: UnixStream,
     /// A signal came where something can be read.
     signals: UnixStream,
-    wishes: Sender<Wish>,
+    requests: Sender<LinkRequest>,
     outcomes: Receiver<Outcome>,
     files: NewFiles,
     session: Arc<AtomicU32>,
     environment: Environment,
     /// The key of its calls, and the output.
     key: Option<(Vec<u8>, PathBuf, Option<FileId>)>,
-    standing: Vec<Vec<u8>>,
+    mounts: Vec<Vec<u8>>,
     programs: Vec<(PathBuf, Option<Stamp>)>,
     asking: Vec<Asking>,
     job: Option<Job>,
@@ -146,26 +146,26 @@ impl Server {
         }
         let (wake, waker) = UnixStream::pair()?;
         wake.set_nonblocking(true)?;
-        let (wishes, wished) = channel();
+        let (requests, incoming) = channel();
         let (made, outcomes) = channel();
         let links = Links::new(environment.clone());
         let (session, files) = (links.session(), links.files());
-        let work = move || links_of(links, &wished, &made, &waker);
+        let work = move || links_of(links, &incoming, &made, &waker);
         std::thread::Builder::new().stack_size(STACK).spawn(work)?;
         Ok(Server {
-            own: identity(&path),
+            own: file_id(&path),
             path,
             listener,
             wake,
             signals,
-            wishes,
+            requests,
             outcomes,
             files,
             session,
             programs: program_marks(&environment),
             environment,
             key: None,
-            standing: standing()?,
+            mounts: mounts()?,
             asking: Vec::new(),
             job: None,
             made: 0,
@@ -195,7 +195,7 @@ impl Server {
         let is_placing = placing.clone().next().is_some();
         let asking = self.asking.iter().map(|call| &call.connection);
         waited.extend(placing.chain(asking).map(|connection| PollFd::new(connection, PollFlags::IN)));
-        let limit = if is_working { BEAT } else { PERIOD };
+        let limit = if is_working { HEARTBEAT } else { PERIOD };
         match poll(&mut waited, limit.as_millis() as i32) {
             Err(rustix::io::Errno::INTR) => return Ok(()),
             done => done?,
@@ -211,12 +211,12 @@ impl Server {
             let mut bytes = [0; 64];
             while matches!(self.wake.read(&mut bytes), Ok(count) if count > 0) {}
         }
-        self.go_on(is_placing && is_ready(3));
+        self.advance_job(is_placing && is_ready(3));
         if is_ready(0) {
             self.accept();
         }
         if !self.is_ending {
-            self.hear();
+            self.read_requests();
         }
         if self.job.is_none() && !self.is_ending {
             self.look_for_end();
@@ -229,13 +229,13 @@ impl Server {
     /// Takes a connection, which may say later what it wants.
     fn accept(&mut self) {
         if let Ok((connection, _)) = self.listener.accept() {
-            let until = Instant::now() + LONGEST_ASKING;
+            let until = Instant::now() + REQUEST_TIMEOUT;
             self.asking.extend(is_own(&connection).then_some(Asking { connection, until }));
         }
     }
 
     /// Takes the calls that say now what they want; those are given up that say nothing.
-    fn hear(&mut self) {
+    fn read_requests(&mut self) {
         let now = Instant::now();
         for call in std::mem::take(&mut self.asking) {
             if is_readable(&call.connection) {
@@ -249,8 +249,8 @@ impl Server {
 
     fn serve_call(&mut self, connection: UnixStream) -> io::Result<()> {
         connection.set_nonblocking(false)?;
-        connection.set_read_timeout(Some(MESSAGE))?;
-        connection.set_write_timeout(Some(SIGN))?;
+        connection.set_read_timeout(Some(READ_TIMEOUT))?;
+        connection.set_write_timeout(Some(WRITE_TIMEOUT))?;
         let message = Message::receive(&connection)?;
         match message.kind {
             Kind::Status => self.state().message().send(&connection),
@@ -275,34 +275,34 @@ impl Server {
         if self.job.is_some() {
             return Message::of(Kind::Refused).with("it is busy with another call").send(&connection);
         }
-        if let Some(why) = self.hindrance(&key) {
+        if let Some(why) = self.why_not_ours(&key) {
             return Message::of(Kind::Refused).with(why).send(&connection);
         }
         if self.key.is_none() {
             let output = real_path(&output_of(&words));
             remove_left(&output);
-            let folder = output.parent().and_then(identity);
+            let folder = output.parent().and_then(file_id);
             self.key = Some((key, output, folder));
         }
         let style = if is_coloured == 0 { Style::Line } else { Style::Coloured };
         Message::of(Kind::Working).send(&connection)?;
         self.job = Some(Job::new(connection));
-        self.wishes.send(Wish { words, mask, style }).map_err(|_| io::ErrorKind::BrokenPipe.into())
+        self.requests.send(LinkRequest { words, mask, style }).map_err(|_| io::ErrorKind::BrokenPipe.into())
     }
 
     /// Why a call is not this server's.
-    fn hindrance(&mut self, key: &[u8]) -> Option<&'static str> {
+    fn why_not_ours(&mut self, key: &[u8]) -> Option<&'static str> {
         let is_own_key = self.key.as_ref().map_or(true, |(own, ..)| own == key);
         if program_marks(&self.environment) != self.programs {
             self.is_ending = is_own_key;
             return Some("it is of another version");
         }
-        let is_here = standing().map_or(false, |now| now == self.standing);
-        (!is_own_key || !is_here).then_some("it is of another folder")
+        let is_here = mounts().map_or(false, |now| now == self.mounts);
+        (!is_own_key || !is_here).then_some("it serves another folder")
     }
 
     /// Shows that the link is being made, or hands over what came of it, or clears up after the call.
-    fn go_on(&mut self, is_ready: bool) {
+    fn advance_job(&mut self, is_ready: bool) {
         let now = Instant::now();
         let job = match &mut self.job {
             Some(job) => job,
@@ -318,7 +318,7 @@ impl Server {
             Ok(outcome) => self.hand_over(outcome),
             Err(_) if rests(job, self.session.load(Ordering::SeqCst), now) => {
                 self.is_ending = true;
-                let _ = Message::of(Kind::Refused).with("its link does not go on").send(&job.connection);
+                let _ = Message::of(Kind::Refused).with("its link hangs").send(&job.connection);
             }
             // If the call has gone, its link goes on all the same.
             Err(_) => drop(Message::of(Kind::Working).send(&job.connection)),
@@ -333,10 +333,10 @@ impl Server {
             self.remove_socket();
         }
         if let Some(job) = &mut self.job {
-            let is_patient = job.connection.set_write_timeout(Some(MESSAGE)).is_ok();
+            let is_patient = job.connection.set_write_timeout(Some(READ_TIMEOUT)).is_ok();
             let is_sent = is_patient && outcome.message.send(&job.connection).is_ok();
             let is_placed = outcome.is_made && is_sent;
-            job.placing = Some(Instant::now() + LONGEST_PLACING);
+            job.placing = Some(Instant::now() + PUBLISH_TIMEOUT);
             if !is_placed {
                 self.finish();
             }
@@ -359,9 +359,9 @@ impl Server {
     /// Ends if the socket or the folder is gone or another's, other programs are there, or no call comes.
     fn look_for_end(&mut self) {
         let idle = seconds_of(&value_of(&self.environment, "LDI_SERVER_IDLE"), IDLE);
-        let folder = self.key.as_ref().map_or(true, |(_, output, id)| output.parent().and_then(identity) == *id);
+        let folder = self.key.as_ref().map_or(true, |(_, output, id)| output.parent().and_then(file_id) == *id);
         let is_wanted = self.last_call.elapsed() <= idle
-            && identity(&self.path) == self.own
+            && file_id(&self.path) == self.own
             && folder
             && program_marks(&self.environment) == self.programs;
         self.is_ending = !is_wanted;
@@ -400,7 +400,7 @@ impl Server {
     // the end
 
     fn remove_socket(&self) {
-        if self.own.is_some() && identity(&self.path) == self.own {
+        if self.own.is_some() && file_id(&self.path) == self.own {
             let _ = fs::remove_file(&self.path);
         }
     }
@@ -419,9 +419,9 @@ impl Server {
 }
 
 /// Makes links as they are wished.
-fn links_of(mut links: Links, wished: &Receiver<Wish>, made: &Sender<Outcome>, mut waker: &UnixStream) {
-    for wish in wished {
-        let is_sent = made.send(links.make(&wish)).is_ok();
+fn links_of(mut links: Links, incoming: &Receiver<LinkRequest>, made: &Sender<Outcome>, mut waker: &UnixStream) {
+    for request in incoming {
+        let is_sent = made.send(links.make(&request)).is_ok();
         if !is_sent || waker.write_all(b"w").is_err() {
             return;
         }
@@ -432,12 +432,12 @@ fn links_of(mut links: Links, wished: &Receiver<Wish>, made: &Sender<Outcome>, m
 /// itself was stopped does not count.
 fn rests(job: &mut Job, session: u32, now: Instant) -> bool {
     let work = work_of(session);
-    let was_stopped = now.duration_since(std::mem::replace(&mut job.looked, now)) > PERIOD;
+    let was_stopped = now.duration_since(std::mem::replace(&mut job.last_poll, now)) > PERIOD;
     if was_stopped || work != job.work {
         job.work = work;
-        job.worked = now;
+        job.last_progress = now;
     }
-    now.duration_since(job.worked) > LONGEST_REST
+    now.duration_since(job.last_progress) > STALL_TIMEOUT
 }
 
 /// Whether something can be read from a connection, or its end, at once.
@@ -445,7 +445,7 @@ fn is_readable(connection: &UnixStream) -> bool {
     poll(&mut [PollFd::new(connection, PollFlags::IN)], 0).map_or(false, |count| count > 0)
 }
 
-fn identity(path: &Path) -> Option<FileId> {
+fn file_id(path: &Path) -> Option<FileId> {
     stat(path).ok().map(|found| Stamp::of(&found).id)
 }
 
@@ -501,7 +501,7 @@ mod tests {
         }
 
         /// A wish for a link of no inputs.
-        fn wish(&mut self, key: &str) -> UnixStream {
+        fn request(&mut self, key: &str) -> UnixStream {
             self.send(Message::of(Kind::Link).with(key).with("18").with("0").with("-o").with("/nowhere/image"))
         }
 
@@ -550,7 +550,7 @@ mod tests {
         let mut asked = Asked::new("busy");
         let (here, _there) = UnixStream::pair().unwrap();
         asked.server.job = Some(Job::new(here));
-        let stream = asked.wish("key");
+        let stream = asked.request("key");
         assert_eq!(Message::receive(&stream).unwrap().kind, Kind::Refused);
         assert!(asked.server.job.is_some());
     }
@@ -559,7 +559,7 @@ mod tests {
     fn a_call_of_another_key_is_not_its_own() {
         let mut asked = Asked::new("key");
         asked.server.key = Some((b"key".to_vec(), "/nowhere/image".into(), None));
-        let stream = asked.wish("other");
+        let stream = asked.request("other");
         assert_eq!(Message::receive(&stream).unwrap().kind, Kind::Refused);
         assert!(asked.server.job.is_none() && !asked.server.is_ending);
     }
@@ -586,7 +586,7 @@ mod tests {
         asked.server.turn().unwrap();
         assert_eq!(asked.server.asking.len(), 1);
         asked.server.asking.iter_mut().for_each(|call| call.until = Instant::now() - Duration::from_millis(1));
-        asked.server.hear();
+        asked.server.read_requests();
         assert!(asked.server.asking.is_empty() && !asked.server.is_ending);
         assert!(Message::receive(&silent).is_err());
     }
@@ -594,7 +594,7 @@ mod tests {
     #[test]
     fn without_a_link_that_it_could_keep_it_ends() {
         let mut asked = Asked::new("nothing");
-        let stream = asked.wish("key");
+        let stream = asked.request("key");
         assert_eq!(Message::receive(&stream).unwrap().kind, Kind::Working);
         assert!(asked.ends());
         let last = std::iter::repeat_with(|| Message::receive(&stream).unwrap()).find(|one| one.kind != Kind::Working);
@@ -617,10 +617,10 @@ mod tests {
     fn a_link_goes_on_as_long_as_something_works_on_it() {
         let (here, _there) = UnixStream::pair().unwrap();
         let now = Instant::now();
-        let later = now + LONGEST_REST + Duration::from_millis(1);
-        let mut job = Job { work: vec!["of before".into()], worked: now, looked: later, ..Job::new(here) };
+        let later = now + STALL_TIMEOUT + Duration::from_millis(1);
+        let mut job = Job { work: vec!["of before".into()], last_progress: now, last_poll: later, ..Job::new(here) };
         assert!(!rests(&mut job, 0, later));
-        assert_eq!(job.worked, later);
+        assert_eq!(job.last_progress, later);
         assert_ne!(job.work, ["of before"]);
     }
 
@@ -628,8 +628,8 @@ mod tests {
     fn a_server_that_was_stopped_lets_its_link_go_on() {
         let (here, _there) = UnixStream::pair().unwrap();
         let mut job = Job::new(here);
-        let later = job.looked + 2 * LONGEST_REST;
+        let later = job.last_poll + 2 * STALL_TIMEOUT;
         assert!(!rests(&mut job, 0, later));
-        assert_eq!((job.worked, job.looked), (later, later));
+        assert_eq!((job.last_progress, job.last_poll), (later, later));
     }
 }

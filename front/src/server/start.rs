@@ -21,7 +21,7 @@ use crate::snapshot::is_by_process;
 pub(super) const NAME: &str = "ldi-server";
 
 /// Why no server may be left, as builds there are not to leave one behind; LDI_SERVER=1 allows it.
-pub(super) fn hindrance(environment: &Environment) -> Option<&'static str> {
+pub(super) fn why_not_ours(environment: &Environment) -> Option<&'static str> {
     if value_of(environment, "LDI_SERVER") == "1" {
         return None;
     }

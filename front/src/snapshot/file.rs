@@ -1,6 +1,7 @@
 //! A file as it was read, and whether it has changed since.
 
 use super::Bytes;
+use crate::report::os_message;
 use rustix::fs::{cwd, AtFlags, FileType, OFlags, Stat};
 use std::fs::{File, OpenOptions};
 use std::io::{self, Read};
@@ -15,7 +16,7 @@ const TICK: i128 = 20_000_000;
 /// The tick of file systems whose times are whole seconds, or even ones.
 const COARSE_TICK: i128 = 2 * SECOND + TICK;
 /// The most bytes that are read of what is no regular file.
-const GREATEST_STREAM: u64 = 1 << 26;
+const MAX_STREAM: u64 = 1 << 26;
 
 /// Device and inode: what tells a file from another, whatever its names are.
 #[derive(Clone, Copy, PartialEq, Eq, PartialOrd, Ord, Hash, Debug)]
@@ -83,7 +84,7 @@ pub enum ReadFault {
     #[error("it is a pipe that nobody writes")]
     NoWriter,
     /// The system says why.
-    #[error("{}", plain(.0))]
+    #[error("{}", os_message(.0))]
     System(#[from] io::Error),
 }
 
@@ -105,12 +106,6 @@ impl From<ReadFault> for io::Error {
             fault => io::Error::new(io::ErrorKind::Other, fault.to_string()),
         }
     }
-}
-
-/// The system's message of a fault, without the number that Rust adds.
-fn plain(fault: &io::Error) -> String {
-    let text = fault.to_string();
-    text.split(" (os error").next().unwrap_or_default().to_owned()
 }
 
 /// A file as it was read.
@@ -214,7 +209,7 @@ pub fn read_any(path: &Path) -> Result<Seen, ReadFault> {
     let flags = rustix::fs::fcntl_getfl(&file).map_err(ReadFault::of)?;
     rustix::fs::fcntl_setfl(&file, flags - OFlags::NONBLOCK).map_err(ReadFault::of)?;
     let mut data = Vec::new();
-    (&file).take(GREATEST_STREAM).read_to_end(&mut data)?;
+    (&file).take(MAX_STREAM).read_to_end(&mut data)?;
     if data.is_empty() && kind_of(&found) == FileType::Fifo {
         return Err(ReadFault::NoWriter);
     }

@@ -6,7 +6,7 @@ use std::fs;
 use std::path::{Component, Path, PathBuf};
 
 /// The symbolic links that are followed, as the system does.
-const MOST_LINKS: usize = 40;
+const MAX_LINKS: usize = 40;
 
 /// Whether each of some paths leads to a regular file, outside of `/dev` and `/proc`, where `/dev/stdin` or
 /// `/proc/self/fd/3` is another file in another process.
@@ -23,7 +23,7 @@ pub(super) fn is_link(path: &Path) -> bool {
 /// Whether a path leads to such a file; `folders` has for folders what they are without links.
 fn is_lasting(path: &Path, folders: &mut HashMap<PathBuf, Option<PathBuf>>) -> Option<bool> {
     let mut path = path.to_owned();
-    for _ in 0..MOST_LINKS {
+    for _ in 0..MAX_LINKS {
         let folder = path.parent().filter(|folder| !folder.as_os_str().is_empty()).unwrap_or_else(|| Path::new("."));
         let whole = match folders.get(folder) {
             Some(whole) => whole.clone(),
@@ -64,7 +64,7 @@ pub fn is_by_process(path: &Path) -> bool {
         }
         if let Ok(link) = fs::read_link(&place) {
             links += 1;
-            if links > MOST_LINKS {
+            if links > MAX_LINKS {
                 return false;
             }
             place.pop();

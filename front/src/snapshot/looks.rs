@@ -42,7 +42,9 @@ impl Looks {
                 folders.push(Folder { path: folder, files: Vec::new() });
                 folders.len() - 1
             });
-            folders.get_mut(number).into_iter().for_each(|found| found.files.push((name.clone(), place)));
+            if let Some(found) = folders.get_mut(number) {
+                found.files.push((name.clone(), place));
+            }
         }
         Looks { folders }
     }

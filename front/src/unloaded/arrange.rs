@@ -8,10 +8,10 @@ use object::elf;
 use super::compressed::inflated;
 use super::strings::{KeptStrings, Strings};
 use super::NotMade;
+use crate::fast_map::FastMap;
 use crate::layout::evaluation::{Evaluation, Gap, InputSection, OutputSection, Placed, StatementKind};
 use crate::layout::ids::SectionId;
 use crate::objects::{MergedPart, Object, SectionFlags, Shortened};
-use crate::quick::QuickMap;
 use crate::snapshot::Bytes;
 
 /// Names of sections of debug information begin so (bfd/elf.c, `_bfd_elf_make_section_from_shdr`).
@@ -19,7 +19,7 @@ const DEBUGGING: [&[u8]; 7] =
     [b".debug", b".gnu.debuglto_.debug_", b".gnu.linkonce.wi.", b".zdebug", b".line", b".stab", b".gdb_index"];
 
 /// The most zeros that a section without bytes may have in the file.
-const MOST_ZEROS: usize = 1 << 30;
+const MAX_ZEROS: usize = 1 << 30;
 
 /// The bytes of an output section.
 pub(super) struct Arranged<'a> {
@@ -60,7 +60,7 @@ pub(super) struct Spot {
 #[derive(Default)]
 pub struct Arrangement<'a> {
     pub(super) outputs: Vec<Arranged<'a>>,
-    spots: QuickMap<usize, Spot>,
+    spots: FastMap<usize, Spot>,
     /// Strings that were merged together, and the sections that have them.
     strings: Vec<(Arc<Strings>, Vec<SectionId>)>,
 }
@@ -215,8 +215,7 @@ impl<'a> Making<'a> {
     fn content(&self, id: SectionId, section: &InputSection) -> Result<Content<'a>, NotMade> {
         let align = section.align.max(1);
         if section.kind == elf::SHT_NOBITS {
-            let size =
-                usize::try_from(section.size).ok().filter(|size| *size <= MOST_ZEROS).ok_or(NotMade::TooLarge)?;
+            let size = usize::try_from(section.size).ok().filter(|size| *size <= MAX_ZEROS).ok_or(NotMade::TooLarge)?;
             return Ok(Content { bytes: Cow::Owned(vec![0; size]), align });
         }
         if !is_compressed(section) {
@@ -265,7 +264,7 @@ impl<'a> Making<'a> {
         merged.sort_by_key(|(id, _)| *id);
         let together = into.strings.len();
         let strings = kept.merged(together, merged.iter().map(|(_, bytes)| bytes.clone()).collect());
-        let parts: QuickMap<SectionId, usize> = merged.iter().enumerate().map(|(at, (id, _))| (*id, at)).collect();
+        let parts: FastMap<SectionId, usize> = merged.iter().enumerate().map(|(at, (id, _))| (*id, at)).collect();
         let mut at = 0u64;
         for (id, content, _) in contents {
             let part = parts.get(&id).copied();

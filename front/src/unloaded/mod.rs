@@ -9,10 +9,10 @@
 
 mod arrange;
 mod compressed;
-mod image;
-mod kept;
-mod places;
+mod image_sections;
+mod kept_groups;
 mod relocate;
+mod section_places;
 mod strings;
 mod targets;
 
@@ -22,25 +22,25 @@ use std::sync::Mutex;
 use bstr::{BStr, BString, ByteSlice};
 use object::elf;
 
+use crate::fast_map::FastSet;
 use crate::finish::{LaidOut, Unloaded};
 use crate::layout::ids::{OutputId, SectionId};
 use crate::layout::{Evaluation, Flags};
 use crate::objects::{Binding, LinkNames, Object, Relocation, SectionFlags, SectionIndex, SymbolIndex};
 use crate::parallel::map_all;
-use crate::quick::QuickSet;
 use crate::report::link_map::LinkMap;
 pub use arrange::Arrangement;
 use arrange::{Arranged, Piece};
-use image::Answered;
-pub(crate) use kept::Kept;
-use places::Places;
+use image_sections::ImageSections;
+pub(crate) use kept_groups::KeptGroups;
 pub use relocate::Fault;
+use section_places::SectionPlaces;
 pub use strings::KeptStrings;
 use targets::{Target, Targets};
 
 /// From as many bytes on several threads write.
 const MUCH: u64 = 1 << 20;
-const MOST_THREADS: usize = 8;
+const MAX_THREADS: usize = 8;
 /// A list that 0 would end (bfd/reloc.c, `_bfd_clear_contents`).
 const RANGES: &[u8] = b".debug_ranges";
 
@@ -194,8 +194,8 @@ pub fn unloaded<E: From<NotMade>>(
         return Ok(written(arrangement, evaluation, before, None)?);
     }
     let wanted = names_of(&relocated);
-    let answered = Answered::read(image, &wanted);
-    let mut places = Places::new(evaluation);
+    let answered = ImageSections::read(image, &wanted);
+    let mut places = SectionPlaces::new(evaluation);
     match laid_out {
         LaidOut::AsEvaluated if places.are_in(&answered) => {}
         LaidOut::ByMap(map) => places = places.with_map(map, objects),
@@ -206,7 +206,7 @@ pub fn unloaded<E: From<NotMade>>(
     }
     let missing = wanted.iter().filter(|name| answered.value(name).is_none());
     let names = LinkNames::look_up(objects, missing);
-    let (image, kept) = (&answered, Kept::of(objects));
+    let (image, kept) = (&answered, KeptGroups::of(objects));
     let targets = Targets { evaluation, objects, arrangement, places, image, names, kept };
     Ok(written(arrangement, evaluation, before, Some(&targets))?)
 }
@@ -227,11 +227,13 @@ struct Relocated<'a> {
 }
 
 /// The names that relocations of sections refer to.
-fn names_of<'a>(relocated: &[Relocated<'a>]) -> QuickSet<&'a BStr> {
+fn names_of<'a>(relocated: &[Relocated<'a>]) -> FastSet<&'a BStr> {
     let of = |Relocated { object, number }: &Relocated<'a>| -> Vec<&'a BStr> {
         let mut is_referred = vec![false; object.symbol_count()];
         for one in object.relocations(*number) {
-            is_referred.get_mut(one.symbol.0 as usize).into_iter().for_each(|own| *own = true);
+            if let Some(own) = is_referred.get_mut(one.symbol.0 as usize) {
+                *own = true;
+            }
         }
         let referred = (0..).zip(is_referred).filter(|(_, is_referred)| *is_referred);
         let symbols = referred.filter_map(|(index, _)| object.symbol(SymbolIndex(index)));
@@ -296,7 +298,7 @@ fn written(
 /// Writes all pieces, by several threads if that is a lot; of several faults the first is given.
 fn run(jobs: Vec<Job<'_>>, targets: Option<&Targets<'_>>) -> Result<(), NotMade> {
     let much = jobs.iter().map(|job| job.bytes.len() as u64).sum::<u64>() > MUCH;
-    let threads = if much { std::thread::available_parallelism().map_or(1, usize::from).min(MOST_THREADS) } else { 1 };
+    let threads = if much { std::thread::available_parallelism().map_or(1, usize::from).min(MAX_THREADS) } else { 1 };
     if threads <= 1 {
         return jobs.into_iter().try_for_each(|job| write(job, targets));
     }

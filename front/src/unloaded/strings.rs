@@ -3,7 +3,7 @@
 
 use std::sync::Arc;
 
-use crate::quick::QuickMap;
+use crate::fast_map::FastMap;
 use crate::snapshot::Bytes;
 
 /// A string.
@@ -38,7 +38,9 @@ impl Strings {
             sections.iter().enumerate().map(|(number, bytes)| table.record(number, bytes)).collect();
         let mut left_out = vec![true; sections.len()];
         for entry in &table.entries {
-            left_out.get_mut(entry.section).into_iter().for_each(|is_out| *is_out = false);
+            if let Some(is_out) = left_out.get_mut(entry.section) {
+                *is_out = false;
+            }
         }
         table.join();
         let kept = table.place(sections.len());
@@ -98,7 +100,7 @@ impl KeptStrings {
 #[derive(Default)]
 struct Table<'a> {
     entries: Vec<Entry<'a>>,
-    known: QuickMap<&'a [u8], usize>,
+    known: FastMap<&'a [u8], usize>,
 }
 
 impl<'a> Table<'a> {
@@ -141,7 +143,9 @@ impl<'a> Table<'a> {
             }
         }
         for (number, longer) in wholes {
-            self.entries.get_mut(number).into_iter().for_each(|entry| entry.whole = Some(longer));
+            if let Some(entry) = self.entries.get_mut(number) {
+                entry.whole = Some(longer);
+            }
         }
     }
 

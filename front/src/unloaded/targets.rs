@@ -3,9 +3,9 @@
 use bstr::BStr;
 
 use super::arrange::Arrangement;
-use super::image::Answered;
-use super::kept::Kept;
-use super::places::Places;
+use super::image_sections::ImageSections;
+use super::kept_groups::KeptGroups;
+use super::section_places::SectionPlaces;
 use crate::layout::evaluation::Fate;
 use crate::layout::Evaluation;
 use crate::objects::{
@@ -27,11 +27,11 @@ pub(super) struct Targets<'a> {
     pub(super) evaluation: &'a Evaluation,
     pub(super) objects: &'a [Object],
     pub(super) arrangement: &'a Arrangement<'a>,
-    pub(super) places: Places<'a>,
-    pub(super) image: &'a Answered<'a>,
+    pub(super) places: SectionPlaces<'a>,
+    pub(super) image: &'a ImageSections<'a>,
     /// The definitions of the names that the image does not have.
     pub(super) names: LinkNames,
-    pub(super) kept: Kept<'a>,
+    pub(super) kept: KeptGroups<'a>,
 }
 
 impl Targets<'_> {

@@ -4,20 +4,22 @@ use std::path::{Path, PathBuf};
 
 use bstr::BString;
 
+use super::arguments::Words;
 use super::inputs::Inputs;
-use super::linking::{stuck, Found};
+use super::linking::{not_removed, Found};
 use super::listing::names_in;
 use super::usage::Sizes;
-use super::words::Words;
+use crate::adapted::{Note, NoteKind};
 use crate::command::{path_of, read_command, Command, Input};
 use crate::finish::{FileImage, LaidOut};
 use crate::inputs::InputFault;
-use crate::mirror::{Answered, Brought, Mirror, SessionError, Wanted};
-use crate::once::{file_of, messages, notes_of, plan_while_sending, section_outside, verdict, FileFault, LinkFault};
+use crate::once::{
+    file_of, messages, notes_of, plan_while_sending, section_outside, verdict, FileFault, LinkFault, DIFFERS,
+};
 use crate::plan::{self, Environment, LinkPlan, PlanFault, Scripts, ScriptsFault};
 use crate::report::link_map::LinkMap;
 use crate::report::Diagnostic;
-use crate::residual::{Note, NoteKind};
+use crate::session_client::{SessionClient, SessionError, SessionImage, SyncOutcome, Target};
 use crate::snapshot::Snapshot;
 
 /// A link of `ld.ldi` that is kept.
@@ -78,7 +80,7 @@ impl AsLd {
         words: &Words,
         environment: &Environment,
         inputs: &mut Inputs,
-        mirror: &mut Mirror,
+        client: &mut SessionClient,
     ) -> Result<Found, SessionError> {
         *self = AsLd::default();
         let loaded = self.load(words, environment, &mut inputs.snapshot);
@@ -86,12 +88,12 @@ impl AsLd {
             Ok(loaded) => loaded,
             Err(found) => return Ok(found),
         };
-        if mirror.session().is_some() {
+        if client.session().is_some() {
             // it has most of the objects already
             self.plan = Some(LinkPlan::new(&self.command, found));
             return Ok(Found::Ready);
         }
-        self.plan = Some(plan_while_sending(&self.command, found, mirror)?);
+        self.plan = Some(plan_while_sending(&self.command, found, client)?);
         Ok(Found::Ready)
     }
 
@@ -133,21 +135,21 @@ impl AsLd {
     ///
     /// # Errors
     /// If the session gives no answer.
-    pub(super) fn bring(
+    pub(super) fn sync(
         &mut self,
         words: &Words,
         environment: &Environment,
-        mirror: &mut Mirror,
+        client: &mut SessionClient,
     ) -> Result<(Said, usize), SessionError> {
         let plan = match &self.plan {
             Some(plan) => plan,
             None => return Ok((Said::Refused(Vec::new()), 0)),
         };
-        let is_left = plan.residual.is_left();
-        let script: &[u8] = if is_left { b"" } else { &plan.residual.text };
-        let brought = mirror.bring(Wanted { options: &plan.options, objects: plan.held(), script })?;
+        let is_left = plan.adapted.is_left();
+        let script: &[u8] = if is_left { b"" } else { &plan.adapted.text };
+        let brought = client.sync(Target { options: &plan.options, objects: plan.held(), script })?;
         let objects = brought.refused.iter().map(|(_, refusal)| refusal);
-        let all = objects.chain(brought.stuck.iter().map(|(_, refusal)| refusal)).chain(&brought.script_refused);
+        let all = objects.chain(brought.not_removed.iter().map(|(_, refusal)| refusal)).chain(&brought.script_refused);
         self.is_out_of_memory = all.into_iter().any(|refusal| refusal.is_memory());
         let said = match refusals(plan, &brought, environment) {
             refused if !refused.is_empty() => Said::Refused(refused),
@@ -196,9 +198,9 @@ impl AsLd {
     pub(super) fn make(
         &mut self,
         words: &Words,
-        image: Answered,
+        image: SessionImage,
         map: &[u8],
-        mirror: &mut Mirror,
+        client: &mut SessionClient,
     ) -> Result<Made, SessionError> {
         let plan = match &mut self.plan {
             Some(plan) => plan,
@@ -209,7 +211,7 @@ impl AsLd {
         let is_first = !self.is_compared;
         if is_first {
             lines.extend(messages::warnings(plan).iter().map(ToString::to_string));
-            let verdict = match verdict::verdict(plan, &image, map, false) {
+            let verdict = match verdict::compare(plan, &image, map, false) {
                 Ok(verdict) => verdict,
                 Err(fault) => return Ok(Made::Refused(vec![fault.to_string()])),
             };
@@ -217,13 +219,12 @@ impl AsLd {
             lines.extend(verdict.lines);
             lines.extend(notes_of(&self.command, plan).into_iter().map(|note| format!("ld.ldi: {note}")));
             if verdict.differs {
-                let why = "the image would be another than GNU ld's, as is said above: none is written";
-                lines.push(format!("ld.ldi: {path}: {why}"));
+                lines.push(format!("ld.ldi: {path}: {DIFFERS}"));
                 return Ok(Made::Refused(lines));
             }
         }
         let pieces = if self.agrees { None } else { LinkMap::read(map).ok() };
-        Ok(match file_of(plan, image, LaidOut::of(self.agrees, pieces.as_ref()), mirror) {
+        Ok(match file_of(plan, image, LaidOut::of(self.agrees, pieces.as_ref()), client) {
             Ok(finished) => {
                 lines.extend(finished.notes.iter().map(|note| format!("ld.ldi: {path}: {note}")));
                 let why = "without effect here: a watch writes the image and the map";
@@ -274,7 +275,7 @@ fn with_lists(command: &mut Command, snapshot: &mut Snapshot) -> Result<(), Foun
 }
 
 /// The messages of objects that are refused, with the names of their files.
-fn refusals(plan: &LinkPlan, brought: &Brought, environment: &Environment) -> Vec<(String, Diagnostic)> {
+fn refusals(plan: &LinkPlan, brought: &SyncOutcome, environment: &Environment) -> Vec<(String, Diagnostic)> {
     let mut said = Vec::new();
     for (index, refusal) in &brought.refused {
         let object = plan.inputs.objects().get(*index);
@@ -282,19 +283,19 @@ fn refusals(plan: &LinkPlan, brought: &Brought, environment: &Environment) -> Ve
         let messages = messages::of_object(plan, *index, *refusal, environment);
         said.extend(messages.into_iter().map(|one| (path.clone(), one)));
     }
-    said.extend(brought.stuck.iter().flat_map(|(name, refusal)| stuck(name, *refusal, environment)));
+    said.extend(brought.not_removed.iter().flat_map(|(name, refusal)| not_removed(name, *refusal, environment)));
     said
 }
 
 /// Lines on what is left of the script, which `ldi` does not link.
 fn lines_of_left(plan: &LinkPlan) -> Vec<String> {
-    let left = plan.residual.notes.iter().filter(|note| note.kind == NoteKind::Left);
+    let left = plan.adapted.notes.iter().filter(|note| note.kind == NoteKind::Left);
     let mut lines: Vec<String> = left.map(Note::to_string).collect();
-    let places = if lines.len() == 1 { "1 place".to_owned() } else { format!("{} places", lines.len()) };
+    let constructs = if lines.len() == 1 { "1 construct".to_owned() } else { format!("{} constructs", lines.len()) };
     lines.extend(section_outside(plan).map(|line| format!("ld.ldi: {line}")));
-    let changed = plan.residual.changed().filter(|note| verdict::is_said(plan, note));
+    let changed = plan.adapted.changed().filter(|note| verdict::is_said(plan, note));
     lines.extend(changed.map(Note::to_string));
     let path = plan.inputs.scripts.path.display();
-    lines.push(format!("ld.ldi: {path}: {places} cannot be linked by ldi, as is said above"));
+    lines.push(format!("ld.ldi: {path}: ldi does not support {constructs} of it (see above)"));
     lines
 }

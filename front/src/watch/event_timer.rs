@@ -7,7 +7,7 @@ const QUIET: Duration = Duration::from_millis(15);
 /// After so much rest an event is dealt with at once.
 const REST: Duration = Duration::from_millis(200);
 /// How long events are gathered though others still come.
-const LONGEST_GATHERING: Duration = Duration::from_millis(200);
+const MAX_GATHERING: Duration = Duration::from_millis(200);
 /// How often all inputs are looked at, for events that the system lost.
 const PERIOD: Duration = Duration::from_secs(1);
 
@@ -57,7 +57,7 @@ impl EventTimer {
     /// When the events that were gathered are dealt with.
     pub(super) fn due(&self) -> Option<Instant> {
         let first = self.first?;
-        Some(if self.is_urgent { first } else { (self.last + QUIET).min(first + LONGEST_GATHERING) })
+        Some(if self.is_urgent { first } else { (self.last + QUIET).min(first + MAX_GATHERING) })
     }
 
     /// Notes that the events are dealt with now.
@@ -84,7 +84,7 @@ impl EventTimer {
 
 #[cfg(test)]
 mod tests {
-    use super::{EventTimer, LONGEST_GATHERING, QUIET, REST};
+    use super::{EventTimer, MAX_GATHERING, QUIET, REST};
     use std::time::{Duration, Instant};
 
     fn after_rest() -> (EventTimer, Instant) {
@@ -107,7 +107,7 @@ mod tests {
         for _ in 0..30 {
             timer.note_event(timer.last + Duration::from_millis(10));
         }
-        assert_eq!(timer.due(), Some(next + LONGEST_GATHERING));
+        assert_eq!(timer.due(), Some(next + MAX_GATHERING));
     }
 
     #[test]

@@ -9,7 +9,8 @@ use std::path::{Path, PathBuf};
 
 use inotify::{EventMask, Inotify, WatchDescriptor, WatchMask};
 
-use crate::place;
+use crate::publish;
+use crate::report::os_message;
 use crate::snapshot::{stat, FileId, Stamp};
 
 /// The bytes that are read of events at once.
@@ -38,15 +39,10 @@ pub(super) struct Event {
 
 /// Why folders are not watched.
 #[derive(Debug, thiserror::Error)]
-#[error("{}: {}", .folder.display(), plain(.fault))]
+#[error("{}: {}", .folder.display(), os_message(.fault))]
 pub(super) struct NotWatched {
     folder: PathBuf,
     fault: io::Error,
-}
-
-/// The system's message of a fault, without the number that Rust adds.
-pub(super) fn plain(fault: &io::Error) -> String {
-    fault.to_string().split(" (os error").next().unwrap_or_default().to_owned()
 }
 
 /// Watches folders.
@@ -92,14 +88,14 @@ impl Watcher {
         self.inotify.as_ref()
     }
 
-    /// Watches a folder too, if it is there; `watch_renewed` tries those again that are not. Gives whether it is watched
-    /// only now.
+    /// Watches a folder too, if it is there; `watch_renewed` tries those again that are not. Gives whether it is
+    /// watched only now.
     ///
     /// # Errors
     /// If the system watches no more folders.
     pub(super) fn watch(&mut self, folder: &Path) -> Result<bool, NotWatched> {
         let known = self.folders.get(folder).copied();
-        if known.is_some() && known == Some(identity(folder)) {
+        if known.is_some() && known == Some(file_id(folder)) {
             return Ok(false);
         }
         let is_watched = self.try_folder(folder)?;
@@ -115,7 +111,7 @@ impl Watcher {
         let others: Vec<PathBuf> = self
             .folders
             .iter()
-            .filter(|(path, known)| identity(path) != **known)
+            .filter(|(path, known)| file_id(path) != **known)
             .map(|(path, _)| path.clone())
             .collect();
         let mut is_renewed = false;
@@ -126,7 +122,7 @@ impl Watcher {
     }
 
     fn try_folder(&mut self, folder: &Path) -> Result<bool, NotWatched> {
-        let found = identity(folder);
+        let found = file_id(folder);
         self.folders.insert(folder.to_owned(), found);
         if found.is_none() {
             return Ok(false);
@@ -244,7 +240,7 @@ fn explained(fault: io::Error) -> io::Error {
 }
 
 /// What tells a file or folder from another that had its name before; `None` if there is none.
-pub(super) fn identity(path: &Path) -> Option<FileId> {
+pub(super) fn file_id(path: &Path) -> Option<FileId> {
     stat(path).ok().map(|found| Stamp::of(&found).id)
 }
 
@@ -254,7 +250,7 @@ pub(super) fn has_writer(path: &Path) -> Option<bool> {
         return None; // opening it may do something
     }
     let flags = libc::O_NONBLOCK | libc::O_NOCTTY;
-    place::has_writer(&OpenOptions::new().read(true).custom_flags(flags).open(path).ok()?)
+    publish::has_writer(&OpenOptions::new().read(true).custom_flags(flags).open(path).ok()?)
 }
 
 /// What an event's mask says of a file; `asked` is whether it has a writer, if that is known.

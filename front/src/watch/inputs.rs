@@ -6,12 +6,13 @@ use std::time::{Duration, Instant};
 
 use indexmap::{IndexMap, IndexSet};
 
-use super::events::{has_writer, identity, plain, Event, Kind, NotWatched, Watcher};
+use super::events::{file_id, has_writer, Event, Kind, NotWatched, Watcher};
 use super::places::Places;
+use crate::report::os_message;
 use crate::snapshot::{read_regular, Changes, FileId, ReadFault, Snapshot};
 
 /// How long nothing is heard of a writer who has not closed his file before it is read as it is.
-pub(super) const LONGEST_WRITING: Duration = Duration::from_secs(5);
+pub(super) const MAX_WRITING: Duration = Duration::from_secs(5);
 
 /// What changed since the last search.
 #[derive(Clone, PartialEq, Eq, Debug)]
@@ -157,7 +158,7 @@ impl Inputs {
 
     /// Asks whether somebody writes a file that was read for the first time, perhaps since long.
     fn ask_for_writer(&mut self, path: &Path) {
-        let id = match identity(path) {
+        let id = match file_id(path) {
             Some(id) if self.asked.get(path) != Some(&id) => id,
             _ => return,
         };
@@ -182,7 +183,7 @@ impl Inputs {
                 Err(ReadFault::Missing) => "it is not there".to_owned(),
                 Err(ReadFault::System(fault)) => {
                     self.is_out_of_memory |= fault.raw_os_error() == Some(libc::ENOMEM);
-                    format!("it cannot be read: {}", plain(&fault))
+                    format!("it cannot be read: {}", os_message(&fault))
                 }
                 Err(ReadFault::Folder) => "it cannot be read: it is no regular file".to_owned(),
                 Err(fault) => format!("it cannot be read: {fault}"),
@@ -237,17 +238,17 @@ impl Inputs {
 
     /// When the first writer of whom nothing is heard is given up.
     pub(super) fn silent_from(&self) -> Option<Instant> {
-        self.writers.values().min().map(|heard| *heard + LONGEST_WRITING)
+        self.writers.values().min().map(|heard| *heard + MAX_WRITING)
     }
 
     /// Takes files as they are whose writers do not close them; gives these.
     pub(super) fn give_up(&mut self, now: Instant) -> Vec<PathBuf> {
-        let is_silent = |heard: &Instant| now >= *heard + LONGEST_WRITING;
+        let is_silent = |heard: &Instant| now >= *heard + MAX_WRITING;
         let silent: Vec<PathBuf> =
             self.writers.iter().filter(|(_, heard)| is_silent(heard)).map(|(path, _)| path.clone()).collect();
         for path in &silent {
             self.writers.remove(path);
-            if let Some(id) = identity(path) {
+            if let Some(id) = file_id(path) {
                 self.asked.insert(path.clone(), id);
             }
         }

@@ -7,22 +7,22 @@ use std::time::Duration;
 
 use bstr::{BString, ByteSlice};
 
+use super::arguments::Words;
 use super::as_ld::{listed, AsLd, Made, Said};
-use super::image::{Image, ImageFault};
 use super::inputs::{Changed, Inputs};
+use super::output_files::{Image, ImageFault};
 use super::plain::Plain;
 use super::stops::Stops;
 use super::usage::{Sizes, Usage};
-use super::words::Words;
-use crate::mirror::{Mirror, Refusal, SessionError, Wanted};
 use crate::plan::{find_program, Environment};
 use crate::report::{refusals_of_object, Diagnostic, RefusedInput};
+use crate::session_client::{Refusal, SessionClient, SessionError, Target};
 use crate::snapshot::Bytes;
 
 /// How long a session may give no answer before it is taken for one that has ended.
 const PATIENCE: Duration = Duration::from_secs(600);
 /// Sessions that ended one after the other, without an image between, after which the next waits for a period.
-const MOST_ENDS: usize = 3;
+const MAX_ENDS: usize = 3;
 /// The refusal of a script that is none of the profile (docs/manual.md, 'Refusals').
 const NOT_A_SCRIPT: u32 = 5;
 
@@ -62,7 +62,7 @@ enum Mode {
 /// A session, and what it is to hold.
 #[derive(Debug)]
 pub(super) struct Linking {
-    pub(super) mirror: Mirror,
+    pub(super) client: SessionClient,
     /// Whether memory was refused.
     pub(super) is_out_of_memory: bool,
     /// The status with which the session ended last.
@@ -86,7 +86,7 @@ impl Linking {
     pub(super) fn new(words: &Words) -> Linking {
         let environment: Environment = std::env::vars_os().collect();
         Linking {
-            mirror: Mirror::new(find_program("ldi", &environment), Some(PATIENCE)),
+            client: SessionClient::new(find_program("ldi", &environment), Some(PATIENCE)),
             is_out_of_memory: false,
             status: None,
             edits: 0,
@@ -151,7 +151,7 @@ impl Linking {
             inputs.begin_anew();
         }
         self.mode = Mode::AsLd;
-        let found = self.as_ld.find(words, &self.environment, inputs, &mut self.mirror);
+        let found = self.as_ld.find(words, &self.environment, inputs, &mut self.client);
         self.note_session(stops);
         let found = found?;
         if self.outside.is_some() && self.as_ld.is_no_script {
@@ -164,24 +164,24 @@ impl Linking {
     }
 
     fn note_session(&self, stops: &Stops) {
-        stops.set_session(self.mirror.session().map_or(0, |session| session.process()));
+        stops.set_session(self.client.session().map_or(0, |session| session.process()));
     }
 
     /// Brings the session in step with what was found.
     ///
     /// # Errors
     /// If the session gives no answer.
-    pub(super) fn bring(&mut self, words: &Words, stops: &Stops) -> Result<Outcome, SessionError> {
+    pub(super) fn sync(&mut self, words: &Words, stops: &Stops) -> Result<Outcome, SessionError> {
         let outcome = match self.mode {
             Mode::Plain => self.bring_plain(words, stops)?,
             Mode::AsLd => {
-                let (said, edits) = self.as_ld.bring(words, &self.environment, &mut self.mirror)?;
+                let (said, edits) = self.as_ld.sync(words, &self.environment, &mut self.client)?;
                 self.edits += edits;
                 self.is_out_of_memory = self.as_ld.is_out_of_memory;
                 match said {
                     Said::Image => Outcome::Image,
                     Said::Refused(refusals) => Outcome::Refused(refusals),
-                    Said::Faults => Outcome::Faults(self.as_ld.faults(&self.mirror.faults()?)),
+                    Said::Faults => Outcome::Faults(self.as_ld.faults(&self.client.faults()?)),
                 }
             }
         };
@@ -194,19 +194,19 @@ impl Linking {
 
     fn bring_plain(&mut self, words: &Words, stops: &Stops) -> Result<Outcome, SessionError> {
         let plain = &self.plain;
-        self.mirror.start(&plain.options)?;
+        self.client.start(&plain.options)?;
         self.note_session(stops);
-        let wanted = Wanted { options: &plain.options, objects: &plain.held, script: &plain.sent };
-        let brought = self.mirror.bring(wanted)?;
+        let wanted = Target { options: &plain.options, objects: &plain.held, script: &plain.sent };
+        let brought = self.client.sync(wanted)?;
         self.edits += brought.accepted;
         let mut refusals = Refusals::new();
         self.is_out_of_memory = brought.refused.iter().any(|(_, refusal)| refusal.is_memory());
         for (index, refusal) in &brought.refused {
             refusals.extend(plain.refused_object(*index, *refusal, &self.environment));
         }
-        for (name, refusal) in &brought.stuck {
+        for (name, refusal) in &brought.not_removed {
             self.is_out_of_memory |= refusal.is_memory();
-            refusals.extend(stuck(name, *refusal, &self.environment));
+            refusals.extend(not_removed(name, *refusal, &self.environment));
         }
         if let Some(refusal) = brought.script_refused {
             self.is_out_of_memory |= refusal.is_memory();
@@ -223,7 +223,7 @@ impl Linking {
         if brought.is_good {
             return Ok(Outcome::Image);
         }
-        let faults = self.mirror.faults()?;
+        let faults = self.client.faults()?;
         Ok(Outcome::Faults(self.plain.faults(words, &faults)))
     }
 
@@ -233,18 +233,18 @@ impl Linking {
     /// If the session gives no answer, a file cannot be written, or `ld.ldi` would make no such image.
     pub(super) fn write_image(&mut self, words: &Words, image: &mut Image) -> Result<Option<Report>, ImageFault> {
         if self.mode == Mode::Plain {
-            image.write_image(&mut self.mirror)?;
-            image.write_map(&mut self.mirror, None)?;
+            image.write_image(&mut self.client)?;
+            image.write_map(&mut self.client, None)?;
             return Ok(None);
         }
-        let data = self.mirror.image()?;
-        let map = if self.as_ld.wants_map() || image.wants_map() { Some(self.mirror.map()?) } else { None };
-        match self.as_ld.make(words, data, map.as_deref().unwrap_or_default(), &mut self.mirror)? {
+        let data = self.client.image()?;
+        let map = if self.as_ld.wants_map() || image.wants_map() { Some(self.client.map()?) } else { None };
+        match self.as_ld.make(words, data, map.as_deref().unwrap_or_default(), &mut self.client)? {
             Made::Refused(lines) => Err(ImageFault::Refused(listed(&words.script, lines))),
             Made::File(file, lines) => {
                 image.prepare(&file)?;
-                image.write_map(&mut self.mirror, map)?;
-                self.mirror.reuse(file.into_image());
+                image.write_map(&mut self.client, map)?;
+                self.client.reuse(file.into_image());
                 Ok(Some(Report { script: self.as_ld.script(), lines }))
             }
         }
@@ -272,19 +272,19 @@ impl Linking {
     pub(super) fn ended(&mut self, stops: &Stops) -> Option<ExitStatus> {
         stops.set_session(0);
         self.ends += 1;
-        self.mirror.end();
-        self.status = self.mirror.last_status();
+        self.client.end();
+        self.status = self.client.last_status();
         self.status
     }
 
     /// Whether sessions end one after the other.
     pub(super) fn ends_always(&self) -> bool {
-        self.ends >= MOST_ENDS
+        self.ends >= MAX_ENDS
     }
 }
 
 /// The messages of an object that is none of the link and that the session did not take out, or move.
-pub(super) fn stuck(name: &BString, refusal: Refusal, environment: &Environment) -> Refusals {
+pub(super) fn not_removed(name: &BString, refusal: Refusal, environment: &Environment) -> Refusals {
     let ldi = find_program("ldi", environment);
     let input = RefusedInput { name: name.as_bstr(), refusal, data: None, ldi: &ldi };
     refusals_of_object(&input, None).into_iter().map(|one| (name.to_str_lossy().into_owned(), one)).collect()

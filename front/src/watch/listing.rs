@@ -7,13 +7,11 @@ use std::path::{Path, PathBuf};
 
 use bstr::{BString, ByteSlice};
 
-use super::words::{Named, Words};
+use super::arguments::{Named, Words};
 use super::working_folder::real;
-use crate::mirror::{is_name, GREATEST_NAME};
+use crate::profile::limits::{MAX_OBJECTS, MAX_OBJECT_NAME};
+use crate::session_client::is_name;
 use crate::snapshot::{read_regular, Bytes};
-
-/// The objects that a session has at most.
-const GREATEST_COUNT: usize = 4096;
 
 /// Why a session does not take names.
 #[derive(Debug, thiserror::Error)]
@@ -54,7 +52,7 @@ fn why_no_name(name: &[u8]) -> String {
         Some(byte) => format!("the byte {byte:#04x}"),
         None => format!("{} bytes", name.len()),
     };
-    format!("its name has {found}: an object's name has 1 to {GREATEST_NAME} bytes, each from `!' to `~'")
+    format!("its name has {found}: an object's name has 1 to {MAX_OBJECT_NAME} bytes, each from `!' to `~'")
 }
 
 /// Refuses names that a session refuses, and a name that stands twice.
@@ -69,7 +67,7 @@ fn check_names(names: &[BString]) -> Result<(), NamesRefused> {
         }
     }
     match names.len() {
-        count if count > GREATEST_COUNT => refused(format!("{count} objects are named; a session has at most 4,096")),
+        count if count > MAX_OBJECTS => refused(format!("{count} objects are named; a session has at most 4,096")),
         _ => Ok(()),
     }
 }
@@ -121,7 +119,7 @@ pub(super) fn check_files(words: &Words) -> Result<(), NamesRefused> {
 mod tests {
     use super::{names_in, object_names};
     use crate::snapshot::Bytes;
-    use crate::watch::words::Named;
+    use crate::watch::arguments::Named;
     use std::collections::HashMap;
     use std::path::PathBuf;
 

@@ -18,7 +18,7 @@ const QUICK: u32 = 3;
 /// The pause before the next such run, which doubles each time.
 const PAUSE: Duration = Duration::from_secs(2);
 /// The longest pause.
-const LONGEST_PAUSE: Duration = Duration::from_secs(60);
+const MAX_PAUSE: Duration = Duration::from_secs(60);
 
 /// Runs a command, once at a time, when it is wanted.
 ///
@@ -169,7 +169,7 @@ impl Making {
         };
         if least > QUICK {
             let pause = PAUSE * 2_u32.pow((least - QUICK - 1).min(10));
-            self.want(Some(Instant::now() + pause.min(LONGEST_PAUSE)), changed);
+            self.want(Some(Instant::now() + pause.min(MAX_PAUSE)), changed);
         } else {
             self.want(None, Vec::new());
         }

@@ -1,16 +1,17 @@
 //! `ldi-watch`: keeps a session open over files that change, and an image up to date (docs/watch.md).
 
+mod arguments;
 mod as_ld;
 mod commands;
 mod event_timer;
 mod events;
 mod group;
-mod image;
 mod inputs;
 mod jobserver;
 mod linking;
 mod listing;
 mod making;
+mod output_files;
 mod places;
 mod plain;
 mod reported;
@@ -20,7 +21,6 @@ mod sources;
 mod stops;
 mod turns;
 mod usage;
-mod words;
 mod working_folder;
 
 use std::ffi::OsString;
@@ -30,11 +30,11 @@ use std::os::unix::ffi::OsStrExt;
 use bstr::BString;
 
 use crate::plan::{own_version, Environment};
+use arguments::{read_words, USAGE};
 use jobserver::Jobserver;
 use listing::check_files;
 use stops::Stops;
 use turns::{Status, Watch, WatchFault};
-use words::{read_words, USAGE};
 
 /// The program `ldi-watch`; gives its exit status.
 pub fn main(words: &[OsString]) -> u8 {
@@ -68,7 +68,7 @@ pub fn main(words: &[OsString]) -> u8 {
     })
 }
 
-fn watch(words: &words::Words, jobserver: &Jobserver) -> Result<u8, WatchFault> {
+fn watch(words: &arguments::Words, jobserver: &Jobserver) -> Result<u8, WatchFault> {
     let stops = Stops::new(words.is_once)?;
     let mut watch = Watch::new(words, &stops, jobserver)?;
     let status = watch.run();

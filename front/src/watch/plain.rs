@@ -7,22 +7,20 @@ use std::path::{Path, PathBuf};
 
 use bstr::{BStr, ByteSlice};
 
+use super::arguments::{Named, Words};
 use super::inputs::Inputs;
 use super::linking::Found;
 use super::listing::{check_outputs, object_names};
-use super::words::{Named, Words};
 use crate::inputs::Archive;
-use crate::mirror::{Held, Options, Refusal};
 use crate::objects::{Object, Origin};
 use crate::plan::{find_program, Environment};
-use crate::profile::words::is_name as is_profile_name;
+use crate::profile::limits::MAX_SCRIPT;
+use crate::profile::reserved_words::is_name as is_profile_name;
 use crate::report::{self, fault_diagnostics, refusals_of_object, refusals_of_script, Diagnostic, RefusedInput};
 use crate::script::parse;
 use crate::script::tree::Statement;
+use crate::session_client::{Options, Refusal, SessionObject};
 use crate::snapshot::{Bytes, Snapshot};
-
-/// The bytes that a script has at most.
-const GREATEST_SCRIPT: usize = 1 << 20;
 
 /// The objects that words and lists name, under the script as it is written.
 #[derive(Debug, Default)]
@@ -32,7 +30,7 @@ pub(super) struct Plain {
     /// The script that is sent.
     pub(super) sent: Vec<u8>,
     pub(super) options: Options,
-    pub(super) held: Vec<Held>,
+    pub(super) held: Vec<SessionObject>,
     /// Whether a file is an archive, which is none for `ldi link`.
     pub(super) has_archives: bool,
     places: HashMap<PathBuf, usize>,
@@ -95,7 +93,7 @@ impl Plain {
                 Ok(data) => {
                     self.has_archives |= Archive::is_one(&data);
                     self.places.insert(path, self.held.len());
-                    self.held.push(Held { name, data });
+                    self.held.push(SessionObject { name, data });
                 }
                 Err(_) => is_whole = false,
             }
@@ -111,7 +109,7 @@ impl Plain {
 
     /// The objects, as messages need them.
     fn objects(&self) -> Vec<Object> {
-        let object = |held: &Held| {
+        let object = |held: &SessionObject| {
             let path = Path::new(OsStr::from_bytes(&held.name));
             Object::new(held.name.clone(), Origin::of_file(path), held.data.clone())
         };
@@ -195,7 +193,7 @@ fn with_entry(script: &[u8], symbol: &BStr) -> Option<Vec<u8>> {
         }
         None => [&entry, &b";"[..], script].concat(),
     };
-    (result.len() <= GREATEST_SCRIPT).then_some(result)
+    (result.len() <= MAX_SCRIPT).then_some(result)
 }
 
 #[cfg(test)]

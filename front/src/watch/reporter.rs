@@ -7,13 +7,12 @@ use std::process::ExitStatus;
 use std::time::{SystemTime, UNIX_EPOCH};
 
 use super::commands::how_ended;
-use super::events::plain;
 use super::linking::{Refusals, Report};
 use super::usage::Usage;
-use crate::report::{has_colours, json_string, Diagnostic, JsonObject};
+use crate::report::{has_colours, json_string, os_message, Diagnostic, JsonObject};
 
 /// The messages of one state that are printed for people; JSON has all.
-const MOST_LINES: usize = 20;
+const MAX_LINES: usize = 20;
 
 const GREEN: &str = "32";
 const RED: &str = "31";
@@ -21,7 +20,7 @@ const YELLOW: &str = "33";
 
 /// Standard output cannot be written.
 #[derive(Debug, thiserror::Error)]
-#[error("standard output: {}", plain(.0))]
+#[error("standard output: {}", os_message(.0))]
 pub(super) struct NoOutput(io::Error);
 
 /// The image is that of the inputs.
@@ -271,8 +270,8 @@ fn print(line: &str) -> Result<(), NoOutput> {
 }
 
 fn messages_of(messages: &[&Diagnostic]) -> Result<(), NoOutput> {
-    messages.iter().take(MOST_LINES).try_for_each(|message| print(&message.to_string()))?;
-    match messages.len().saturating_sub(MOST_LINES) {
+    messages.iter().take(MAX_LINES).try_for_each(|message| print(&message.to_string()))?;
+    match messages.len().saturating_sub(MAX_LINES) {
         0 => Ok(()),
         more => print(&format!("and {more} more")),
     }

@@ -5,6 +5,7 @@ use std::io;
 use std::path::{Path, PathBuf};
 use std::time::{Duration, Instant};
 
+use super::arguments::Words;
 use super::commands::{how_ended, Command};
 use super::events::{Event, Kind, NotWatched, Watcher};
 use super::jobserver::Jobserver;
@@ -12,9 +13,8 @@ use super::making::Making;
 use super::reporter::{NoOutput, Reporter};
 use super::sources::Sources;
 use super::stops::Stops;
-use super::words::Words;
 use super::working_folder::WorkingFolder;
-use crate::place::is_beside;
+use crate::publish::is_beside;
 
 /// How long `--make`'s command runs before that is said.
 const LONG_RUN: Duration = Duration::from_secs(10);
@@ -47,7 +47,8 @@ impl Commands {
         Ok(Commands { making, runner: words.run.as_ref().map(command), long: None })
     }
 
-    /// Notes an event; gives whether `--make`'s command is to run for it. `written` are the paths of what is written here.
+    /// Notes an event; gives whether `--make`'s command is to run for it. `written` are the paths of what is written
+    /// here.
     ///
     /// # Errors
     /// If the system watches no more folders.
@@ -199,7 +200,7 @@ impl Commands {
 #[derive(Debug, thiserror::Error)]
 pub(super) enum StartFault {
     /// The system cannot start it.
-    #[error("/bin/sh: {}", super::events::plain(.0))]
+    #[error("/bin/sh: {}", crate::report::os_message(.0))]
     System(#[from] io::Error),
     /// What there is to say cannot be printed.
     #[error(transparent)]

@@ -4,7 +4,7 @@ use std::collections::HashSet;
 use std::fs;
 use std::path::{Path, PathBuf};
 
-use super::events::{identity, NotWatched, Watcher};
+use super::events::{file_id, NotWatched, Watcher};
 use crate::snapshot::FileId;
 
 /// The files that patterns name, in a folder and those below it, also behind links.
@@ -50,7 +50,7 @@ impl Sources {
     /// # Errors
     /// If the system watches no more folders.
     pub(super) fn watch_below(&self, top: &Path, watcher: &mut Watcher) -> Result<Vec<PathBuf>, NotWatched> {
-        let mut seen: HashSet<FileId> = top.ancestors().filter_map(identity).collect();
+        let mut seen: HashSet<FileId> = top.ancestors().filter_map(file_id).collect();
         let mut folders = vec![top.to_owned()];
         let mut found = Vec::new();
         while let Some(folder) = folders.pop() {
@@ -66,7 +66,7 @@ impl Sources {
                 if !is_folder {
                     found.extend(self.has(&path).then_some(path));
                 } else if !entry.file_name().to_string_lossy().starts_with('.') {
-                    let is_new = identity(&path).map_or(false, |id| seen.insert(id));
+                    let is_new = file_id(&path).map_or(false, |id| seen.insert(id));
                     folders.extend(is_new.then_some(path));
                 }
             }

@@ -11,24 +11,25 @@ use std::time::{Duration, Instant};
 use nix::errno::Errno;
 use nix::poll::{poll, PollFd, PollFlags};
 
+use super::arguments::Words;
 use super::commands::how_ended;
 use super::event_timer::EventTimer;
-use super::events::{plain, NotWatched};
-use super::image::{Image, ImageFault};
-use super::inputs::{Inputs, LONGEST_WRITING};
+use super::events::NotWatched;
+use super::inputs::{Inputs, MAX_WRITING};
 use super::jobserver::Jobserver;
 use super::linking::{Found, Linking, Outcome, Refusals};
+use super::output_files::{Image, ImageFault};
 use super::reported::{Reported, BEFORE_SAID};
 use super::reporter::{Good, NoOutput, Reporter, State};
 use super::running::{Commands, StartFault};
 use super::stops::Stops;
-use super::words::Words;
 use super::working_folder::WorkingFolder;
-use crate::mirror::SessionError;
-use crate::place::NotWritten;
+use crate::publish::NotWritten;
+use crate::report::os_message;
+use crate::session_client::SessionError;
 
 /// How often a step begins anew as a file changed meanwhile, before it waits for rest.
-const MOST_ROUNDS: usize = 3;
+const MAX_ROUNDS: usize = 3;
 
 /// The exit statuses of `--once`.
 #[derive(Clone, Copy, PartialEq, Eq, Debug)]
@@ -49,9 +50,9 @@ pub(super) enum WatchFault {
     NoOutput(#[from] NoOutput),
     #[error(transparent)]
     NotStarted(#[from] StartFault),
-    #[error("the linker `{program}` cannot be started: {}; LDI=PATH names another", plain(.fault))]
+    #[error("the linker `{program}` cannot be started: {}; LDI=PATH names another", os_message(.fault))]
     NoSession { program: String, fault: io::Error },
-    #[error("{}", plain(.0))]
+    #[error("{}", os_message(.0))]
     System(#[from] io::Error),
     #[error("out of memory")]
     Memory,
@@ -144,7 +145,7 @@ impl<'a> Watch<'a> {
         self.image.drop_prepared();
         self.commands.end();
         self.stops.set_session(0);
-        self.linking.mirror.end();
+        self.linking.client.end();
     }
 
     fn turn(&mut self) -> Result<(), WatchFault> {
@@ -160,7 +161,7 @@ impl<'a> Watch<'a> {
         }
         for path in self.inputs.give_up(now) {
             self.timer.note(now);
-            let why = format!("its writer has not closed it for {} s: read as it is", LONGEST_WRITING.as_secs());
+            let why = format!("its writer has not closed it for {} s: read as it is", MAX_WRITING.as_secs());
             self.reporter.note(&path.display().to_string(), &why)?;
         }
         let is_free = self.timer.first.is_none() || self.inputs.watcher.is_disturbed;
@@ -203,7 +204,7 @@ impl<'a> Watch<'a> {
         let timeout = if self.inputs.watcher.is_disturbed { 0 } else { (next.as_micros() as i32 + 999) / 1000 };
         // A descriptor of -1 is passed over (poll(2)).
         let events = self.inputs.watcher.descriptor().map_or(-1, AsRawFd::as_raw_fd);
-        let session = self.linking.mirror.session().map_or(-1, |session| session.as_fd().as_raw_fd());
+        let session = self.linking.client.session().map_or(-1, |session| session.as_fd().as_raw_fd());
         let mut sources =
             [self.stops.as_raw_fd(), events, session].map(|source| PollFd::new(source, PollFlags::POLLIN));
         match poll(&mut sources, timeout) {
@@ -297,7 +298,7 @@ impl<'a> Watch<'a> {
         if !self.commands.is_made() {
             return Ok(());
         }
-        for _ in 0..MOST_ROUNDS {
+        for _ in 0..MAX_ROUNDS {
             match self.round()? {
                 Round::Done => return Ok(()),
                 Round::Changed if self.inputs.watcher.is_disturbed => self.look_at_all(Instant::now())?,
@@ -335,7 +336,7 @@ impl<'a> Watch<'a> {
         }
         let edits = self.linking.edits;
         let (linking, words, stops) = (&mut self.linking, self.words, self.stops);
-        let outcome = self.inputs.look_beside(|| linking.bring(words, stops))?;
+        let outcome = self.inputs.look_beside(|| linking.sync(words, stops))?;
         if self.linking.edits != edits {
             self.image.is_current = false;
         }
@@ -376,7 +377,7 @@ impl<'a> Watch<'a> {
             Err(PublishFault::Image(ImageFault::Session(fault))) => Err(fault.into()),
             Err(PublishFault::Image(ImageFault::Refused(refusals))) => self.set_refused(refusals),
             Err(PublishFault::Image(ImageFault::NotWritten(NotWritten { path, fault }))) => {
-                let why = format!("it cannot be written: {}", plain(&fault));
+                let why = format!("it cannot be written: {}", os_message(&fault));
                 self.set(State::Waiting(vec![(path.display().to_string(), why)]), false)?;
                 Ok(Round::Done)
             }
@@ -401,7 +402,7 @@ impl<'a> Watch<'a> {
         let good = self.good_state(is_written);
         if is_written {
             if let Err(fault) = self.image.write_gdb(self.stops) {
-                let why = format!("it cannot be written: {}", plain(&fault.fault));
+                let why = format!("it cannot be written: {}", os_message(&fault.fault));
                 self.reporter.note(&fault.path.display().to_string(), &why).map_err(WatchFault::from)?;
             }
         }

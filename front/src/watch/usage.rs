@@ -8,7 +8,7 @@ use crate::layout::Evaluation;
 use crate::report::{json_string, JsonObject};
 
 /// The sections that are named in a line.
-const MOST: usize = 3;
+const MAX_SECTIONS: usize = 3;
 
 /// The bytes of output sections, and what regions of MEMORY have.
 #[derive(Clone, PartialEq, Eq, Debug, Default)]
@@ -82,9 +82,13 @@ pub(super) struct Usage {
 impl Usage {
     /// For people: `.text +48, rom 71.3 %`; empty if nothing has changed.
     pub(super) fn text(&self) -> String {
-        let mut parts: Vec<String> =
-            self.sections.iter().take(MOST).map(|(name, more)| format!("{} {more:+}", name.to_str_lossy())).collect();
-        match self.sections.len().saturating_sub(MOST) {
+        let mut parts: Vec<String> = self
+            .sections
+            .iter()
+            .take(MAX_SECTIONS)
+            .map(|(name, more)| format!("{} {more:+}", name.to_str_lossy()))
+            .collect();
+        match self.sections.len().saturating_sub(MAX_SECTIONS) {
             0 => {}
             more => parts.push(format!("{more} more")),
         }

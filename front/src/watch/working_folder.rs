@@ -2,7 +2,7 @@
 
 use std::path::{Path, PathBuf};
 
-use super::events::identity;
+use super::events::file_id;
 
 /// The folder in which the program was started.
 #[derive(Debug)]
@@ -17,8 +17,8 @@ impl WorkingFolder {
 
     /// Whether another folder has the name now.
     pub(super) fn is_left(&self) -> bool {
-        let named = identity(&self.path);
-        named.is_some() && named != identity(Path::new("."))
+        let named = file_id(&self.path);
+        named.is_some() && named != file_id(Path::new("."))
     }
 
     /// Goes into the folder that has the name now, if that is another one; gives whether it did.

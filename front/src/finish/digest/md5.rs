@@ -4,7 +4,7 @@ use super::{words, Rounds, BLOCK};
 
 /// The state of MD5.
 #[derive(Clone, Debug)]
-pub(in super::super) struct Md5([u32; 4]);
+pub(in crate::finish) struct Md5([u32; 4]);
 
 impl Default for Md5 {
     fn default() -> Md5 {

@@ -1,11 +1,11 @@
 //! Hashes of bytes.
 
+mod fast_hash;
 mod md5;
-mod quick;
 mod sha1;
 
+pub(super) use fast_hash::Quick;
 pub(super) use md5::Md5;
-pub(super) use quick::Quick;
 pub(super) use sha1::Sha1;
 
 /// The bytes of a block.

@@ -4,7 +4,7 @@ use super::{words, Rounds, BLOCK};
 
 /// The state of SHA-1.
 #[derive(Clone, Debug)]
-pub(in super::super) struct Sha1([u32; 5]);
+pub(in crate::finish) struct Sha1([u32; 5]);
 
 impl Default for Sha1 {
     fn default() -> Sha1 {

@@ -7,17 +7,18 @@ use bstr::ByteSlice;
 use object::elf::{self, Sym64};
 use object::LittleEndian as LE;
 
-use super::super::image::{Image, NotAnImage};
-use super::names::{LinkedName, LinkedNames};
+use super::super::image_headers::{Image, NotAnImage};
+use super::linked_names::{LinkedName, LinkedNames};
 use super::numbers::Numbers;
 use super::outputs::Outputs;
-use super::places::Places;
-use super::table::{Entry, Writer};
+use super::places::InputPlaces;
+use super::table::{SymbolEntry, Writer};
 use super::{SymbolOptions, Symbols};
+use crate::fast_map::FastMap;
 use crate::layout::evaluation::{Base, Definer, Evaluation, Symbol};
 use crate::layout::ids::SymbolId;
-use crate::objects::{Home, Object, ObjectIndex, GLOBAL_OFFSET_TABLE};
-use crate::quick::QuickMap;
+use crate::objects::{Home, EH_FRAME_HDR_START, GLOBAL_OFFSET_TABLE};
+use crate::parallel::map_all;
 
 /// How many assignments are followed from one symbol to the next.
 const DEEPEST: u32 = 16;
@@ -57,7 +58,7 @@ impl<'a> ImageNames<'a> {
     /// The numbers of the entries of linked names; `NONE` of those that the image has not.
     fn find(&self, linked: &LinkedNames) -> Vec<u32> {
         let named = self.entries.iter().enumerate().filter_map(|(at, entry)| Some((self.name(entry)?, at as u32)));
-        let mut places: QuickMap<&[u8], u32> = QuickMap::default();
+        let mut places: FastMap<&[u8], u32> = FastMap::default();
         places.reserve(self.entries.len());
         places.extend(named.filter(|(name, _)| !name.is_empty()));
         linked.iter().map(|one| places.get(one.name.as_slice()).copied().unwrap_or(NONE)).collect()
@@ -77,6 +78,18 @@ impl<'a> ImageNames<'a> {
 /// Stands for no entry.
 const NONE: u32 = u32::MAX;
 
+/// The names that are written together.
+const AT_ONCE: usize = 256;
+
+/// Some of the names, as they are written.
+struct Part {
+    /// Those that are local in the image, by their numbers.
+    locals: Vec<(usize, SymbolEntry)>,
+    /// The others, and their numbers.
+    writer: Writer,
+    numbers: Vec<usize>,
+}
+
 /// Writes the names: first those that are local in the image, after a file without a name if there is one with.
 /// Those in use by relocations are written in any case.
 pub(super) fn write(
@@ -86,51 +99,66 @@ pub(super) fn write(
     has_files: bool,
     mut numbers: Option<&mut Numbers<'_>>,
 ) {
-    let (mut globals, mut locals) = (Vec::with_capacity(names.own.len()), Vec::new());
-    for (number, one) in names.linked.iter().enumerate() {
+    let linked = names.linked.as_slice();
+    let firsts: Vec<usize> = (0..linked.len()).step_by(AT_ONCE).collect();
+    let parts = map_all(&firsts, &|first| part_of(names, used, *first));
+    if has_files && parts.iter().any(|part| !part.locals.is_empty()) {
+        writer.add_file(b"");
+    }
+    let mut set = |name: usize, number: u32| numbers.iter_mut().for_each(|numbers| numbers.set_name(name, number));
+    for (name, entry) in parts.iter().flat_map(|part| &part.locals) {
+        set(*name, writer.count());
+        writer.add(linked.get(*name).map_or(&[], |one| &one.name), *entry);
+    }
+    writer.end_locals();
+    for part in &parts {
+        let first = writer.append(&part.writer);
+        (first..).zip(&part.numbers).for_each(|(number, name)| set(*name, number));
+    }
+}
+
+/// The names from a number on.
+fn part_of(names: &Names<'_>, used: Option<&[bool]>, first: usize) -> Part {
+    let linked = names.linked.as_slice().get(first..).unwrap_or_default();
+    let mut part =
+        Part { locals: Vec::new(), writer: Writer::part(AT_ONCE, None), numbers: Vec::with_capacity(AT_ONCE) };
+    for (number, one) in (first..).zip(linked).take(AT_ONCE) {
         let is_used = used.and_then(|used| used.get(number)) == Some(&true);
         let found = names.entry_of(number, one, is_used).filter(|_| is_used || !names.options.strips(&one.name));
         match found.or_else(|| is_used.then(|| (names.undefined(one), false))) {
-            Some((entry, true)) => locals.push((number, one, entry)),
-            Some((entry, false)) => globals.push((number, one, entry)),
+            Some((entry, true)) => part.locals.push((number, entry)),
+            Some((entry, false)) => {
+                part.numbers.push(number);
+                part.writer.add(&one.name, entry);
+            }
             None => {}
         }
     }
-    if has_files && !locals.is_empty() {
-        writer.add_file(b"");
-    }
-    let mut add = |writer: &mut Writer, (number, one, entry): (usize, &LinkedName, Entry)| {
-        numbers.iter_mut().for_each(|numbers| numbers.set_name(number, writer.count()));
-        writer.add(&one.name, entry);
-    };
-    locals.into_iter().for_each(|one| add(writer, one));
-    writer.end_locals();
-    globals.into_iter().for_each(|one| add(writer, one));
+    part
 }
 
 /// What is known of names.
 pub(super) struct Names<'a> {
-    objects: &'a [Object],
-    places: &'a Places,
+    places: &'a InputPlaces,
     linked: &'a LinkedNames,
     evaluation: &'a Evaluation,
     outputs: &'a Outputs,
     own: &'a ImageNames<'a>,
     options: &'a SymbolOptions,
     /// The symbols from which others take theirs: the visibility and the type that objects say.
-    sources: QuickMap<SymbolId, (u8, Option<u8>)>,
+    sources: FastMap<SymbolId, (u8, Option<u8>)>,
 }
 
 impl<'a> Names<'a> {
     pub(super) fn of(
         symbols: &Symbols<'a>,
-        (outputs, places): (&'a Outputs, &'a Places),
+        (outputs, places): (&'a Outputs, &'a InputPlaces),
         own: &'a ImageNames<'a>,
         options: &'a SymbolOptions,
     ) -> Names<'a> {
         let evaluation = symbols.evaluation;
         let likes = evaluation.symbols.iter().flat_map(|symbol| &symbol.likes);
-        let mut sources: QuickMap<SymbolId, (u8, Option<u8>)> =
+        let mut sources: FastMap<SymbolId, (u8, Option<u8>)> =
             likes.map(|like| (*like, (elf::STV_DEFAULT, None))).collect();
         for one in symbols.names.iter().filter(|one| one.is_named) {
             let id = evaluation.by_name.get(one.name.as_bstr());
@@ -138,12 +166,12 @@ impl<'a> Names<'a> {
                 *source = (one.visibility, Some(one.kind));
             }
         }
-        Names { objects: symbols.objects, places, linked: symbols.names, evaluation, outputs, own, options, sources }
+        Names { places, linked: symbols.names, evaluation, outputs, own, options, sources }
     }
 
     /// The entry of a name, and whether it is local in the image; `None` if it has no value, and no relocation in
     /// the file uses it.
-    fn entry_of(&self, number: usize, one: &LinkedName, is_used: bool) -> Option<(Entry, bool)> {
+    fn entry_of(&self, number: usize, one: &LinkedName, is_used: bool) -> Option<(SymbolEntry, bool)> {
         let found = match self.own.get(number) {
             Some(found) => found,
             None => return self.unloaded(one).map(|entry| (entry, false)),
@@ -153,7 +181,8 @@ impl<'a> Names<'a> {
             return self.nowhere(one, nowhere, is_used);
         }
         let is_table = one.name == GLOBAL_OFFSET_TABLE;
-        let is_local = is_table || known.map_or(false, |known| known.is_local);
+        let is_start = one.name == EH_FRAME_HDR_START && self.evaluation.eh_frame_hdr.is_some();
+        let is_local = is_table || is_start || known.map_or(false, |known| known.is_local);
         let binding = match found.st_info >> 4 {
             _ if is_local => elf::STB_LOCAL,
             _ if one.is_unique => elf::STB_GNU_UNIQUE,
@@ -164,7 +193,7 @@ impl<'a> Names<'a> {
             Some(section) => self.outputs.get(section).map_or(elf::SHN_ABS, |output| output.number),
             None => elf::SHN_ABS,
         });
-        let entry = Entry {
+        let entry = SymbolEntry {
             info: binding << 4 | kind,
             other: if is_local { elf::STV_DEFAULT } else { self.visibility_of(one, known) },
             section: section.unwrap_or_else(|| self.section_of(one, found.st_shndx.get(LE))),
@@ -178,9 +207,9 @@ impl<'a> Names<'a> {
     /// several of its name, that which takes its names.
     fn section_of(&self, one: &LinkedName, number: u16) -> u16 {
         let nearby = || {
-            let (object, index) = one.defined_by?;
-            let home = match self.objects.get(object)?.symbol(index)?.home {
-                Home::Section(section) => self.evaluation.section_of(ObjectIndex(object as u32), section)?,
+            let (object, _) = one.defined_by?;
+            let home = match one.home {
+                Home::Section(section) => self.evaluation.section_of(object, section)?,
                 _ => return None,
             };
             let output = self.evaluation.output(self.evaluation.section(home)?.output()?)?;
@@ -193,13 +222,13 @@ impl<'a> Names<'a> {
     /// The entry of a symbol that counts from an output section that is never made: undefined, with its value. It is
     /// left out if it is local, if objects refer to it and all do so weakly, and if nothing but that section
     /// assigns it (`elf_link_output_extsym`; `mark` is by `bfd_elf_record_link_assignment`).
-    fn nowhere(&self, one: &LinkedName, known: &Symbol, is_used: bool) -> Option<(Entry, bool)> {
+    fn nowhere(&self, one: &LinkedName, known: &Symbol, is_used: bool) -> Option<(SymbolEntry, bool)> {
         let binding = match (known.is_local, one.is_referred && !one.is_needed) {
             (true, _) => elf::STB_LOCAL,
             (false, true) => elf::STB_WEAK,
             (false, false) => elf::STB_GLOBAL,
         };
-        let entry = Entry {
+        let entry = SymbolEntry {
             info: binding << 4 | self.kind_of(one, Some(known)),
             other: if known.is_local { elf::STV_DEFAULT } else { self.visibility_of(one, Some(known)) },
             section: elf::SHN_UNDEF,
@@ -210,10 +239,10 @@ impl<'a> Names<'a> {
     }
 
     /// The entry of a name that nothing defines.
-    fn undefined(&self, one: &LinkedName) -> Entry {
+    fn undefined(&self, one: &LinkedName) -> SymbolEntry {
         let binding = if one.is_needed { elf::STB_GLOBAL } else { elf::STB_WEAK };
         let other = self.visibility_of(one, self.known(one));
-        Entry { info: binding << 4 | one.kind, other, ..Entry::default() }
+        SymbolEntry { info: binding << 4 | one.kind, other, ..SymbolEntry::default() }
     }
 
     /// What the layout says of a name.
@@ -226,10 +255,10 @@ impl<'a> Names<'a> {
     }
 
     /// The entry of a name that is in a section that is not loaded, which the image does not have.
-    fn unloaded(&self, one: &LinkedName) -> Option<Entry> {
+    fn unloaded(&self, one: &LinkedName) -> Option<SymbolEntry> {
         let (section, value) = self.block_not_loaded(one).or_else(|| self.place_not_loaded(one))?;
         let binding = if one.is_weak() { elf::STB_WEAK } else { elf::STB_GLOBAL };
-        Some(Entry { info: binding << 4 | one.kind, other: one.visibility, section, value, size: one.size })
+        Some(SymbolEntry { info: binding << 4 | one.kind, other: one.visibility, section, value, size: one.size })
     }
 
     /// The section and the address of a common block that is not loaded.
@@ -241,10 +270,9 @@ impl<'a> Names<'a> {
 
     /// The section and the address of what is defined in a section that is not loaded.
     fn place_not_loaded(&self, one: &LinkedName) -> Option<(u16, u64)> {
-        let (number, index) = one.defined_by?;
-        let symbol = self.objects.get(number)?.symbol(index)?;
-        let (place, offset) = match symbol.home {
-            Home::Section(section) => self.places.get_at(number, section, symbol.value)?,
+        let (object, _) = one.defined_by?;
+        let (place, offset) = match one.home {
+            Home::Section(section) => self.places.get_at(object.0 as usize, section, one.value)?,
             _ => return None,
         };
         (!place.is_loaded).then(|| (place.output, place.address.wrapping_add(offset)))

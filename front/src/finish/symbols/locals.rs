@@ -5,19 +5,19 @@ use object::elf;
 
 use super::labels::is_label;
 use super::numbers::Numbers;
-use super::places::Places;
+use super::places::InputPlaces;
 use super::relocations::{relocated, Referred};
-use super::table::{Entry, Writer};
+use super::table::{SymbolEntry, Writer};
 use super::{SymbolOptions, Symbols};
 use crate::command::Discard;
+use crate::fast_map::FastMap;
 use crate::objects::{Binding, Home, Object, Symbol, SymbolIndex, SymbolKind};
 use crate::parallel::map_all;
-use crate::quick::QuickMap;
 
 /// What local symbols are written of.
 pub(super) struct Locals<'a> {
     pub(super) symbols: &'a Symbols<'a>,
-    pub(super) places: &'a Places,
+    pub(super) places: &'a InputPlaces,
     pub(super) options: &'a SymbolOptions,
     /// The symbols that relocations in the file refer to, if it has any.
     pub(super) referred: Option<&'a Referred>,
@@ -48,7 +48,7 @@ impl Locals<'_> {
     }
 
     /// The local symbols of an object; `counts` are those of the names that were written already.
-    fn of_object(&self, number: usize, counts: Option<QuickMap<BString, u64>>) -> Option<OwnLocals<'_>> {
+    fn of_object(&self, number: usize, counts: Option<FastMap<BString, u64>>) -> Option<OwnLocals<'_>> {
         let object = self.symbols.objects.get(number)?;
         let count = object.first_global().0 as usize;
         let mut own = OwnLocals {
@@ -74,7 +74,7 @@ impl Locals<'_> {
 struct OwnLocals<'a> {
     number: usize,
     object: &'a Object,
-    places: &'a Places,
+    places: &'a InputPlaces,
     options: &'a SymbolOptions,
     writer: Writer,
     /// By symbol its number among these.
@@ -132,7 +132,7 @@ impl OwnLocals<'_> {
         is_discarded || self.options.strips(symbol.name)
     }
 
-    fn add(&mut self, symbol: &Symbol<'_>, entry: Entry) {
+    fn add(&mut self, symbol: &Symbol<'_>, entry: SymbolEntry) {
         if let Some(number) = self.numbers.get_mut(symbol.index.0 as usize) {
             *number = Some(self.writer.count());
         }
@@ -145,7 +145,7 @@ impl OwnLocals<'_> {
 
 /// The entry of a local symbol, and whether it is in a section of merged constants; `None` if its section is not in
 /// the image.
-fn entry_of(symbol: &Symbol<'_>, object: usize, places: &Places) -> Option<(Entry, bool)> {
+fn entry_of(symbol: &Symbol<'_>, object: usize, places: &InputPlaces) -> Option<(SymbolEntry, bool)> {
     let (section, value, is_merged) = match symbol.home {
         Home::Absolute => (elf::SHN_ABS, symbol.value, false),
         Home::Section(number) => {
@@ -155,7 +155,7 @@ fn entry_of(symbol: &Symbol<'_>, object: usize, places: &Places) -> Option<(Entr
         Home::Undefined | Home::Common | Home::Reserved(_) => return None,
     };
     let (info, other) = (symbol.kind.0, symbol.visibility.number());
-    Some((Entry { info, other, section, value, size: symbol.size }, is_merged))
+    Some((SymbolEntry { info, other, section, value, size: symbol.size }, is_merged))
 }
 
 /// The name that stands for a source file if an object does not say one: that of its own file.

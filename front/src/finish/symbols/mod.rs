@@ -5,8 +5,8 @@
 
 mod globals;
 mod labels;
+mod linked_names;
 mod locals;
-mod names;
 mod numbers;
 mod outputs;
 mod places;
@@ -18,7 +18,7 @@ use std::collections::HashSet;
 
 use bstr::{BString, ByteSlice};
 
-use super::image::{Image, NotAnImage};
+use super::image_headers::{Image, NotAnImage};
 use super::unloaded::Unloaded;
 use crate::command::Discard;
 use crate::layout::Evaluation;
@@ -26,12 +26,12 @@ use crate::objects::{Object, Visibility};
 use crate::report::link_map::LinkMap;
 use crate::unloaded::Spans;
 use globals::Names;
+pub use linked_names::LinkedNames;
 use locals::Locals;
-pub use names::LinkedNames;
 use numbers::Numbers;
 pub(super) use outputs::EmptySection;
 use outputs::Outputs;
-use places::Places;
+use places::InputPlaces;
 use relocations::Referred;
 pub(super) use relocations::RelocationTable;
 pub(super) use table::SymbolTable;
@@ -83,7 +83,7 @@ pub enum NoTable {
     NotAnImage(#[from] NotAnImage),
     /// The relocations of some input sections cannot be written.
     #[error("--emit-relocs: the places of some input sections are not known")]
-    Places,
+    InputPlaces,
     /// The relocations of all input sections cannot be written.
     #[error("--emit-relocs: the layout of the script is not known")]
     Layout,
@@ -178,13 +178,13 @@ pub(super) fn table_of(
     unloaded: &[Unloaded],
 ) -> Result<Tables, NoTable> {
     let outputs = Outputs::of(image, symbols, renamed, unloaded)?;
-    let places = Places::of(symbols, &outputs);
+    let places = InputPlaces::of(symbols, &outputs);
     let own = globals::ImageNames::read(image, symbols.names)?;
     let mut writer = Writer::with_room(places.count(symbols.objects) + own.len(), options.is_unique);
     let mut numbers = None;
     if options.emits_relocations {
         if !places.is_whole() {
-            return Err(NoTable::Places);
+            return Err(NoTable::InputPlaces);
         }
         let numbers = numbers.insert(Numbers::new(symbols.objects, symbols.names, outputs.count()));
         sections::write(&mut writer, symbols.evaluation, &outputs, numbers);

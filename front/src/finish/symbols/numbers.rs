@@ -1,6 +1,6 @@
 //! The numbers that symbols have in the file, for its relocations.
 
-use super::names::LinkedNames;
+use super::linked_names::LinkedNames;
 use crate::objects::{Object, SymbolIndex};
 
 /// The numbers of symbols; 0 of those that the file does not have.
@@ -46,7 +46,9 @@ impl<'a> Numbers<'a> {
 
     /// Keeps the number of the symbol of a section.
     pub(super) fn set_section(&mut self, section: usize, number: u32) {
-        self.sections.get_mut(section).into_iter().for_each(|own| *own = number);
+        if let Some(own) = self.sections.get_mut(section) {
+            *own = number;
+        }
     }
 
     /// Keeps the numbers of an object's local symbols, which count from a number on; of those that the file does not
@@ -60,7 +62,9 @@ impl<'a> Numbers<'a> {
 
     /// Keeps the number of a name.
     pub(super) fn set_name(&mut self, name: usize, number: u32) {
-        self.names.get_mut(name).into_iter().for_each(|own| *own = number);
+        if let Some(own) = self.names.get_mut(name) {
+            *own = number;
+        }
     }
 
     fn place(&self, object: usize, symbol: SymbolIndex) -> Option<usize> {

@@ -4,7 +4,7 @@ use std::collections::HashMap;
 
 use bstr::{BStr, BString, ByteSlice};
 
-use super::super::image::{Image, NotAnImage, Section};
+use super::super::image_headers::{Image, NotAnImage, Section};
 use super::super::unloaded::Unloaded;
 use super::{OtherSections, RelocationTable, Symbols};
 use crate::layout::evaluation::{OutputSection, Placed};

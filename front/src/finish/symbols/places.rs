@@ -6,14 +6,14 @@ use std::sync::Arc;
 use bstr::{BStr, ByteSlice};
 use object::elf;
 
-use super::names::is_own_object;
+use super::linked_names::is_own_object;
 use super::outputs::Outputs;
 use super::Symbols;
+use crate::fast_map::FastMap;
 use crate::layout::evaluation::{InputSection, OutputSection, StatementKind};
 use crate::layout::ids::SectionId;
 use crate::layout::{Evaluation, Flags, Merges};
 use crate::objects::{Object, ObjectIndex, Section, SectionFlags, SectionIndex, Shortened};
-use crate::quick::QuickMap;
 use crate::report::link_map::{LinkMap, Piece};
 use crate::unloaded::Spans;
 
@@ -32,7 +32,7 @@ pub(super) struct Place {
 }
 
 /// The places of the input sections.
-pub(super) struct Places {
+pub(super) struct InputPlaces {
     /// By object: where its sections begin in `sections`.
     first: Vec<usize>,
     /// By the number of the header in its object.
@@ -44,15 +44,15 @@ pub(super) struct Places {
     /// What is merged, of sections that are loaded and of others.
     merges: [Arc<Merges>; 2],
     /// By object and section: what stays of a section.
-    shortened: QuickMap<(usize, SectionIndex), Arc<Shortened>>,
+    shortened: FastMap<(usize, SectionIndex), Arc<Shortened>>,
     /// Whether the map does not say where some section is.
     has_lost: bool,
 }
 
-impl Places {
+impl InputPlaces {
     /// Finds the places.
-    pub(super) fn of(symbols: &Symbols<'_>, outputs: &Outputs) -> Places {
-        let mut places = Places {
+    pub(super) fn of(symbols: &Symbols<'_>, outputs: &Outputs) -> InputPlaces {
+        let mut places = InputPlaces {
             first: Vec::with_capacity(symbols.objects.len()),
             sections: Vec::new(),
             is_merged: Vec::new(),
@@ -88,7 +88,20 @@ impl Places {
         self.sections.get(self.at(object, section)?).copied().flatten()
     }
 
-    fn at(&self, object: usize, section: SectionIndex) -> Option<usize> {
+    /// How many relocations sections have, by [`InputPlaces::at`].
+    pub(super) fn relocation_counts(&self, objects: &[Object]) -> Vec<u32> {
+        let mut counts = vec![0; self.sections.len()];
+        for (number, object) in objects.iter().enumerate() {
+            for (section, count) in object.relocated_sections() {
+                let own = self.at(number, section).and_then(|at| counts.get_mut(at));
+                own.into_iter().for_each(|own| *own = count as u32);
+            }
+        }
+        counts
+    }
+
+    /// The number of a section of an object among those of all.
+    pub(super) fn at(&self, object: usize, section: SectionIndex) -> Option<usize> {
         self.first.get(object)?.checked_add(section.0 as usize)
     }
 
@@ -193,7 +206,7 @@ impl Places {
 }
 
 /// What stays of sections, by object and section.
-fn shortened_of(evaluation: &Evaluation) -> QuickMap<(usize, SectionIndex), Arc<Shortened>> {
+fn shortened_of(evaluation: &Evaluation) -> FastMap<(usize, SectionIndex), Arc<Shortened>> {
     let of = |(id, now): (&SectionId, &Arc<Shortened>)| {
         let section = evaluation.section(*id)?;
         Some(((section.object.0 as usize, section.number()?), Arc::clone(now)))
@@ -231,8 +244,8 @@ fn found_in<'a>(
     waiting.iter().filter_map(whole).flatten().collect()
 }
 
-/// The objects in the order in which GNU ld copies their sections into the file, each at its first one. Strings that are
-/// not loaded are merged, by which a section may be left out; that is looked up if it matters.
+/// The objects in the order in which GNU ld copies their sections into the file, each at its first one. Strings that
+/// are not loaded are merged, by which a section may be left out; that is looked up if it matters.
 fn order_of(symbols: &Symbols<'_>) -> Vec<usize> {
     let (evaluation, objects) = (symbols.evaluation, symbols.objects);
     let (order, has_open) = order_with(evaluation, objects, &|_| false);
@@ -251,6 +264,7 @@ fn order_with(
     is_left_out: &dyn Fn(SectionId) -> bool,
 ) -> (Vec<usize>, bool) {
     let mut has_open = false;
+    let instead: Vec<usize> = (0..objects.len()).map(|number| stands_for(number, objects)).collect();
     let mut seen = vec![false; objects.len()];
     let mut order = Vec::with_capacity(objects.len());
     let copied = evaluation
@@ -259,12 +273,13 @@ fn order_with(
         .filter_map(|id| evaluation.output(*id))
         .flat_map(|output| copied_in(evaluation, output));
     for id in copied {
-        let section = match evaluation.section(id) {
-            Some(section) if is_copied(section) && !is_left_out(id) => section,
+        let section = evaluation.section(id);
+        let object = section.and_then(|section| instead.get(section.object.0 as usize)).copied();
+        let (section, object, seen) = match (section, object, object.and_then(|object| seen.get_mut(object))) {
+            (Some(section), Some(object), Some(seen)) if !*seen => (section, object, seen),
             _ => continue,
         };
-        let object = stands_for(section.object.0 as usize, objects);
-        if let Some(seen) = seen.get_mut(object).filter(|seen| !**seen) {
+        if is_copied(section) && !is_left_out(id) {
             *seen = true;
             has_open |= has_strings_that_are_not_loaded(section);
             order.push(object);

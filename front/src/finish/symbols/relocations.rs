@@ -1,16 +1,17 @@
 //! `--emit-relocs`: the relocations of the sections of the file, with the numbers of the file's symbols (elflink.c,
 //! `elf_link_input_bfd`, `elf_link_adjust_relocs`).
 
-use super::names::{is_own_object, LinkedName};
+use super::linked_names::{is_own_object, LinkedName};
 use super::numbers::Numbers;
-use super::places::{Place, Places};
+use super::places::{InputPlaces, Place};
 use super::Symbols;
 use crate::layout::evaluation::{Definer, Fate};
 use crate::layout::ids::{OutputId, SectionId};
 use crate::layout::Flags;
 use crate::objects::{Binding, Home, Object, ObjectIndex, Relocation, SectionIndex, Symbol, SymbolKind};
 use crate::parallel::{do_all, map_all};
-use crate::unloaded::Kept;
+use crate::snapshot::Bytes;
+use crate::unloaded::KeptGroups;
 
 /// The bytes of an entry.
 const ENTRY: usize = 24;
@@ -21,17 +22,17 @@ pub(in crate::finish) struct RelocationTable {
     /// The number of its header in the image.
     pub(in crate::finish) section: usize,
     /// The entries, by ascending offsets.
-    pub(in crate::finish) entries: Vec<u8>,
+    pub(in crate::finish) entries: Bytes,
 }
 
 /// Goes over the relocations of an object's sections that are in the file, in the order of its headers.
 pub(super) fn relocated<'a>(
     number: usize,
     object: &'a Object,
-    places: &'a Places,
+    places: &'a InputPlaces,
 ) -> impl Iterator<Item = (Place, Relocation)> + 'a {
-    let place = move |index: SectionIndex| places.get(number, index);
-    let placed = object.sections().filter_map(move |section| Some((section.index, place(section.index)?)));
+    let tables = object.relocated_sections();
+    let placed = tables.filter_map(move |(index, _)| Some((index, places.get(number, index)?)));
     placed.flat_map(move |(index, place)| {
         let shortened = places.shortened(number, index);
         let stays = move |one: &Relocation| shortened.map_or(true, |now| now.place(one.offset).is_some());
@@ -44,7 +45,7 @@ pub(super) struct Referred(Vec<Vec<bool>>);
 
 impl Referred {
     /// Finds the symbols.
-    pub(super) fn of(symbols: &Symbols<'_>, places: &Places) -> Referred {
+    pub(super) fn of(symbols: &Symbols<'_>, places: &InputPlaces) -> Referred {
         let objects: Vec<(usize, &Object)> = symbols.objects.iter().enumerate().collect();
         Referred(map_all(&objects, &|(number, object)| {
             let mut referred = vec![false; object.symbol_count()];
@@ -83,11 +84,10 @@ impl Referred {
 /// Whether the definition of a name is in a section that is left out.
 fn is_discarded(one: &LinkedName, symbols: &Symbols<'_>) -> bool {
     let evaluation = symbols.evaluation;
-    let section =
-        one.defined_by.and_then(|(number, index)| match symbols.objects.get(number)?.nameless_symbol(index)?.home {
-            Home::Section(section) => evaluation.section(evaluation.section_of(ObjectIndex(number as u32), section)?),
-            _ => None,
-        });
+    let section = one.defined_by.and_then(|(object, _)| match one.home {
+        Home::Section(section) => evaluation.section(evaluation.section_of(object, section)?),
+        _ => None,
+    });
     let is_out = section.map_or(false, |one| one.fate == Fate::Discarded || one.flags.has(Flags::EXCLUDE));
     let known = if is_out && one.is_named { evaluation.symbol(&one.name) } else { None };
     is_out && !known.map_or(false, |known| matches!(known.definer, Definer::Script(_) | Definer::Linker))
@@ -104,21 +104,18 @@ struct Input {
 }
 
 /// The tables of all output sections that have relocations.
-pub(super) fn tables(symbols: &Symbols<'_>, places: &Places, numbers: &Numbers<'_>) -> Vec<RelocationTable> {
+pub(super) fn tables(symbols: &Symbols<'_>, places: &InputPlaces, numbers: &Numbers<'_>) -> Vec<RelocationTable> {
     let objects: Vec<(usize, &Object)> = symbols.objects.iter().enumerate().collect();
-    let kept = Kept::of(symbols.objects);
+    let kept = KeptGroups::of(symbols.objects);
     let targets = map_all(&objects, &|(number, object)| targets_of(*number, object, (places, &kept), numbers));
-    let ids: Vec<OutputId> = symbols.evaluation.order.clone();
-    let inputs: Vec<Vec<Input>> = ids.iter().map(|id| inputs_of(*id, symbols, places)).collect();
-    let table = |inputs: &Vec<Input>| {
-        let count: usize = inputs.iter().map(|input| input.count).sum();
-        let section = inputs.last().map_or(0, |input| input.place.output.into());
-        RelocationTable { section, entries: vec![0; count * ENTRY] }
-    };
-    let mut tables: Vec<RelocationTable> = inputs.iter().map(table).collect();
+    let counts = places.relocation_counts(symbols.objects);
+    let ids = &symbols.evaluation.order;
+    let inputs: Vec<(Vec<Input>, usize)> = ids.iter().map(|id| inputs_of(*id, symbols, places, &counts)).collect();
+    let table = |(inputs, _): &(Vec<Input>, usize)| vec![0; inputs.iter().map(|input| input.count * ENTRY).sum()];
+    let mut tables: Vec<Vec<u8>> = inputs.iter().map(table).collect();
     let mut jobs = Vec::new();
-    for (table, inputs) in tables.iter_mut().zip(&inputs) {
-        let mut rest = table.entries.as_mut_slice();
+    for (table, (inputs, _)) in tables.iter_mut().zip(&inputs) {
+        let mut rest = table.as_mut_slice();
         for input in inputs {
             let (own, after) = rest.split_at_mut((input.count * ENTRY).min(rest.len()));
             jobs.push((input, own));
@@ -127,56 +124,68 @@ pub(super) fn tables(symbols: &Symbols<'_>, places: &Places, numbers: &Numbers<'
     }
     do_all(jobs, &|(input, rows): (&Input, &mut [u8])| {
         if let (Some(object), Some(targets)) = (symbols.objects.get(input.object), targets.get(input.object)) {
-            let relocations = object.relocations(input.section);
-            let shortened = places.shortened(input.object, input.section);
-            let mut last = input.place.address;
-            for (row, one) in rows.chunks_exact_mut(ENTRY).zip(relocations) {
-                let words = match shortened.map_or(Some(one.offset), |now| now.place(one.offset)) {
-                    Some(offset) => {
-                        let one = Relocation { offset, ..one };
-                        row_of(input, &one, targets.get(one.symbol.0 as usize), places, numbers)
-                    }
-                    // elflink.c, `elf_link_input_bfd`: of what is left out, where the one before it is.
-                    None => [last, 0, 0],
-                };
-                last = words[0];
-                row.chunks_exact_mut(8).zip(words).for_each(|(to, word)| to.copy_from_slice(&word.to_le_bytes()));
-            }
+            write_rows(input, rows, (object, targets), places, numbers);
         }
     });
-    tables.retain(|table| !table.entries.is_empty());
-    tables.iter_mut().for_each(RelocationTable::sort);
-    tables
+    let numbers = inputs.iter().map(|(_, section)| *section);
+    let tables = numbers.zip(tables).filter(|(_, entries)| !entries.is_empty());
+    tables.map(|(section, entries)| RelocationTable { section, entries: sorted(entries).into() }).collect()
 }
 
-/// The input sections of an output section.
-fn inputs_of(id: OutputId, symbols: &Symbols<'_>, places: &Places) -> Vec<Input> {
+/// Writes the relocations of an input section; `targets` are those of its object's symbols.
+fn write_rows(
+    input: &Input,
+    rows: &mut [u8],
+    (object, targets): (&Object, &[Target]),
+    places: &InputPlaces,
+    numbers: &Numbers<'_>,
+) {
+    let shortened = places.shortened(input.object, input.section);
+    let mut last = input.place.address;
+    for (row, one) in rows.chunks_exact_mut(ENTRY).zip(object.relocations(input.section)) {
+        let words = match shortened.map_or(Some(one.offset), |now| now.place(one.offset)) {
+            Some(offset) => {
+                let one = Relocation { offset, ..one };
+                row_of(input, &one, targets.get(one.symbol.0 as usize), places, numbers)
+            }
+            // elflink.c, `elf_link_input_bfd`: of what is left out, where the one before it is.
+            None => [last, 0, 0],
+        };
+        last = words[0];
+        row.chunks_exact_mut(8).zip(words).for_each(|(to, word)| to.copy_from_slice(&word.to_le_bytes()));
+    }
+}
+
+/// The input sections of an output section that have relocations, and the number of its header in the image. `counts`
+/// are those of the relocations of all sections.
+fn inputs_of(id: OutputId, symbols: &Symbols<'_>, places: &InputPlaces, counts: &[u32]) -> (Vec<Input>, usize) {
     let place = symbols.evaluation.output(id).and_then(|output| output.in_image());
     let inputs = place.map_or(&[][..], |place| place.inputs.as_slice());
-    let input = |id: &SectionId| {
+    let input = |id: &SectionId, least: usize| {
         let section = symbols.evaluation.section(*id)?;
         let (object, number) = (section.object.0 as usize, section.number()?);
         let is_left_out = section.flags.has(Flags::EXCLUDE | Flags::CREATED);
-        let place = places.get(object, number).filter(|_| !is_left_out)?;
-        let count = symbols.objects.get(object)?.relocation_count(number);
+        let count = places.at(object, number).and_then(|at| counts.get(at)).map_or(0, |count| *count as usize);
+        let is_wanted = count >= least && !is_left_out;
+        let place = if is_wanted { places.get(object, number)? } else { return None };
         let is_debugging = section.flags.has(Flags::DEBUGGING);
         Some(Input { object, section: number, place, count, is_debugging })
     };
-    inputs.iter().filter_map(input).collect()
+    let last = inputs.iter().rev().find_map(|id| input(id, 0));
+    let number = last.map_or(0, |last| last.place.output.into());
+    (inputs.iter().filter_map(|id| input(id, 1)).collect(), number)
 }
 
-impl RelocationTable {
-    /// Sorts the entries by their offsets, if they are not.
-    fn sort(&mut self) {
-        let offset = |row: &[u8]| row.get(..8).and_then(|bytes| bytes.try_into().ok()).map_or(0, u64::from_le_bytes);
-        let rows = || self.entries.chunks_exact(ENTRY);
-        let is_sorted = rows().zip(rows().skip(1)).all(|(one, next)| offset(one) <= offset(next));
-        if !is_sorted {
-            let mut sorted: Vec<&[u8]> = rows().collect();
-            sorted.sort_by_key(|row| offset(row));
-            self.entries = sorted.concat();
-        }
+/// Entries by ascending offsets.
+fn sorted(entries: Vec<u8>) -> Vec<u8> {
+    let offset = |row: &[u8]| row.get(..8).and_then(|bytes| bytes.try_into().ok()).map_or(0, u64::from_le_bytes);
+    let rows = || entries.chunks_exact(ENTRY);
+    if rows().zip(rows().skip(1)).all(|(one, next)| offset(one) <= offset(next)) {
+        return entries;
     }
+    let mut sorted: Vec<&[u8]> = rows().collect();
+    sorted.sort_by_key(|row| offset(row));
+    sorted.concat()
 }
 
 /// What relocations that refer to a symbol refer to in the file.
@@ -186,7 +195,7 @@ enum Target {
     Discarded,
     /// What is not in the image, and to debug information is that of a group that is kept (elflink.c,
     /// `_bfd_elf_default_action_discarded`): the symbol of an output section, and how far it is from its start.
-    Kept(u32, u64),
+    KeptGroups(u32, u64),
     /// The symbol of an output section, by the number of that symbol, and how far the input section is from its start.
     Section(u32, u64),
     /// What the addend says of a section of merged constants.
@@ -199,13 +208,13 @@ enum Target {
 fn targets_of(
     number: usize,
     object: &Object,
-    (places, kept): (&Places, &Kept<'_>),
+    (places, kept): (&InputPlaces, &KeptGroups<'_>),
     numbers: &Numbers<'_>,
 ) -> Vec<Target> {
     let instead = |section: SectionIndex| {
         let (other, kept) = kept.in_place_of(ObjectIndex(number as u32), section)?;
         match to_section(&places.get(other.0 as usize, kept)?, 0, numbers) {
-            Target::Section(symbol, within) => Some(Target::Kept(symbol, within)),
+            Target::Section(symbol, within) => Some(Target::KeptGroups(symbol, within)),
             _ => None,
         }
     };
@@ -219,8 +228,11 @@ fn targets_of(
             },
         };
         if symbol.kind != SymbolKind::SECTION {
-            let place = places.get_at(number, section, symbol.value);
-            return place.map_or(Target::Discarded, |_| Target::Symbol(numbers.of_local(number, symbol.index)));
+            // What has a number is in the file, and so has a place.
+            let own = numbers.of_local(number, symbol.index);
+            let is_numbered = own > 0 && symbol.index < object.first_global();
+            let is_placed = || places.get_at(number, section, symbol.value).is_some();
+            return if is_numbered || is_placed() { Target::Symbol(own) } else { Target::Discarded };
         }
         if places.is_merged(number, section) {
             return Target::Merged(section);
@@ -243,7 +255,7 @@ fn row_of(
     input: &Input,
     one: &Relocation,
     target: Option<&Target>,
-    places: &Places,
+    places: &InputPlaces,
     numbers: &Numbers<'_>,
 ) -> [u64; 3] {
     let offset = input.place.address.wrapping_add(one.offset);
@@ -258,8 +270,8 @@ fn row_of(
     };
     let row = |symbol: u32, addend: u64| [offset, u64::from(symbol) << 32 | u64::from(one.kind), addend];
     match target {
-        Target::Kept(symbol, within) if input.is_debugging => row(symbol, within.wrapping_add(addend)),
-        Target::Discarded | Target::Merged(_) | Target::Kept(..) => [offset, 0, 0],
+        Target::KeptGroups(symbol, within) if input.is_debugging => row(symbol, within.wrapping_add(addend)),
+        Target::Discarded | Target::Merged(_) | Target::KeptGroups(..) => [offset, 0, 0],
         Target::Section(symbol, within) => row(symbol, within.wrapping_add(addend)),
         Target::Symbol(symbol) => row(symbol, addend),
     }

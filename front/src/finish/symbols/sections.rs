@@ -4,7 +4,7 @@ use object::elf;
 
 use super::numbers::Numbers;
 use super::outputs::Outputs;
-use super::table::{Entry, Writer};
+use super::table::{SymbolEntry, Writer};
 use crate::layout::Evaluation;
 
 /// Writes one for each section that GNU ld's file has, in its order.
@@ -12,6 +12,6 @@ pub(super) fn write(writer: &mut Writer, evaluation: &Evaluation, outputs: &Outp
     for output in evaluation.listed.iter().filter_map(|id| outputs.get(*id)) {
         numbers.set_section(output.number.into(), writer.count());
         let (section, value) = (output.number, output.address);
-        writer.add(b"", Entry { info: elf::STT_SECTION, section, value, ..Entry::default() });
+        writer.add(b"", SymbolEntry { info: elf::STT_SECTION, section, value, ..SymbolEntry::default() });
     }
 }

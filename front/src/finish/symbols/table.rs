@@ -3,7 +3,7 @@
 use bstr::BString;
 use object::elf;
 
-use crate::quick::QuickMap;
+use crate::fast_map::FastMap;
 
 /// The bytes of an entry.
 const ENTRY: usize = 24;
@@ -40,7 +40,7 @@ impl SymbolTable {
 
 /// An entry, but for its name.
 #[derive(Clone, Copy, PartialEq, Eq, Debug, Default)]
-pub(super) struct Entry {
+pub(super) struct SymbolEntry {
     /// `st_info`
     pub(super) info: u8,
     /// `st_other`
@@ -57,7 +57,7 @@ pub(super) struct Entry {
 pub(super) struct Writer {
     table: SymbolTable,
     /// By local name how many there were (`-z unique-symbol`).
-    counts: Option<QuickMap<BString, u64>>,
+    counts: Option<FastMap<BString, u64>>,
 }
 
 impl Writer {
@@ -67,12 +67,12 @@ impl Writer {
         entries.resize(ENTRY, 0);
         let mut names = Vec::with_capacity(count * 16 + 1);
         names.push(0);
-        let counts = is_unique.then(QuickMap::default);
+        let counts = is_unique.then(FastMap::default);
         Writer { table: SymbolTable { entries, names, first_global: 1, is_of_gnu: false }, counts }
     }
 
     /// A part of a table, which has no entry 0, and counts local names on.
-    pub(super) fn part(count: usize, counts: Option<QuickMap<BString, u64>>) -> Writer {
+    pub(super) fn part(count: usize, counts: Option<FastMap<BString, u64>>) -> Writer {
         let mut part = Writer::with_room(count, false);
         part.table.entries.clear();
         part.counts = counts;
@@ -80,7 +80,7 @@ impl Writer {
     }
 
     /// The counts of local names, for the next part.
-    pub(super) fn take_counts(&mut self) -> Option<QuickMap<BString, u64>> {
+    pub(super) fn take_counts(&mut self) -> Option<FastMap<BString, u64>> {
         self.counts.take()
     }
 
@@ -101,7 +101,7 @@ impl Writer {
     }
 
     /// Adds a local symbol that is no file's (elflink.c, `elf_link_output_symstrtab`).
-    pub(super) fn add_local(&mut self, name: &[u8], entry: Entry) {
+    pub(super) fn add_local(&mut self, name: &[u8], entry: SymbolEntry) {
         let counts = match &mut self.counts {
             Some(counts) if !name.is_empty() => counts,
             _ => return self.add(name, entry),
@@ -114,11 +114,11 @@ impl Writer {
 
     /// Adds the name of a source file.
     pub(super) fn add_file(&mut self, name: &[u8]) {
-        self.add(name, Entry { info: elf::STT_FILE, section: elf::SHN_ABS, ..Entry::default() });
+        self.add(name, SymbolEntry { info: elf::STT_FILE, section: elf::SHN_ABS, ..SymbolEntry::default() });
     }
 
     /// Adds a symbol.
-    pub(super) fn add(&mut self, name: &[u8], entry: Entry) {
+    pub(super) fn add(&mut self, name: &[u8], entry: SymbolEntry) {
         let at = if name.is_empty() { 0 } else { self.table.names.len() as u32 };
         if at > 0 {
             self.table.names.extend_from_slice(name);
@@ -164,7 +164,7 @@ mod tests {
     fn entries_and_names() {
         let mut writer = Writer::with_room(2, false);
         writer.add_file(b"");
-        writer.add_local(b"f", Entry { info: 2, other: 1, section: 3, value: 0x1000, size: 7 });
+        writer.add_local(b"f", SymbolEntry { info: 2, other: 1, section: 3, value: 0x1000, size: 7 });
         writer.end_locals();
         let table = writer.finish();
         assert_eq!((table.first_global, table.names.as_slice()), (3, &b"\0f\0"[..]));
@@ -195,8 +195,8 @@ mod tests {
     fn local_names_with_numbers() {
         let mut writer = Writer::with_room(2, true);
         writer.add_file(b"a.c");
-        writer.add_local(b"f", Entry::default());
-        writer.add_local(b"f", Entry::default());
+        writer.add_local(b"f", SymbolEntry::default());
+        writer.add_local(b"f", SymbolEntry::default());
         assert_eq!(writer.finish().names, b"\0a.c\0f.0\0f.1\0");
     }
 }

@@ -157,7 +157,7 @@ fn f7_with_what_does_not_fit_and_the_numbers_of_the_region() {
     ] {
         let numbers = "(image.ld:1: ORIGIN = 0x1000, LENGTH = 4 + 4)";
         let wanted = format!(
-            "image.ld:5: section `.d' will not fit in region `r' {numbers}: its {what} do not lie there; raise \
+            "image.ld:5: section `.d' will not fit in region `r' {numbers}: its {what} are not all in it; raise \
              LENGTH, or place less there [F7 .d r]"
         );
         check(&format!("{memory} .d : {{ *(.d) }} {tail} }}"), "F7 .d r\n", &[], &[&wanted]);

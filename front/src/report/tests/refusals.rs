@@ -6,8 +6,9 @@ use std::path::{Path, PathBuf};
 use super::super::rules::{OBJECTS, SCRIPTS};
 use super::super::{first_of, refusals_of_object, refusals_of_script, Diagnostic, RefusedInput};
 use super::{assembled, compiled, object};
-use crate::mirror::{Refusal, GREATEST_PAYLOAD};
+use crate::profile::limits::MAX_PAYLOAD;
 use crate::script::Place;
+use crate::session_client::Refusal;
 
 fn input<'a>(name: &'a str, number: u32, inner: u32, data: Option<&'a [u8]>) -> RefusedInput<'a> {
     RefusedInput { name: name.into(), refusal: Refusal { number, inner }, data, ldi: OsStr::new("/none/ldi") }
@@ -19,7 +20,7 @@ fn texts(found: &[Diagnostic]) -> Vec<String> {
 
 #[test]
 fn refusals_that_are_not_of_the_bytes() {
-    let long = vec![0; GREATEST_PAYLOAD + 1];
+    let long = vec![0; MAX_PAYLOAD + 1];
     for (name, number, data, wanted) in [
         ("a.o", 1, &b""[..], "a.o: an object of this name is there already [a.o: refused 1 0]"),
         ("a.o", 2, b"", "a.o: there is no object of this name [a.o: refused 2 0]"),
