@@ -5,12 +5,12 @@ LDI ?= $(CURDIR)/crates/ldi/out/ldi
 PREFIX ?= /usr/local
 export LDI
 
-.PHONY: help demo ldi install check test test-client rules fmt examples bench check-real check-images check-model \
-        check-link check-readers check-session check-counts check-no-memory check-memory mutants soak-client row lint
-.PHONY: self dist dist-test front test-front uninstall
+.PHONY: help demo ldi self dist dist-test install uninstall check test front test-front test-client soak-client lint \
+        rules fmt examples bench check-real check-images check-model check-link check-readers check-session \
+        check-counts check-oom-text check-alloc-failures show-row mutants
 
 help: ## this list
-	@awk -F ':.*## ' '/^[a-z-]+:.*## / { printf "make %-14s %s\n", $$1, $$2 }' Makefile
+	@awk -F ':.*## ' '/^[a-z-]+:.*## / { printf "make %-20s %s\n", $$1, $$2 }' Makefile
 	@echo
 	@echo "LDI=PATH names another program than crates/ldi/out/ldi, PREFIX=PATH where it is installed."
 
@@ -36,10 +36,10 @@ uninstall: ## removes what `make install` put there
 	@tools/install --remove "$(DESTDIR)$(PREFIX)"
 
 check: ## proves every crate, over what earlier runs have proved
-	rt all check
+	@rt all check
 
-test: ## the merge gate: every proof from nothing, the edits that must fail, the tests and the stored runs
-	rt ci
+test: ## most of the gate (.ci/run): every proof from nothing, the mutants of must-fail, the stored runs
+	@rt ci
 
 front: ## builds the front end, `ld.ldi`, `ldi-watch`, `ldi-adapt` and `ldi-gdb`: front/target/release/ldi-front
 	@tools/build-front
@@ -63,8 +63,8 @@ rules: ## writes the tables of the front end and of the documents that are made 
 
 fmt: ## lays out every crate; prints what changed, needless names in crates.txt, ways past a face, and dead links
 	@tools/fmt
-	@tools/unnamed
-	@tools/faces
+	@tools/check-crates-txt
+	@tools/check-faces
 	@tools/check-docs
 
 examples: ## builds the examples with gcc and ldi, checks them by readelf, runs linux, boots kernel if QEMU is there
@@ -74,38 +74,38 @@ bench: ## measures links, sessions, the readers, and how the time grows with the
 	@tools/bench
 
 check-real: ## compares the object reader with readelf on objects of gcc
-	tools/check-real
+	@tools/check-real
 
 check-images: ## links C programs by a session, runs them, and compares them with GNU ld's
-	tools/check-images "$(LDI)"
+	@tools/check-images "$(LDI)"
 
 check-model: ## compares the program with the calculator of links on 2,000 random streams
-	tools/check-model 2000 1 "$(LDI)"
+	@tools/check-model 2000 1 "$(LDI)"
 
 check-link: ## links files by `ldi link`, and compares statuses, lines and files with the calculator's
-	tools/check-link "$(LDI)"
+	@tools/check-link "$(LDI)"
 
 check-readers: ## tries `readobj FILE` and `readscript FILE` on refused files
-	tools/check-readers
+	@tools/check-readers
 
 check-session: ## compares sessions with links from scratch on 2,000 lists of 50 edits, by trylink as `rt run` left it
 	@test -x crates/trylink/out/trylink || { echo "trylink is not built: run 'rt run' in crates/trylink" >&2; exit 1; }
-	tools/check-session
-	tools/check-session --moving
-	tools/check-session --deferred
-	tools/check-session --moving --deferred
+	@tools/check-session
+	@tools/check-session --moving
+	@tools/check-session --deferred
+	@tools/check-session --moving --deferred
 
 check-counts: ## looks whether work can be done without being counted: rules over the text, code that must not compile
-	tools/check-counts --compile
+	@tools/check-counts --compile
 
-check-no-memory: ## looks where 'out of memory' is answered without a growth that was refused
-	tools/check-no-memory
+check-oom-text: ## looks where 'out of memory' is answered without an allocation that failed
+	@tools/check-oom-text
 
-check-memory: ## refuses each allocation of a session in turn, and compares the answers
-	tools/fail-alloc "$(LDI)"
+check-alloc-failures: ## lets each allocation of a session fail in turn, and compares the answers
+	@tools/check-alloc-failures "$(LDI)"
 
-row: ## shows one row of trylink's stored run, NAME=.., with its commands and answers; without NAME all names
-	@tools/row "$(NAME)"
+show-row: ## shows one row of trylink's stored run, NAME=.., with its commands and answers; without NAME all names
+	@tools/show-row "$(NAME)"
 
-mutants: ## tries the wrong bodies under mutants/, of one crate with CRATE=NAME; all take an hour or more
-	tools/mutants $(CRATE)
+mutants: ## tries the mutants under mutants/, of one crate with CRATE=NAME; all take an hour or more
+	@tools/mutants $(CRATE)

@@ -32,6 +32,14 @@ class Unread(Exception):
     """A definition is not in the form that is read here."""
 
 
+class Limit(NamedTuple):
+    """A limit of the profile."""
+
+    name: str
+    about: str
+    value: int
+
+
 class Relocation(NamedTuple):
     """A type of relocations."""
 
@@ -132,6 +140,40 @@ def _range(text: str) -> tuple[int, int] | None:
     if found := re.fullmatch(r"is_between \((.+)\) \((pos [^)]*\)?)\) value", text):
         return _end(found[1]), _end(found[2])
     raise Unread(f"crates/{FIELDS}: fits has a row of another form: {text}")
+
+
+# The constants of the crates that are limits of the profile: the name outside of the crates, what it is, where it
+# stands, and its name there.
+LIMITS = (
+    ("MAX_PAYLOAD", "The bytes that an object or a script has at most.", "ldmodel/src/edit.rt", "MAX_PAYLOAD"),
+    ("MAX_OBJECT_NAME", "The bytes that an object's name has at most.", "ldmodel/src/edit.rt", "MAX_OBJECT_NAME"),
+    ("MAX_OBJECTS", "The objects that a session has at most.", "ldmodel/src/edit.rt", "MAX_OBJECTS"),
+    ("MAX_SCRIPT", "The bytes of a script, at most.", "ldscript_tokens/src/lexer.rt", "MAX_TEXT"),
+    ("MAX_WORD", "The bytes that a NAME or a WORD has at most.", "ldscript_tokens/src/limits.rt", "MAX_WORD"),
+    ("MAX_BRACES", "The braces that a script opens, at most.", "ldscript_tokens/src/limits.rt", "MAX_BRACES"),
+    ("MAX_SIGNS", "The signs of a run, at most.", "ldscript_tokens/src/limits.rt", "MAX_SIGNS"),
+    ("MAX_IMAGE", "The bytes of an image, at most.", "place/src/length.rt", "MAX_IMAGE_LENGTH"),
+)
+
+
+def limits() -> list[Limit]:
+    """The limits of the profile."""
+    found = []
+    for name, about, path, own in LIMITS:
+        (text,), = _rows(path, rf"^pub const {own}: u(?:size|\d+) = ([^;]+);")
+        shift = re.fullmatch(r"1 << (\d+)", text)
+        found.append(Limit(name, about, 1 << int(shift[1]) if shift else int(text.replace("_", ""), 0)))
+    return found
+
+
+def relocation_names() -> list[str]:
+    """The psABI's names of all types of relocations, by their numbers, without `R_X86_64_`."""
+    path = "readobj/src/why/psabi.rt"
+    (count, names), = _rows(path, r"^const RELOCATIONS: \[&str; (\d+)\] = \[\n((?:    \"\w+\",\n)+)\];")
+    found = re.findall(r"\w+", names)
+    if len(found) != int(count):
+        raise Unread(f"crates/{path} has {len(found)} names, and not {count}")
+    return found
 
 
 def relocations() -> list[Relocation]:

@@ -20,6 +20,7 @@ from rule_rows import Fault, Refusal
 ROOT = Path(__file__).resolve().parent.parent
 WORDS = "tools/rules.toml"
 FRONT = "front/src/report/rules.rs"
+LIMITS = "front/src/profile/limits.rs"
 LONGEST = 120
 NO_MEMORY = "NoMemory"
 
@@ -28,6 +29,8 @@ class Rules(NamedTuple):
     """All rows, and the words for people."""
 
     relocations: list[rule_rows.Relocation]
+    relocation_names: list[str]
+    limits: list[rule_rows.Limit]
     faults: list[Fault]
     refusals: dict[str, list[Refusal]]
     reserved: list[rule_rows.Reserved]
@@ -38,7 +41,7 @@ def read() -> Rules:
     """All rules. Fails where a rule has no words, or words have no rule."""
     with open(ROOT / WORDS, "rb") as file:
         words = tomllib.load(file)
-    found = Rules(rule_rows.relocations(), rule_rows.faults(),
+    found = Rules(rule_rows.relocations(), rule_rows.relocation_names(), rule_rows.limits(), rule_rows.faults(),
                   {of: rule_rows.refusals(of) for of in rule_rows.REFUSALS}, rule_rows.reserved(), words)
     named = {"phase": [rule for phase in words["phase"] for rule in phase["faults"]],
              **{of: list(words[of]) for of in found.refusals}}
@@ -148,6 +151,9 @@ def front(rules: Rules) -> str:
         limits = f"Some({row.range})" if row.range else "None"
         relative = "true" if row.calculation.endswith("P") else "false"
         lines.append(f'    row({row.number}, "{row.name}", {row.width}, {limits}, {relative}),')
+    lines += ["];", "", "/// The psABI's names of all types of relocations, by their numbers, without `R_X86_64_`.",
+              f"pub const RELOCATION_NAMES: [&str; {len(rules.relocation_names)}] = ["]
+    lines += [f'    "{name}",' for name in rules.relocation_names]
     lines += ["];", "", "/// The rules of fault lines.", "#[derive(Clone, Copy, PartialEq, Eq, Hash, Debug)]",
               "pub enum FaultRule {"]
     for fault in rules.faults:
@@ -169,6 +175,16 @@ def front(rules: Rules) -> str:
               "pub const RESERVED: &[&str] = &["]
     words = textwrap.wrap(" ".join(f'"{row.word}",' for row in rules.reserved), LONGEST - 4)
     return "\n".join([*lines, *(f"    {line}" for line in words), "];", ""])
+
+
+def limits(rules: Rules) -> str:
+    """The front end's module of limits."""
+    lines = ["//! The limits of the profile of `ldi` (docs/limits.md). `tools/rules` writes this file: do not edit it."]
+    lines.append("")
+    for limit in rules.limits:
+        of = "u64" if limit.name == "MAX_IMAGE" else "usize"
+        lines += [f"/// {limit.about}", f"pub const {limit.name}: {of} = {limit.value:_};"]
+    return "\n".join([*lines, ""])
 
 
 # The documents
@@ -273,5 +289,6 @@ def heads(rules: Rules) -> Iterator[tuple[str, list[str], list[str]]]:
 def files(rules: Rules) -> Iterator[tuple[str, str]]:
     """Each file that is written, and what must stand in it."""
     yield FRONT, front(rules)
+    yield LIMITS, limits(rules)
     for path in TABLES:
         yield path, with_tables(path, (ROOT / path).read_text(encoding="utf-8"), rules)
