@@ -88,7 +88,7 @@ check-link: ## links files by `ldi link`, and compares statuses, lines and files
 check-readers: ## tries `readobj FILE` and `readscript FILE` on refused files
 	@tools/check-readers
 
-check-session: ## compares sessions with links from scratch on 2,000 lists of 50 edits, by trylink as `rt run` left it
+check-session: ## compares sessions, also deferred ones, with links from scratch on 4,000 lists of 50 edits
 	@test -x crates/trylink/out/trylink || { echo "trylink is not built: run 'rt run' in crates/trylink" >&2; exit 1; }
 	@tools/check-session
 	@tools/check-session --moving

@@ -70,3 +70,11 @@ class ManTest(LinkTest):
         if shutil.which("groff"):
             done = self.run_program("groff", "-man", "-ww", "-Tutf8", *(f"man/{name}" for name in sorted(pages)))
             self.assertEqual((done.returncode, done.stderr), (0, ""))
+
+    def test_lists(self) -> None:
+        """An item of a list within an item is further to the right; one with a number keeps it."""
+        self.run_tool("/usr/bin/python3", ROOT / "tools" / "man", "man")
+        page = (self.folder / "man" / "ld.ldi.1").read_text(encoding="utf-8")
+        self.assertIn("\n.RS 2\n.IP \\(bu 2\nafter 10 minutes without a call", page)
+        page = (self.folder / "man" / "ldi.1").read_text(encoding="utf-8")
+        self.assertIn('\n.IP "2." 3\n1, 2, 3 and then 6', page)
