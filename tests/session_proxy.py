@@ -1,8 +1,8 @@
 """A session of `ldi` that something is done to: a program in the place of `ldi`, by LDI, that passes on what it gets.
 
-Before it passes on the command `image` or `changes`, it runs the file of the name `between` in the working folder, which
-it renames first, so that this is done once. So tests change files after a program has asked for the image, or hold up a
-link for as long as they need. It works meanwhile, since a server gives up a link on which nothing works.
+Before it passes on the command `image` or `changes`, it runs the file of the name `between` in the working folder,
+which it renames first, so that this is done once. So tests change files after a program has asked for the image, or
+hold up a link for as long as they need. It works meanwhile, since a server gives up a link on which nothing works.
 """
 from __future__ import annotations
 

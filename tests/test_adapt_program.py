@@ -201,7 +201,7 @@ class ProgramTest(unittest.TestCase):
         with tempfile.TemporaryDirectory() as folder:
             paths = make(folder)
             Path(folder, "list").write_text("\n".join(paths) + "\n")
-            text = "ENTRY(_start) x = DEFINED(main); provided = x; __stack = x; SECTIONS { .t : { *(.text .data .bss COMMON "
-            text += ".text.* .data.* .rodata* .tab* .init_array.*) } end = .; _end = .; }"
+            text = "ENTRY(_start) x = DEFINED(main); provided = x; __stack = x; SECTIONS { .t : { *(.text .data .bss "
+            text += "COMMON .text.* .data.* .rodata* .tab* .init_array.*) } end = .; _end = .; }"
             status, out, report = self.run_program("s.ld", "--objects", f"@{folder}/list", text=text)
         self.assertEqual((status, out), (0, text.replace("DEFINED(main)", "1")), report)

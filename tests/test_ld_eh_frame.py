@@ -49,7 +49,8 @@ class TablesTest(OutsideTest):
 
     def stabs(self, name: str, called: str, more: str = "") -> str:
         """An object with stabs."""
-        return self.compile(f"{name}.s", STABS.replace("CALLED", called).replace("NAME", name).replace("FILE", "3") + more)
+        text = STABS.replace("CALLED", called).replace("NAME", name).replace("FILE", "3")
+        return self.compile(f"{name}.s", text + more)
 
     def test_stabs(self) -> None:
         """Rows and names are those of GNU ld, with what it leaves out, also after edits."""
@@ -70,8 +71,9 @@ class TablesTest(OutsideTest):
 
     def test_frames(self) -> None:
         """Equal CIEs are one, entries for code that goes are left out, those that stay are filled up, one end stays."""
-        names = [self.compile("start.s", self.frames("start", more="call one\n call two") + " .globl handler\nhandler: ret\n"),
-                 self.compile("one.s", self.frames("one") + self.frames("lost", ".gone") + self.frames("unused", ".text.x")),
+        start = self.frames("start", more="call one\n call two") + " .globl handler\nhandler: ret\n"
+        one = self.frames("one") + self.frames("lost", ".gone") + self.frames("unused", ".text.x")
+        names = [self.compile("start.s", start), self.compile("one.s", one),
                  self.compile("two.s", self.frames("two", more=".cfi_signal_frame\n .cfi_escape 0, 0, 0, 0, 0")),
                  self.compile("end.s", ' .section .eh_frame,"a"\nlast: .long 0\n')]
         for body in (".eh_frame : { KEEP(*(.eh_frame)) }", ".eh_frame : ALIGN(8) { *(.eh_frame) LONG(0) }", "",

@@ -47,10 +47,12 @@ class FrameTableTest(OutsideTest):
     def setUp(self) -> None:
         """Assembles objects: functions of several sections, not in the order of their entries."""
         super().setUp()
+        start = function("second", ".more", "nop") + function("start", more="call one\n call second")
+        one = function("one", ".text.z") + function("lost", ".gone") + function("unused", ".text.x")
         self.names = [
             self.compile("plain.s", " .data\n .long 1\n"),
-            self.compile("start.s", function("second", ".more", "nop") + function("start", more="call one\n call second")),
-            self.compile("one.s", function("one", ".text.z") + function("lost", ".gone") + function("unused", ".text.x")),
+            self.compile("start.s", start),
+            self.compile("one.s", one),
             self.compile("other.s", function("other", ".text.a", ".cfi_signal_frame")),
         ]
 
@@ -153,7 +155,8 @@ class FrameTableTest(OutsideTest):
     def test_after_edits(self) -> None:
         """The rows follow the code, and come and go with it."""
         self.script()
-        for text in ("", function("new", ".text.b"), function("new", ".text.b", ".skip 100"), function("new", ".more"), ""):
+        new = function("new", ".text.b"), function("new", ".text.b", ".skip 100"), function("new", ".more")
+        for text in ("", *new, ""):
             self.compile("plain.s", " .data\n .long 1\n" + text)
             self.is_same("--eh-frame-hdr", *self.names, served=True)
         self.script(".eh_frame_hdr : { LONG(1) *(.eh_frame_hdr) }")

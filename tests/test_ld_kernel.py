@@ -151,8 +151,8 @@ class KernelTest(LinkTest):
 
     @needs("ld.bfd")
     def test_symbols_of_objects(self) -> None:
-        """Expressions with objects' symbols have GNU ld's values; what they name is proved by ASSERT, but for a name alone,
-        which is one of the object's too."""
+        """Expressions with objects' symbols have GNU ld's values; what they name is proved by ASSERT, but for a name
+        alone, which is one of the object's too."""
         done = self.links("-T", "kernel.ld", "-o", "kernel", "--verbose", *self.objects)
         self.assertIn("jiffies is a symbol of the object that has jiffies_64", done.stdout + done.stderr)
         self.assertIn("start as the number that a link gives it", done.stdout + done.stderr)

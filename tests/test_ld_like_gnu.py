@@ -173,7 +173,8 @@ class ScriptTest(BesideTest):
 
     def test_large_model(self) -> None:
         """Sections with SHF_X86_64_LARGE, under the default script and under one that leaves them to be orphans."""
-        name = self.compile("large.c", """int big[100000]; static const int table[50000] = {1, 2}; int data[70000] = {5};
+        name = self.compile("large.c", """int big[100000], data[70000] = {5};
+            static const int table[50000] = {1, 2};
             int _start(void) { volatile int at = 3; return big[at] + data[at] + table[at]; }""", "-mcmodel=medium")
         self.write("t.ld", PLAIN)
         for words in (["-static"], ["-T", "t.ld"], ["-T", "t.ld", "--gc-sections"]):
@@ -331,11 +332,11 @@ SECTIONS { . = 0; .header : { *(.header) } . = ALIGN(512); .text : { *(.data) . 
         self.assertEqual(self.compare("-T", "t.ld", "a.o", env=NONE), "")
 
     def test_sections_of_noload(self) -> None:
-        """NOLOAD takes no memory in a flat file, and its bytes are not there (ldlang.c, `lang_add_section`), as in the boot
-        sector of memtest86+; what stands behind it begins where it begins, which is GNU ld's to link."""
+        """NOLOAD takes no memory in a flat file, and its bytes are not there (ldlang.c, `lang_add_section`), as in the
+        boot sector of memtest86+; what stands behind it begins where it begins, which is GNU ld's to link."""
         self.compile("a.s", '.section .header, "a"\n.short end\n.data\n.long 4\n.bss\n.skip 12\n')
-        script = """%s SECTIONS { . = 0; .header : { *(.header) } .image (NOLOAD) : { start = .; *(%s) end = .; } size = end - start;
-            %s /DISCARD/ : { *(*) } }"""
+        script = """%s SECTIONS { . = 0; .header : { *(.header) } .image (NOLOAD) : { start = .; *(%s) end = .; }
+            size = end - start; %s /DISCARD/ : { *(*) } }"""
         for taken in (".data", ".bss", ".data .bss"):
             for form, words in (('OUTPUT_FORMAT("binary")', ()), ("", ("--oformat", "binary"))):
                 for more in ("", "x = .;", ". = 0x40; .more : { LONG(7) LONG(end) }", ".rest 0x80 : { LONG(8) }"):

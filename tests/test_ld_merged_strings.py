@@ -12,7 +12,8 @@ START = (".globl _start", "_start: nop")
 FLAGS = ("-ffreestanding", "-fno-stack-protector", "-fcf-protection=none")
 FIRST = """#include <stddef.h>
 extern const char *second(int); extern double half(double);
-const char *const names[] = {"hello world", "world", "alpha", "a longer text, which is aligned to eight", "%d: failed\\n"};
+const char *const names[] = {"hello world", "world", "alpha", "a longer text, which is aligned to eight",
+                             "%d: failed\\n"};
 const wchar_t *const wide = L"wide text";
 double first(double x) { return half(x) * 3.5 + 2.25; }
 int main(int n) { return names[n][0] + second(n)[1] + "o world"[n] + u"sixteen"[n] + U"thirty-two"[n]; }

@@ -7,7 +7,8 @@ from tests.programs import OutsideTest, needs
 
 SCRIPT = """ENTRY(_start)
 SECTIONS { . = 0x400000; .text : { *(.text .text.*) } =0x90909090 .rodata : { *(.rodata*) } . = ALIGN(4096);
-           .data : { *(.data .data.*) } .got : { *(.got) } .got.plt : { *(.got.plt) } .bss : { *(.bss .bss.*) *(COMMON) }
+           .data : { *(.data .data.*) } .got : { *(.got) } .got.plt : { *(.got.plt) }
+           .bss : { *(.bss .bss.*) *(COMMON) }
            __patchable_function_entries : { *(__patchable_function_entries) }
            /DISCARD/ : { *(.comment) *(.note*) *(.eh_frame) *(.gcc_except_table*) } }
 """

@@ -38,7 +38,8 @@ REGIONS = """MEMORY { rom : ORIGIN = 0x100000, LENGTH = 64K ram : ORIGIN = 0x110
 SECTIONS { .text : { *(.text*) } >rom .rodata : { *(.rodata) *(.note.one) } >rom .data : { *(.data .late) } >ram AT>rom
     .bss : { *(.bss) } >ram }"""
 EMPTY = """ENTRY(_start) SECTIONS { . = 0x100000; .none : { none = .; } . = 0x100100; .text : { *(.text*) }
-    .data : { *(.data) } .bss : { *(.bss) } . += 64; .end (NOLOAD) : { . += 8; } .rest : { *(.rodata) *(.late) *(.note.one) } }"""
+    .data : { *(.data) } .bss : { *(.bss) } . += 64; .end (NOLOAD) : { . += 8; }
+    .rest : { *(.rodata) *(.late) *(.note.one) } }"""
 SCRIPTS = {"near": NEAR, "pages": PAGES, "far": FAR, "room": ROOM, "apart": APART, "loaded": LOADED, "regions": REGIONS,
            "empty": EMPTY}
 WORDS: tuple[tuple[str, ...], ...] = (

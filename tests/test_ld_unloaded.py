@@ -35,7 +35,8 @@ int never(int number) { return number + counter; }
 CLASSES = """template <class T> struct Box { T value; Box(T v) : value(v) {} virtual T get() const { return value; }
   T more(T other) const { T all = value; for (int at = 0; at < 3; at++) all += other * at; return all; } };
 inline int shared(int x) { static int calls; return x + ++calls; }
-extern "C" int NAME(int x) { Box<int> box(x); Box<long> wide(x); return box.more(2) + shared(box.get()) + (int)wide.more(3); }
+extern "C" int NAME(int x) { Box<int> box(x); Box<long> wide(x);
+  return box.more(2) + shared(box.get()) + (int)wide.more(3); }
 """
 
 
@@ -210,10 +211,10 @@ class UnloadedTest(OutsideTest):
 
     def test_comment_and_others(self) -> None:
         """`.comment` of several compilers is merged; sections without ALLOC and strings of all kinds; `(INFO)`."""
-        text = """ .globl _start\n_start: ret\n .section .comment,"MS",@progbits,1\n .string "x y"\n .string "y"\n .string ""
- .section .own,"",@progbits\n .quad _start, 5\n .long .Lhere\n .Lhere: .byte 1\n .section .strings,"MS",@progbits,1
- .string "abc"\n .string "bc"\n .byte 0,0\n .string "c"\n .section .refers,""\n .long .strings + 4, .strings + 5, .strings
- .long .strings + 9\n .section .info,"a"\n .quad _start\n .byte 7\n"""
+        text = """ .globl _start\n_start: ret\n .section .comment,"MS",@progbits,1\n .string "x y"\n .string "y"
+ .string ""\n .section .own,"",@progbits\n .quad _start, 5\n .long .Lhere\n .Lhere: .byte 1\n .section .strings,"MS",@progbits,1
+ .string "abc"\n .string "bc"\n .byte 0,0\n .string "c"
+ .section .refers,""\n .long .strings + 4, .strings + 5, .strings\n .long .strings + 9\n .section .info,"a"\n .quad _start\n .byte 7\n"""
         words = [self.compile("a.s", text),
                  self.compile("b.s", text.replace("_start", "other").replace("x y", "z x y"))]
         for script in (SCRIPT.replace("*(.note*)", "*(.note*) *(.info)"), TYPES):
@@ -226,10 +227,11 @@ class UnloadedTest(OutsideTest):
         """`.`, SIZEOF and names go by strings that are merged, in `.comment` and in a section of type INFO."""
         text = """ .globl NAME\nNAME: ret\n .section .comment,"MS",@progbits,1\n .string "one"\n .string "NAME"
  .section .rodata.str1.1,"aMS",@progbits,1\n .globl text_NAME\n .string "both"\ntext_NAME: .string "a NAME"
- .section .rodata.cst8,"aM",@progbits,8\n .quad 7\n .section .own,"",@progbits\n .quad text_NAME, .rodata.str1.1 + 1\n"""
+ .section .rodata.cst8,"aM",@progbits,8\n .quad 7
+ .section .own,"",@progbits\n .quad text_NAME, .rodata.str1.1 + 1\n"""
         names = [self.compile(f"{name}.s", text.replace("NAME", name)) for name in ("_start", "start", "other")]
-        sections = ".comment : { *(.comment) }", ".info (INFO) : { *(.rodata*) }", ".info (INFO) : { *(.rodata*) BYTE(1) }"
-        for section in sections:
+        info = ".info (INFO) : { *(.rodata*) }"
+        for section in (".comment : { *(.comment) }", info, info.replace("}", "BYTE(1) }")):
             self.write("own.ld",
                        f"SECTIONS {{ . = 0x1000; .text : {{ *(.text) }} {section} .data : {{ LONG(1) }} last = .; "
                        "size = SIZEOF(.comment); .comment 0 : { *(.comment) } .own 0 : { *(.own) } }")
@@ -238,8 +240,8 @@ class UnloadedTest(OutsideTest):
 
     def test_loaded_strings(self) -> None:
         """References to strings that are loaded and merged, by sections and by symbols."""
-        text = """ .globl NAME\nNAME: mov $.Ltext, %edi\n ret\n .section .rodata.str1.1,"aMS",@progbits,1\n .string "FIRST"
- .Ltext: .string "bc"\n local: .string "SECOND"\n .section .own,"",@progbits\n .quad .rodata.str1.1 + 6, local, .Ltext
+        text = """ .globl NAME\nNAME: mov $.Ltext, %edi\n ret
+ .section .rodata.str1.1,"aMS",@progbits,1\n .string "FIRST"\n .Ltext: .string "bc"\n local: .string "SECOND"\n .section .own,"",@progbits\n .quad .rodata.str1.1 + 6, local, .Ltext
  .quad .rodata.str1.1, local + 1\n"""
         names = [self.compile(f"{name}.s", text.replace("NAME", name).replace("FIRST", first).replace("SECOND", second))
                  for name, first, second in (("_start", "abc", "x"), ("other", "dabc", "abc"), ("third", "x", "x"))]

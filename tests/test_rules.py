@@ -54,7 +54,8 @@ class MissingTest(unittest.TestCase):
         folder = tempfile.TemporaryDirectory()
         self.addCleanup(folder.cleanup)
         self.crates = Path(folder.name)
-        for crate in ("elfobj_file", "emit_fields", "ldmodel", "ldscript", "ldscript_terms", "ldscript_tokens", "place"):
+        crates = "elfobj_file emit_fields ldmodel ldscript ldscript_terms ldscript_tokens place"
+        for crate in crates.split():
             for part in ("src", "specs"):
                 shutil.copytree(ROOT / "crates" / crate / part, self.crates / crate / part)
         shutil.copytree(ROOT / "crates" / "readobj" / "src", self.crates / "readobj" / "src")

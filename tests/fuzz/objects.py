@@ -298,13 +298,14 @@ def orphans(name: str, random: Random) -> str:
     return "\n".join(lines) + "\n"
 
 
-OPERATIONS_OF_FRAMES = [".cfi_def_cfa_offset 16", ".cfi_remember_state\n.cfi_restore_state", ".cfi_escape 0x2e, 16", ".cfi_escape 0, 0, 0",
+OPERATIONS_OF_FRAMES = [".cfi_def_cfa_offset 16", ".cfi_remember_state\n.cfi_restore_state",
+                        ".cfi_escape 0x2e, 16", ".cfi_escape 0, 0, 0",
                         ".cfi_offset 6, -16", ".cfi_escape 0x16, 3, 2, 0x77, 8", ""]
 KINDS_OF_FRAMES = [".cfi_startproc", ".cfi_startproc", ".cfi_startproc simple", ".cfi_startproc\n.cfi_signal_frame",
                    ".cfi_startproc\n.cfi_personality 3, person", ".cfi_startproc\n.cfi_personality 0x9b, person_ref",
                    ".cfi_startproc\n.cfi_personality 0, own_person\n.cfi_lsda 0x1b, .Llsda",
-                   ".cfi_startproc\n.cfi_personality 3, person\n.cfi_lsda 3, .Llsda", ".cfi_startproc\n.cfi_b_key_frame",
-                   ".cfi_startproc\n.cfi_return_column 3"]
+                   ".cfi_startproc\n.cfi_personality 3, person\n.cfi_lsda 3, .Llsda",
+                   ".cfi_startproc\n.cfi_b_key_frame", ".cfi_startproc\n.cfi_return_column 3"]
 """How entries of `.eh_frame` begin, and what is in them."""
 
 
@@ -332,7 +333,8 @@ def stabs(name: str, random: Random) -> str:
     lines = [".text", f'.stabs "{name}.c",100,0,0,.Ltext', ".Ltext:"]
     for header in random.sample("xyz", random.randrange(4)):
         lines += [f'.stabs "{header}.h",130,0,0,0', f'.stabs "{header}:t({random.randrange(4)},1)=(0,1)",128,0,0,0']
-        lines += ['.stabs "inner.h",130,0,0,0', '.stabs "in:t(2,1)",128,0,0,0', ".stabn 162,0,0,0"] * random.randrange(2)
+        inner = ['.stabs "inner.h",130,0,0,0', '.stabs "in:t(2,1)",128,0,0,0', ".stabn 162,0,0,0"]
+        lines += inner * random.randrange(2)
         lines += [".stabn 162,0,0,0"]
     for number in range(random.randrange(4)):
         section = random.choice([".text", ".text.f", ".gone", ".data"])

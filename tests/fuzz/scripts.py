@@ -44,8 +44,8 @@ class Writer:
     """Writes one script."""
 
     def __init__(self, seed: int, twice: int = 3, with_tables: bool = False) -> None:
-        """Of a hundred output sections whose name another one has already, `twice` keep it; `with_tables` places a global
-        offset table."""
+        """Of a hundred output sections whose name another one has already, `twice` keep it; `with_tables` places a
+        global offset table."""
         self.with_tables = with_tables
         self.random = Random(seed)
         self.names: list[str] = []
@@ -329,8 +329,8 @@ class Writer:
 
 
 def case(seed: int, collects: bool = False, twice: int = 3, with_tables: bool = False) -> Case:
-    """The case of a seed, with --gc-sections if it collects; `twice` is that of Writer; `with_tables` places a global offset
-    table."""
+    """The case of a seed, with --gc-sections if it collects; `twice` is that of Writer; `with_tables` places a global
+    offset table."""
     writer = Writer(seed, twice, with_tables)
     random = writer.random
     count = random.choice([1, 2, 2, 3, 4, len(NAMES)])
@@ -375,7 +375,8 @@ def without_rest(one: Case, seed: int) -> Case:
 def with_frames(one: Case, seed: int) -> Case:
     """A case whose script places `.eh_frame` and stabs, or leaves them to be orphans."""
     random = Random(f"{seed} frames")
-    frames = random.choice(["", "", ".eh_frame : { KEEP(*(.eh_frame)) }", ".eh_frame : { *(.eh_frame) frames_end = .; }",
+    frames = random.choice(["", "", ".eh_frame : { KEEP(*(.eh_frame)) }",
+                            ".eh_frame : { *(.eh_frame) frames_end = .; }",
                             ".eh_frame : ALIGN(8) { *(.eh_frame) LONG(0) }", ".data : { *(.eh_frame) }",
                             ".eh_frame : { *(.eh_frame .gcc_except_table) }"])
     stabs = random.choice(["", "", ".stab : { *(.stab) BYTE(0) } .stabstr : { *(.stabstr) BYTE(0) }",
@@ -385,7 +386,8 @@ def with_frames(one: Case, seed: int) -> Case:
     other = Random(f"{seed} table of frames")
     if other.randrange(2):
         one.before += ["--eh-frame-hdr"]
-        frames += other.choice(["", " .eh_frame_hdr : { *(.eh_frame_hdr) }", " .eh_frame_hdr : { KEEP(*(.eh_frame_hdr*)) }",
+        frames += other.choice(["", " .eh_frame_hdr : { *(.eh_frame_hdr) }",
+                                " .eh_frame_hdr : { KEEP(*(.eh_frame_hdr*)) }",
                                 " .table : ALIGN(16) { LONG(7) *(.eh_frame_hdr) table_end = .; }"])
         gone += other.choice(["", "", "", "", "", " /DISCARD/ : { *(.eh_frame_hdr) }"])
     tail = " >rom" if re.search(r"^  .*} >rom", one.script, flags=re.M) else ""
