@@ -56,6 +56,15 @@ class FallbackTest(LinkTest):
             self.assertIn(why, done.stderr)
             self.assertEqual(len(done.stderr.splitlines()), 1, done.stderr)
 
+    @needs("ld.bfd")
+    def test_own_options(self) -> None:
+        """Options that GNU ld does not have are not passed on, shortened or in a response file."""
+        self.write("words", "--no-serv --Map-format 'gnu' -o r.o")
+        for words in (("--no-serv", "-o", "r.o"), ("@words",), ("-no-server", "@words", "--Map-f=gnu")):
+            done = self.ld("-r", "a.o", *words, env=self.env())
+            self.assertEqual((done.returncode, done.stderr), (0, "ld.ldi: -r: relocatable output: linked by ld.bfd\n"))
+            (self.folder / "r.o").unlink()
+
     def test_no_memory(self) -> None:
         """A session without memory for an object, or for the link: status 4, no image, and no other linker."""
         self.write("t.ld", PLAIN)

@@ -240,6 +240,22 @@ class WantedTest(ServerTest):
         self.assertEqual(self.call(*WORDS, "--no-server").returncode, 0)
         self.assertEqual(self.calls(), 0)
 
+    def test_words_of_servers(self) -> None:
+        """One dash, a shortened name and a response file do what the whole word does; a value is no option."""
+        self.write("words", "--no-serv")
+        for word in ("-no-server", "--no-serv", "@words"):
+            done = self.ld(*WORDS, word, env=self.env())
+            self.assertEqual((done.returncode, self.servers()), (0, []), f"{word}: {done.stderr}")
+        pid = self.start(*WORDS, "-u", "--no-server")
+        for words in (("-server-status",), ("--server-sta", "--outp=image"), ("@words",)):
+            self.write("words", "--server-status -o image")
+            self.assertIn(f"process {pid} in", self.run_program(LD_LDI, *words, env=self.env()).stdout, words)
+        other = self.run_program(LD_LDI, "--server-status", "-oother", env=self.env()).stdout
+        self.assertEqual(other, "")
+        self.write("words", "--server-stop")
+        self.assertIn("stopped", self.run_program(LD_LDI, "@words", env=self.env()).stdout)
+        self.wait(lambda: not is_running(pid), "--server-stop of a file")
+
     def test_no_runtime_folder(self) -> None:
         """Without XDG_RUNTIME_DIR the folder is one of the user's own, as where that is not fit for sockets."""
         for env in ({"XDG_RUNTIME_DIR": ""}, {"XDG_RUNTIME_DIR": str(self.folder / "none")}):

@@ -121,6 +121,11 @@ impl OptionRow {
         dashed(self.names().next().unwrap_or_default())
     }
 
+    /// Whether `ld.ldi` alone has the option, of those with which another linker may link.
+    pub fn is_own(&self) -> bool {
+        matches!(self.effect, Effect::Taken(Action::NoServer | Action::MapFormat))
+    }
+
     fn has_name(&self, name: &[u8]) -> bool {
         self.names().any(|own| own.as_bytes() == name)
     }

@@ -6,10 +6,14 @@ use std::os::unix::process::CommandExt;
 use std::path::{Path, PathBuf};
 use std::process::Command as Process;
 
+use bstr::ByteSlice;
+
 use super::builds::is_first;
 use super::{say, Status};
+use crate::command::{expand_words, find_option, Argument, FoundOption};
 use crate::plan::{is_own, others, Environment};
 use crate::report::os_message;
+use crate::server::are_lasting_words;
 use crate::stdio;
 use crate::stdio::Printed;
 
@@ -192,15 +196,31 @@ fn words_of(text: &[u8]) -> Option<Vec<OsString>> {
     quote.is_none().then(|| words.into_iter().map(OsString::from_vec).collect())
 }
 
-/// The words without those that `ld.ldi` alone knows.
-fn of_others(words: &[OsString]) -> Vec<&OsStr> {
-    let (mut found, mut words) = (Vec::with_capacity(words.len()), words.iter());
+/// The words without options that `ld.ldi` alone knows; if response files have some, with the words of these files.
+fn of_others(words: &[OsString]) -> Vec<OsString> {
+    let own = without_own(words.iter().map(|word| word.as_bytes()));
+    let has_files = words.iter().any(|word| word.as_bytes().starts_with(b"@"));
+    if has_files && are_lasting_words(words) {
+        let expanded = expand_words(&own).words;
+        let others = without_own(expanded.iter().map(|word| word.as_bytes()));
+        if others.len() < expanded.len() {
+            return others.into_iter().map(|word| OsStr::from_bytes(word).to_owned()).collect();
+        }
+    }
+    own.into_iter().map(|word| OsStr::from_bytes(word).to_owned()).collect()
+}
+
+/// The words without options that `ld.ldi` alone knows, and without their values.
+fn without_own<'a>(words: impl Iterator<Item = &'a [u8]>) -> Vec<&'a [u8]> {
+    let (mut found, mut words) = (Vec::new(), words);
     while let Some(word) = words.next() {
-        match word.as_bytes().strip_prefix(b"-").map(|rest| rest.strip_prefix(b"-").unwrap_or(rest)) {
-            Some(b"no-server") => {}
-            Some(b"Map-format") => drop(words.next()),
-            Some(name) if name.starts_with(b"Map-format=") => {}
-            _ => found.push(word.as_os_str()),
+        let option = if word.starts_with(b"-") { find_option(word.as_bstr()).ok() } else { None };
+        let has_next = |option: &FoundOption| {
+            option.value.is_none() && option.rows.iter().any(|row| row.argument == Argument::Needed)
+        };
+        let next = if option.as_ref().map_or(false, has_next) { words.next() } else { None };
+        if !option.map_or(false, |option| option.rows.iter().any(|row| row.is_own())) {
+            found.extend([Some(word), next].into_iter().flatten());
         }
     }
     found
@@ -271,6 +291,21 @@ mod tests {
     fn own_words_are_not_passed_on() {
         let words = ["-r", "--no-server", "-no-server", "a.o", "--Map-format", "ldi", "--Map-format=gnu", "-Map=m"];
         assert_eq!(of_others(&words.map(OsString::from)), ["-r", "a.o", "-Map=m"]);
+        let words = ["--no-serv", "-o", "--no-server", "--Map-f=gnu", "-T", "x", "a.o"];
+        assert_eq!(of_others(&words.map(OsString::from)), ["-o", "--no-server", "-T", "x", "a.o"]);
+    }
+
+    #[test]
+    fn own_words_of_files_are_not_passed_on() {
+        let path = std::env::temp_dir().join(format!("ldi-front-own-words-{}", std::process::id()));
+        let words = [OsString::from("-r"), format!("@{}", path.display()).into()];
+        for (text, passed) in
+            [("a.o --no-server 'b c.o'", vec!["-r".into(), "a.o".into(), "b c.o".into()]), ("a.o b.o", words.to_vec())]
+        {
+            std::fs::write(&path, text).unwrap();
+            assert_eq!(of_others(&words), passed, "{text}");
+        }
+        std::fs::remove_file(path).unwrap();
     }
 
     #[test]

@@ -94,21 +94,21 @@ pub(crate) fn run(
     host: &dyn Host,
 ) -> Result<Done, LinkFault> {
     let (expanded, read) = read_words(asked.words);
-    let is_forbidden = |command: &Command| command.is_without_fallback;
+    // Of words that are no command line these two options are looked for as they are written.
+    let has = |name: &str| expanded.iter().any(|word| word == name);
+    let is_forbidden = read.as_ref().map_or_else(|_| has("--no-fallback"), |command| command.is_without_fallback);
+    let is_verbose = read.as_ref().map_or_else(|_| has("--verbose"), |command| command.is_verbose);
     let mut environment = asked.environment.clone();
-    if read.as_ref().map_or_else(|_| expanded.iter().any(|word| word == "--no-fallback"), is_forbidden) {
+    if is_forbidden {
         fallback::forbid(&mut environment);
     }
-    let is_verbose = asked.words.iter().any(|word| word == "--verbose");
-    let mut asked = Asked { environment: &environment, is_verbose, ..asked };
+    let asked = Asked { environment: &environment, is_verbose, ..asked };
     let command = match read {
         Ok(command) => command,
         Err(fault) => return Ok(host.hand_over(&Reasons::of(vec![fault.to_string()]), &asked).into()),
     };
-    asked.is_verbose = command.is_verbose;
     match run_command(command, asked, snapshot, client, host) {
         Err(LinkFault::Plan(PlanFault::Input(InputFault::OfOtherLinkers(text)))) => {
-            let asked = Asked { is_verbose, ..asked };
             Ok(host.hand_over(&Reasons::of(vec![text]), &asked).into())
         }
         done => done,

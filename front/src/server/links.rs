@@ -243,7 +243,7 @@ fn has_files(words: &[OsString]) -> bool {
 }
 
 /// Whether each response file is a regular one that is the same to each process.
-pub(super) fn are_lasting_words(words: &[OsString]) -> bool {
+pub(crate) fn are_lasting_words(words: &[OsString]) -> bool {
     words.iter().all(|word| is_lasting(word.as_bytes(), MAX_DEPTH))
 }
 

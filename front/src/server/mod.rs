@@ -13,6 +13,7 @@ mod start;
 mod status;
 mod usage;
 mod wire;
+mod wishes;
 
 use std::ffi::{OsStr, OsString};
 use std::path::{Path, PathBuf};
@@ -27,22 +28,24 @@ use crate::plan::{Environment, WITHIN};
 use crate::publish::{remove_apart, remove_left};
 use call::{answer_limit, Call, Declined};
 use key::{output_of, sockets_folder, value_of, Key};
+pub(crate) use links::are_lasting_words;
 pub use serve::main;
+use wishes::Wishes;
 
 /// The time in which a server that was started has to answer, or longer, by LDI_SERVER_ANSWER.
 const START: Duration = Duration::from_secs(5);
 
 /// Has the words' link made by the server of the output, or `by_itself`; gives the exit status.
 pub fn call(words: &[OsString], environment: &Environment, by_itself: impl Fn(&[OsString]) -> u8) -> u8 {
-    let has = |name: &str| words.iter().any(|word| word == name);
-    if has("--server-status") || has("--server-stop") {
-        return status::run(words, environment, has("--server-stop"));
+    let wishes = Wishes::of(words);
+    if let Some(request) = wishes.request {
+        return status::run(request, wishes.output.as_deref(), environment);
     }
     let is_within = environment.contains_key(OsStr::new(WITHIN));
-    if has("--no-server") || is_within || value_of(environment, "LDI_SERVER") == "0" {
+    if wishes.is_without_server || is_within || value_of(environment, "LDI_SERVER") == "0" {
         return by_itself(words);
     }
-    match served(words, environment, has("--verbose")) {
+    match served(words, environment, wishes.is_verbose) {
         Some(status) => status,
         None => by_itself(words),
     }

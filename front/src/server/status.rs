@@ -1,6 +1,5 @@
 //! `ld.ldi --server-status` and `--server-stop`: the servers of this user, or that of the output of `-o`.
 
-use std::ffi::OsString;
 use std::io;
 use std::os::unix::ffi::OsStrExt;
 use std::os::unix::net::UnixStream;
@@ -9,9 +8,10 @@ use std::thread;
 use std::time::{Duration, Instant};
 
 use super::call::{is_own, Declined};
-use super::key::{output_of, real_path, sockets, sockets_folder};
+use super::key::{real_path, sockets, sockets_folder};
 use super::wire::{Kind, Message, Reader};
 use super::{say, start};
+use crate::command::ServerRequest;
 use crate::plan::Environment;
 
 /// The time in which a server has to say how it is.
@@ -74,13 +74,10 @@ impl State {
     }
 }
 
-/// Asks each server; prints a line for each.
-pub(super) fn run(words: &[OsString], environment: &Environment, stops: bool) -> u8 {
-    let is_output = |word: &OsString| {
-        let word = word.as_bytes();
-        word.starts_with(b"--output") || word.starts_with(b"-o") && !word.starts_with(b"--")
-    };
-    let wanted = words.iter().any(is_output).then(|| real_path(&output_of(words)));
+/// Asks each server, or that of an output; prints a line for each.
+pub(super) fn run(request: ServerRequest, output: Option<&Path>, environment: &Environment) -> u8 {
+    let stops = request == ServerRequest::Stop;
+    let wanted = output.map(real_path);
     let paths = sockets_folder(environment).map_or_else(Vec::new, |folder| sockets(&folder));
     for path in paths {
         let said = match ask(&path, Kind::Status) {
