@@ -38,6 +38,8 @@ pub enum Topic {
     Segments,
     /// The form of the file (OUTPUT_FORMAT): `finish` writes it.
     Form,
+    /// The entry, which a flat file does not have.
+    Entry,
     /// What is no matter of places, values and bytes, which are compared with GNU ld's.
     Beside,
     /// Bytes of a section that GNU ld does not load: `finish` leaves them out of a flat file.

@@ -28,7 +28,7 @@ impl<'a> Walk<'a> {
     pub(super) fn commands(&mut self) {
         let script = self.script;
         for statement in &script.statements {
-            if let Some((kind, topic, why)) = self.command(&statement.node) {
+            if let Some((kind, topic, why)) = self.disposition(&statement.node) {
                 let what = self.quoted(statement.span);
                 self.note_of(kind, topic, statement.span.start, format!("{what}: {why}"));
                 if kind != NoteKind::Left {
@@ -39,40 +39,12 @@ impl<'a> Walk<'a> {
     }
 
     /// What becomes of a command, and why; `None` of what is no such command.
-    fn command(&mut self, statement: &Statement) -> Option<(NoteKind, Topic, String)> {
-        let dropped = |why: &str| Some((NoteKind::Dropped, Topic::Beside, why.to_owned()));
-        let one_format = "there is one format";
+    fn disposition(&mut self, statement: &Statement) -> Option<(NoteKind, Topic, String)> {
         match statement {
             Statement::OutputFormat(names) if names.first().map_or(false, |name| name == "binary") => {
                 self.result.is_flat = true;
                 let why = "the image is ELF; `objcopy -O binary IMAGE FILE` makes the file";
                 Some((NoteKind::Changed, Topic::Form, why.into()))
-            }
-            Statement::OutputFormat(names) if !names.first().map_or(true, is_own_format) => {
-                Some((NoteKind::Changed, Topic::Beside, "the image is ELF-64 for x86-64".into()))
-            }
-            Statement::OutputArch(name) if !is_own_arch(name) => {
-                Some((NoteKind::Changed, Topic::Beside, "the image is ELF-64 for x86-64".into()))
-            }
-            Statement::OutputFormat(_) | Statement::OutputArch(_) | Statement::Target(_) => dropped(one_format),
-            Statement::Output(_) => dropped("the image's name is that of -o"),
-            Statement::SearchDir(_) => dropped("objects are given by their paths"),
-            Statement::NoCrossReferences(_) | Statement::NoCrossReferencesTo(_) => {
-                dropped("references between sections are not tested")
-            }
-            Statement::Setting(Setting::ForceGroupAllocation) => dropped("groups of sections are not linked"),
-            Statement::Setting(Setting::Float | Setting::NoFloat)
-            | Statement::HighLevelLibraries(_)
-            | Statement::SystemLibraries(_) => dropped("it has no effect on ELF"),
-            Statement::Setting(_) => dropped("common blocks are always placed"),
-            Statement::Map(_) => dropped("the map is asked for by --Map"),
-            Statement::Version(_) => dropped("symbols have no versions"),
-            Statement::Feature(_) => {
-                Some((NoteKind::Rewritten, Topic::Statement, "numbers are never relative to a section".into()))
-            }
-            Statement::Phdrs(_) => {
-                let why = "segments follow addresses, sizes and flags of the output sections";
-                Some((NoteKind::Changed, Topic::Segments, why.into()))
             }
             Statement::RegionAlias(alias, region) => {
                 let own = self.region_name(region);
@@ -85,26 +57,14 @@ impl<'a> Walk<'a> {
             }
             Statement::Startup(file) => Some(self.files(&[file.as_bstr()], true)),
             Statement::Extern(_) if self.request.is_followed => {
-                dropped("these names are wanted of archives, and kept by --gc-sections")
-            }
-            Statement::Extern(_) => {
-                let why =
-                    "takes no member out of an archive and is no root of --gc-sections: name the object, and KEEP \
-                           the section";
-                Some((NoteKind::Changed, Topic::Beside, why.into()))
+                let why = "these names are wanted of archives, and kept by --gc-sections";
+                Some((NoteKind::Dropped, Topic::Beside, why.into()))
             }
             Statement::Insert(..) if self.is_inserted => {
                 let why = "what stands before it is written there";
                 Some((NoteKind::Rewritten, Topic::Statement, why.into()))
             }
-            Statement::Insert(..) => {
-                Some((NoteKind::Left, Topic::Statement, "put the section at its place in the one script".into()))
-            }
-            Statement::Assign(_)
-            | Statement::Assert(_)
-            | Statement::Sections(_)
-            | Statement::Memory(_)
-            | Statement::Entry(_) => None,
+            statement => fixed_disposition(statement).map(|(kind, topic, why)| (kind, topic, why.to_owned())),
         }
     }
 
@@ -706,7 +666,7 @@ impl<'a> Walk<'a> {
         }
         if let (false, Some(value)) = (self.request.evaluation.map_or(true, |one| one.entry.is_by_name), value) {
             let text = format!("the entry is {value:#x}, as GNU ld's: nothing defines {name}");
-            self.note_of(NoteKind::Changed, Topic::Beside, self.front(), text);
+            self.note_of(NoteKind::Changed, Topic::Entry, self.front(), text);
         }
     }
 
@@ -765,7 +725,7 @@ impl<'a> Walk<'a> {
                     "nothing defines it (F2, unless -e names another); GNU ld begins at the start of .text then".into()
                 }
             };
-            self.note_of(NoteKind::Changed, Topic::Beside, span.start, format!("{plain}: {why}"));
+            self.note_of(NoteKind::Changed, Topic::Entry, span.start, format!("{plain}: {why}"));
         }
         if self.put_entry_beside(name.as_bstr(), insertion) {
             self.rewrites.blank(self.text, span);
@@ -841,6 +801,53 @@ fn names_region(statement: &Statement) -> bool {
         Statement::Assert(assertion) => is_any(&assertion.condition, is_of_region),
         _ => false,
     }
+}
+
+/// What becomes of a command in any script, and why; `None` of what is no such command.
+fn fixed_disposition(statement: &Statement) -> Option<(NoteKind, Topic, &'static str)> {
+    use NoteKind::{Changed, Dropped, Left, Rewritten};
+    Some(match statement {
+        Statement::OutputFormat(names) if !names.first().map_or(true, is_own_format) => {
+            (Changed, Topic::Beside, "the image is ELF-64 for x86-64")
+        }
+        Statement::OutputArch(name) if !is_own_arch(name) => (Changed, Topic::Beside, "the image is ELF-64 for x86-64"),
+        Statement::OutputFormat(_) | Statement::OutputArch(_) | Statement::Target(_) => {
+            (Dropped, Topic::Beside, "there is one format")
+        }
+        Statement::Output(_) => (Dropped, Topic::Beside, "the image's name is that of -o"),
+        Statement::SearchDir(_) => (Dropped, Topic::Beside, "objects are given by their paths"),
+        Statement::NoCrossReferences(_) | Statement::NoCrossReferencesTo(_) => {
+            (Dropped, Topic::Beside, "references between sections are not tested")
+        }
+        Statement::Setting(Setting::ForceGroupAllocation) => {
+            (Dropped, Topic::Beside, "groups of sections are not linked")
+        }
+        Statement::Setting(Setting::Float | Setting::NoFloat)
+        | Statement::HighLevelLibraries(_)
+        | Statement::SystemLibraries(_) => (Dropped, Topic::Beside, "it has no effect on ELF"),
+        Statement::Setting(_) => (Dropped, Topic::Beside, "common blocks are always placed"),
+        Statement::Map(_) => (Dropped, Topic::Beside, "the map is asked for by --Map"),
+        Statement::Version(_) => (Dropped, Topic::Beside, "symbols have no versions"),
+        Statement::Feature(_) => (Rewritten, Topic::Statement, "numbers are never relative to a section"),
+        Statement::Phdrs(_) => {
+            (Changed, Topic::Segments, "segments follow addresses, sizes and flags of the output sections")
+        }
+        Statement::Extern(_) => {
+            let why = "takes no member out of an archive and is no root of --gc-sections: name the object, and KEEP \
+                       the section";
+            (Changed, Topic::Beside, why)
+        }
+        Statement::Insert(..) => (Left, Topic::Statement, "put the section at its place in the one script"),
+        Statement::Assign(_)
+        | Statement::Assert(_)
+        | Statement::Sections(_)
+        | Statement::Memory(_)
+        | Statement::Entry(_)
+        | Statement::Input(_)
+        | Statement::Group(_)
+        | Statement::Startup(_)
+        | Statement::RegionAlias(..) => return None,
+    })
 }
 
 fn is_own_format(name: &Name) -> bool {

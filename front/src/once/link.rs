@@ -511,7 +511,7 @@ impl<'a> Link<'a> {
     /// Prints the outcome of the comparison with GNU ld's image.
     fn say_verdict(&self, verdict: &Verdict) {
         self.report();
-        verdict.lines.iter().for_each(|line| eprintln!("{line}"));
+        verdict.lines.iter().for_each(|line| eprintln!("{}", line.text));
         self.notes();
         if verdict.differs {
             say(format!("{}: {DIFFERS}", self.path()));

@@ -3,7 +3,7 @@
 use bstr::ByteSlice;
 
 use super::messages;
-use super::verdict::Verdict;
+use super::verdict::{Line, Verdict};
 use crate::adapted::{Note, NoteKind};
 use crate::command::{Command, Leniency, Orphans};
 use crate::layout::evaluation::Fate;
@@ -88,18 +88,13 @@ fn is_in_relaxed(plan: &LinkPlan, words: &[Value<'_>]) -> bool {
 
 /// Why GNU ld may make a link whose image would be another than GNU ld's; of a flat one nothing shows what is changed.
 pub(crate) fn verdict(plan: &LinkPlan, verdict: &Verdict) -> Option<String> {
+    let texts = |lines: &mut dyn Iterator<Item = &Line>| first(lines.map(|line| line.text.clone()).collect());
     if verdict.differs {
-        return first(verdict.lines.clone()).map(|first| format!("the image would be another than GNU ld's: {first}"));
+        let first = texts(&mut verdict.lines.iter())?;
+        return Some(format!("the image would be another than GNU ld's: {first}"));
     }
-    let changed: Vec<String> = verdict.lines.iter().filter(|line| is_changed(line)).cloned().collect();
-    let first = first(changed).filter(|_| plan.form.is_flat)?;
+    let first = texts(&mut verdict.lines.iter().filter(|line| !line.is_of_entry)).filter(|_| plan.form.is_flat)?;
     Some(format!("a flat image would be another than GNU ld's: {first}"))
-}
-
-/// Whether a line says of more than the entry, which a flat image does not have, that it is changed.
-fn is_changed(line: &str) -> bool {
-    line.contains(": changed: ")
-        && ![": changed: ENTRY(", ": changed: the entry is "].iter().any(|entry| line.contains(entry))
 }
 
 /// The first of some lines, and how many more there are.
@@ -219,9 +214,7 @@ mod tests {
     }
 
     #[test]
-    fn the_entry_is_no_part_of_a_flat_image() {
-        assert!(!is_changed("t.ld:1: changed: ENTRY(nothing): nothing defines it"));
-        assert!(is_changed("t.ld:1: changed: the type of .reloc"));
+    fn the_first_line_has_the_number_of_others() {
         assert_eq!(first(vec!["a".into(), "b".into()]).as_deref(), Some("a, and 1 more"));
         assert_eq!(first(Vec::new()), None);
     }

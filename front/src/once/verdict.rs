@@ -2,7 +2,7 @@
 
 use super::maps::Maps;
 use crate::adapted::{Note, Topic};
-use crate::checker::{check, Checked, DifferenceKind, NoImage};
+use crate::checker::{check, Checked, Difference, DifferenceKind, NoImage};
 use crate::layout::evaluation::StatementKind;
 use crate::layout::Stop;
 use crate::plan::{prohibited, LinkPlan, Prohibited};
@@ -12,11 +12,35 @@ use crate::script::tree::Span;
 /// The input sections up to which their places are compared too, by the map.
 const MAX_COMPARED_SECTIONS: usize = 5000;
 
+/// A line to be said of an image.
+#[derive(Clone, PartialEq, Eq, Debug)]
+pub(crate) struct Line {
+    /// The line.
+    pub(crate) text: String,
+    /// Whether it is about the entry alone, which a flat image does not have.
+    pub(crate) is_of_entry: bool,
+}
+
+impl Line {
+    fn of_note(note: &Note) -> Line {
+        Line { text: note.to_string(), is_of_entry: note.topic == Topic::Entry }
+    }
+
+    /// A difference, in a text that says it.
+    fn of_difference(difference: &Difference, text: String) -> Line {
+        Line { text, is_of_entry: matches!(difference.kind, DifferenceKind::Entry { .. }) }
+    }
+
+    fn of_image(text: String) -> Line {
+        Line { text, is_of_entry: false }
+    }
+}
+
 /// What came of a comparison.
 #[derive(Debug, Default)]
 pub(crate) struct Verdict {
     /// The lines to be said.
-    pub(crate) lines: Vec<String>,
+    pub(crate) lines: Vec<Line>,
     /// Whether the image is another than GNU ld's, and nothing that is said explains it: then none is written.
     pub(crate) differs: bool,
     /// Whether the image is laid out as was evaluated.
@@ -53,9 +77,9 @@ pub(crate) fn compare(plan: &LinkPlan, image: &[u8], map: &[u8], is_verbose: boo
         checked.differences.retain(|one| !is_left_out(&one.kind));
     }
     let mut verdict = if checked.differences.is_empty() {
-        let is_beside = |note: &&Note| matches!(note.topic, Topic::Beside | Topic::NotLoaded) && is_said(plan, note);
-        let beside = plan.adapted.changed().filter(is_beside);
-        Verdict { lines: beside.map(Note::to_string).collect(), ..Verdict::default() }
+        let is_beside = |note: &&Note| matches!(note.topic, Topic::Beside | Topic::Entry | Topic::NotLoaded);
+        let beside = said_notes(plan).filter(is_beside);
+        Verdict { lines: beside.map(Line::of_note).collect(), ..Verdict::default() }
     } else {
         report_differences(plan, &checked, is_verbose)
     };
@@ -73,10 +97,10 @@ pub(crate) fn compare(plan: &LinkPlan, image: &[u8], map: &[u8], is_verbose: boo
                 false => ("are in no segment", "a segment of GNU ld's has their addresses"),
             };
             let what = format!("changed: {kind} of {}: its {:#x} bytes {here}; {there}", one.name, one.size);
-            verdict.lines.push(line(plan, one.span, &what));
+            verdict.lines.push(Line::of_image(line(plan, one.span, &what)));
         }
         for one in &checked.merged {
-            verdict.lines.push(line(plan, one.span, &format!("changed: {one}")));
+            verdict.lines.push(Line::of_image(line(plan, one.span, &format!("changed: {one}"))));
         }
     }
     Ok(verdict)
@@ -84,12 +108,13 @@ pub(crate) fn compare(plan: &LinkPlan, image: &[u8], map: &[u8], is_verbose: boo
 
 /// The differences: with the constructs that explain them, if some are said otherwise.
 fn report_differences(plan: &LinkPlan, checked: &Checked, is_verbose: bool) -> Verdict {
-    let mut lines: Vec<String> =
-        plan.adapted.changed().filter(|note| is_said(plan, note)).map(Note::to_string).collect();
-    let has_cause = !lines.is_empty();
+    let mut lines: Vec<Line> = said_notes(plan).map(Line::of_note).collect();
     let differences = &checked.differences;
-    if !has_cause {
-        lines.extend(differences.iter().map(|one| line(plan, one.span, &one.to_string())));
+    let line_of = |one: &Difference, before: &str, after: &str| {
+        Line::of_difference(one, line(plan, one.span, &format!("{before}{one}{after}")))
+    };
+    if lines.is_empty() {
+        lines.extend(differences.iter().map(|one| line_of(one, "", "")));
         return Verdict { lines, differs: true, ..Verdict::default() };
     }
     let shown = if is_verbose { differences.len() } else { 1 };
@@ -97,7 +122,7 @@ fn report_differences(plan: &LinkPlan, checked: &Checked, is_verbose: bool) -> V
         0 => String::new(),
         more => format!(", and {more} more"),
     };
-    lines.extend(differences.iter().take(shown).map(|one| line(plan, one.span, &format!("changed: {one}{more}"))));
+    lines.extend(differences.iter().take(shown).map(|one| line_of(one, "changed: ", &more)));
     Verdict { lines, ..Verdict::default() }
 }
 
@@ -106,24 +131,28 @@ pub(crate) fn is_said(plan: &LinkPlan, note: &Note) -> bool {
     match note.topic {
         Topic::Segments | Topic::Form => false,
         Topic::NotLoaded => !plan.form.is_flat,
-        Topic::Statement | Topic::Beside => true,
+        Topic::Statement | Topic::Beside | Topic::Entry => true,
     }
 }
 
+/// The notes of what is changed that are said.
+fn said_notes(plan: &LinkPlan) -> impl Iterator<Item = &Note> {
+    plan.adapted.changed().filter(|note| is_said(plan, note))
+}
+
 /// Why it is not known whether GNU ld makes the same.
-fn report_unknown(plan: &LinkPlan, stop: &Stop) -> Vec<String> {
-    let mut lines: Vec<String> =
-        plan.adapted.changed().filter(|note| is_said(plan, note)).map(Note::to_string).collect();
+fn report_unknown(plan: &LinkPlan, stop: &Stop) -> Vec<Line> {
+    let mut lines: Vec<Line> = said_notes(plan).map(Line::of_note).collect();
     let place = line(plan, stop.span(), "");
-    if lines.iter().any(|line| line.starts_with(&place)) {
+    if lines.iter().any(|line| line.text.starts_with(&place)) {
         return lines;
     }
-    lines.push(match stop {
+    lines.push(Line::of_image(match stop {
         Stop::Refused(_) => format!("{place}changed: GNU ld makes no image here: {stop}"),
         Stop::NotEvaluated(_) => {
             format!("{place}changed: the image was not compared with what GNU ld makes: {stop}")
         }
-    });
+    }));
     lines
 }
 
@@ -145,5 +174,24 @@ fn line(plan: &LinkPlan, span: Option<Span>, text: &str) -> String {
     match span {
         Some(span) => format!("{}: {text}", scripts.reading.source.place(span.start)),
         None => format!("{}:1: {text}", scripts.path.display()),
+    }
+}
+
+#[cfg(test)]
+mod tests {
+    use super::*;
+    use crate::adapted::NoteKind;
+
+    #[test]
+    fn a_line_is_of_the_entry_by_its_note_or_difference() {
+        let place = crate::script::parse(std::path::Path::new("t.ld"), b"x = 1;").unwrap().source.place(0);
+        let of_note = |topic| {
+            let note = Note { kind: NoteKind::Changed, topic, place: place.clone(), sentence: "ENTRY(x)".into() };
+            Line::of_note(&note).is_of_entry
+        };
+        assert!(of_note(Topic::Entry) && !of_note(Topic::Beside) && !of_note(Topic::Statement));
+        let of_difference = |kind| Line::of_difference(&Difference { kind, span: None }, "x".into()).is_of_entry;
+        assert!(of_difference(DifferenceKind::Entry { found: 1, wanted: 2 }));
+        assert!(!of_difference(DifferenceKind::Gap { section: "the entry is ".into(), offset: 0 }));
     }
 }

@@ -117,10 +117,10 @@ impl AsLd {
                 let path = words.script.display().to_string();
                 return Err(Found::Refused(vec![(path, Diagnostic::from(&error))]));
             }
-            Err(ScriptsFault::Missing(text)) => return Err(not_there(text)),
+            Err(fault @ ScriptsFault::Missing(_)) => return Err(not_there(fault.to_string())),
         };
         let loaded = plan::Inputs::load(&self.command, scripts, snapshot).map_err(|fault| match fault {
-            PlanFault::Input(InputFault::Missing(text)) => not_there(text),
+            fault @ PlanFault::Input(InputFault::Missing(_)) => not_there(fault.to_string()),
             fault => refused(fault.to_string()),
         })?;
         for path in [Some(&words.image), words.map.as_ref(), words.gdb.as_ref()].into_iter().flatten() {
@@ -216,7 +216,7 @@ impl AsLd {
                 Err(fault) => return Ok(Made::Refused(vec![fault.to_string()])),
             };
             self.agrees = verdict.agrees;
-            lines.extend(verdict.lines);
+            lines.extend(verdict.lines.into_iter().map(|line| line.text));
             lines.extend(notes_of(&self.command, plan).into_iter().map(|note| format!("ld.ldi: {note}")));
             if verdict.differs {
                 lines.push(format!("ld.ldi: {path}: {DIFFERS}"));
