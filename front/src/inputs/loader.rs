@@ -1,17 +1,17 @@
 //! Loads the inputs in their order.
 
-use super::archive::{normalized, shown, Archive, MemberIndex};
+use super::archive::{normalized, shown, Archive, BadArchive, MemberIndex};
 use super::comdat::OnceLinked;
 use super::name_states::{NameState, NameStates};
 use super::script_inputs::{ScriptInput, ScriptInputs};
 use super::undefined::UndefinedNames;
-use super::{InputFault, Loaded, Request};
+use super::{BadInput, InputFault, Loaded, MissingInput, Request};
 use crate::command::{at_sysroot, path_of, Command, Format, Input, InputFlags};
 use crate::objects::{binary_object, session_name, Binding, Home, Object, OnceKey, Origin, SectionIndex, SymbolKind};
 use crate::objects::{just_symbols, with_wraps};
 use crate::script::tree::InputFile;
 use crate::script::Reader;
-use crate::snapshot::{Bytes, ReadFault, Snapshot};
+use crate::snapshot::{Bytes, Snapshot};
 use bstr::{BStr, BString, ByteSlice};
 use indexmap::IndexMap;
 use std::collections::{HashMap, HashSet};
@@ -318,7 +318,7 @@ impl<'a> Loader<'a> {
             self.folders.iter().flat_map(|folder| names.iter().map(move |name| folder.join(path_of(name)))).collect();
         match paths.iter().find(|path| self.snapshot.is_file(path)) {
             Some(path) => self.file(path, flags),
-            None => Err(InputFault::Missing(format!("cannot find -l{}: No such file or directory", name.as_bstr()))),
+            None => Err(MissingInput::Library(BString::from(name)).into()),
         }
     }
 
@@ -331,7 +331,8 @@ impl<'a> Loader<'a> {
         if let Some(index) = self.archives.get_index_of(path) {
             return self.archive(ArchiveIndex(index), flags);
         }
-        let data = self.snapshot.read(path).map_err(|fault| cannot_read(path, &fault))?;
+        let data =
+            self.snapshot.read(path).map_err(|fault| MissingInput::File { path: shown(path).to_owned(), fault })?;
         self.files.push(path.to_owned());
         if flags.format == Format::JustSymbols {
             let object = just_symbols(&data)
@@ -355,8 +356,7 @@ impl<'a> Loader<'a> {
     /// Takes the inputs that a text names, which is then a script of INPUT and GROUP alone.
     fn text(&mut self, path: &Path, text: &[u8], flags: InputFlags) -> Result<Vec<ArchiveIndex>, InputFault> {
         let inputs = self.implicit_script(path, text).filter(|_| self.depth < MAX_DEPTH);
-        let inputs =
-            inputs.ok_or_else(|| InputFault::Bad(format!("{}: no object, no archive, and no script", shown(path))))?;
+        let inputs = inputs.ok_or_else(|| BadInput::Text(shown(path).to_owned()))?;
         if let Some(other) = inputs.other {
             let reason = format!(
                 "{}: a script in the place of an object that has {other}, and not INPUT and GROUP alone (a script is \
@@ -390,7 +390,7 @@ impl<'a> Loader<'a> {
         let before = self.before.and_then(|before| before.archives.get(path));
         let archive = match before.filter(|before| before.data().is_identical(&data)) {
             Some(before) => Arc::clone(before),
-            None => Arc::new(Archive::parse(path, data).map_err(|fault| bad(shown(path), &fault))?),
+            None => Arc::new(Archive::parse(path, data).map_err(|fault| bad(shown(path), fault))?),
         };
         let symbols: Vec<_> =
             archive.symbols().into_iter().flatten().map(|one| (one.name.clone(), one.offset)).collect();
@@ -464,10 +464,8 @@ impl<'a> Loader<'a> {
             };
             if is_needed {
                 taken.insert(*offset);
-                let member = archive.member_at(*offset).ok_or_else(|| {
-                    let reason = format!("its symbol table names no member at {offset}");
-                    InputFault::Bad(format!("{}: {reason}", shown(archive.path())))
-                })?;
+                let no_member = || BadInput::NoMember { archive: shown(archive.path()).to_owned(), offset: *offset };
+                let member = archive.member_at(*offset).ok_or_else(no_member)?;
                 let begin = self.objects.len();
                 self.member(archive, member)?;
                 self.enter();
@@ -513,7 +511,10 @@ impl<'a> Loader<'a> {
         match archive.member(index) {
             Some(member) if archive.is_thin() => {
                 let path = archive.file_of(member);
-                self.snapshot.read(&path).map_err(|fault| cannot_read_member(&path, archive, &fault))
+                self.snapshot.read(&path).map_err(|fault| {
+                    let (path, archive) = (shown(&path).to_owned(), shown(archive.path()).to_owned());
+                    MissingInput::Member { path, archive, fault }.into()
+                })
             }
             Some(member) => Ok(archive.data().slice(member.range.clone()).unwrap_or_default()),
             None => Ok(Bytes::default()),
@@ -534,9 +535,9 @@ impl<'a> Loader<'a> {
             return self.object(origin, data, &[]);
         }
         let name = origin.full_name();
-        let inner = Archive::parse(&path_of(&name), data).map_err(|fault| bad(name.as_bstr(), &fault))?;
+        let inner = Archive::parse(&path_of(&name), data).map_err(|fault| bad(name.as_bstr(), fault))?;
         if self.depth >= MAX_DEPTH {
-            return Err(InputFault::Bad(format!("{name}: archives within archives")));
+            return Err(BadInput::Nested(name).into());
         }
         self.depth += 1;
         let taken = (0..inner.members().len()).try_for_each(|number| self.member(&inner, MemberIndex(number)));
@@ -617,18 +618,6 @@ fn is_text(data: &[u8]) -> bool {
     !data.is_empty() && !data.starts_with(b"\x7fELF") && !data.starts_with(b"BC\xc0\xde")
 }
 
-fn bad(name: &BStr, fault: &super::archive::BadArchive) -> InputFault {
-    InputFault::Bad(format!("{name}: {fault}"))
-}
-
-fn cannot_read(path: &Path, fault: &ReadFault) -> InputFault {
-    let path = shown(path);
-    InputFault::Missing(match fault {
-        ReadFault::NotRegular | ReadFault::NoWriter => format!("{path}: {fault}"),
-        fault => format!("cannot find {path}: {fault}"),
-    })
-}
-
-fn cannot_read_member(path: &Path, archive: &Archive, fault: &ReadFault) -> InputFault {
-    InputFault::Missing(format!("cannot find {}, a member of {}: {fault}", shown(path), shown(archive.path())))
+fn bad(name: &BStr, fault: BadArchive) -> BadInput {
+    BadInput::Archive { name: name.to_owned(), fault }
 }

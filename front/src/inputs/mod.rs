@@ -2,6 +2,7 @@
 
 mod archive;
 mod comdat;
+mod fault;
 mod incremental;
 mod loader;
 mod name_states;
@@ -11,6 +12,7 @@ mod tests;
 mod undefined;
 
 pub use archive::{normalized, Archive, ArchiveSymbol, BadArchive, Member, MemberIndex};
+pub use fault::{BadInput, InputFault, MissingInput};
 pub use name_states::{NameState, NameStates};
 pub use script_inputs::{ScriptInput, ScriptInputs};
 
@@ -24,21 +26,6 @@ use loader::{KnownObjects, Loader};
 use std::collections::HashMap;
 use std::path::PathBuf;
 use std::sync::Arc;
-use thiserror::Error;
-
-/// Why the inputs are none of a link.
-#[derive(Clone, PartialEq, Eq, Debug, Error)]
-pub enum InputFault {
-    /// Only another linker can do this; the text says why.
-    #[error("{0}")]
-    OfOtherLinkers(String),
-    /// What is no input; the text says why.
-    #[error("{0}")]
-    Bad(String),
-    /// An input that is not there or cannot be read; the text says which.
-    #[error("{0}")]
-    Missing(String),
-}
 
 /// A request for the inputs of a link.
 #[derive(Clone, Copy)]

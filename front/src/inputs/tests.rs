@@ -4,6 +4,7 @@ use super::*;
 use crate::command::read_command;
 use crate::objects::tests::{code, object, WrittenSection, WrittenSymbol};
 use crate::script::tree::InputFile;
+use crate::snapshot::ReadFault;
 use std::fs;
 use std::path::Path;
 use std::process::Command as Program;
@@ -361,7 +362,8 @@ fn the_first_library_in_the_folders_is_taken() {
     assert_eq!(project.load(&["-Ltwo", "-Lone", "-ug", "-uf", "-lx"]), ["g.o"]);
     assert_eq!(project.load(&["-Ltwo", "-Lone", "-l:start.o"]), ["start.o"]);
     let missing = project.try_load(&["-Lone", "-lnothing"], &[]).unwrap_err();
-    assert_eq!(missing, InputFault::Missing("cannot find -lnothing: No such file or directory".into()));
+    assert!(matches!(&missing, InputFault::Missing(MissingInput::Library(name)) if name == "nothing"));
+    assert_eq!(missing.to_string(), "cannot find -lnothing: No such file or directory");
 }
 
 #[test]
@@ -393,7 +395,7 @@ fn a_text_in_the_place_of_an_object_names_inputs() {
 fn a_text_that_names_itself_ends() {
     let project = Project::new("itself");
     project.write("loop", b"INPUT(loop)");
-    assert!(matches!(project.try_load(&["loop"], &[]), Err(InputFault::Bad(_))));
+    assert!(matches!(project.try_load(&["loop"], &[]), Err(InputFault::Bad(BadInput::Text(_)))));
 }
 
 #[test]
@@ -417,7 +419,8 @@ fn what_is_no_input_is_refused() {
         assert!(matches!(project.try_load(&[name], &[]), Err(InputFault::Bad(_))), "{name}");
     }
     let missing = project.try_load(&["none.o"], &[]).unwrap_err();
-    assert!(matches!(&missing, InputFault::Missing(text) if text.starts_with("cannot find ")), "{missing}");
+    assert!(matches!(&missing, InputFault::Missing(MissingInput::File { fault: ReadFault::Missing, .. })));
+    assert!(missing.to_string().starts_with("cannot find "), "{missing}");
     fs::create_dir(project.0.join("folder")).unwrap();
     assert!(matches!(project.try_load(&["folder"], &[]), Err(InputFault::Missing(_))));
 }
@@ -555,9 +558,13 @@ fn another_target_is_another_linkers() {
     let load_with = |words: &[&str], script: &str| {
         let command = read_command(&words.iter().map(|word| BString::from(*word)).collect::<Vec<_>>()).unwrap();
         let script = [script_inputs(script)];
-        load(&request(&command, &script), &mut Snapshot::new(), None).map(|loaded| loaded.objects.len())
+        let loaded = load(&request(&command, &script), &mut Snapshot::new(), None);
+        loaded.map(|loaded| loaded.objects.len()).map_err(|fault| match fault {
+            InputFault::OfOtherLinkers(text) => text,
+            fault => panic!("{fault}"),
+        })
     };
-    let other = |text: &str| Err(InputFault::OfOtherLinkers(text.to_owned()));
+    let other = |text: &str| Err(text.to_owned());
     assert_eq!(load_with(&["-Tt"], "TARGET(elf32-i386)"), other("TARGET(elf32-i386): unsupported format"));
     let pe = "OUTPUT_FORMAT(pei-x86-64)";
     assert_eq!(load_with(&["-Tt"], pe), other("OUTPUT_FORMAT(pei-x86-64): unsupported format"));

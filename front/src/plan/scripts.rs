@@ -31,8 +31,8 @@ pub enum ScriptsFault {
     #[error("{0}")]
     NoScript(ScriptError),
     /// A script cannot be read.
-    #[error("{0}")]
-    Missing(String),
+    #[error("{}", .0.kind())]
+    Missing(ScriptError),
 }
 
 /// The scripts of a link as they were read.
@@ -139,9 +139,7 @@ fn for_each_input(script: &mut Script, act: &mut dyn FnMut(&mut InputStatement))
 
 fn fault_of(fault: ScriptError) -> ScriptsFault {
     match fault.kind() {
-        ErrorKind::MissingScript(name, reason) => {
-            ScriptsFault::Missing(format!("cannot open linker script file {name}: {reason}"))
-        }
+        ErrorKind::MissingScript(..) => ScriptsFault::Missing(fault),
         _ => ScriptsFault::NoScript(fault),
     }
 }

@@ -1,12 +1,13 @@
 //! Which symbols a command asks for.
 
 use std::collections::HashSet;
+use std::os::unix::ffi::OsStrExt;
 
 use bstr::BString;
 
 use crate::command::{self, Command};
 use crate::finish::{Strip, SymbolOptions};
-use crate::inputs::InputFault;
+use crate::inputs::{InputFault, MissingInput};
 use crate::objects::Visibility;
 use crate::snapshot::Snapshot;
 
@@ -52,8 +53,8 @@ pub(super) fn retained(command: &Command, snapshot: &mut Snapshot) -> Result<Has
         Some(path) => path,
         None => return Ok(HashSet::new()),
     };
-    let cannot = |fault| InputFault::Missing(format!("cannot find {}: {fault}", path.display()));
-    let text = snapshot.read(path).map_err(cannot)?;
+    let missing = |fault| MissingInput::File { path: path.as_os_str().as_bytes().into(), fault };
+    let text = snapshot.read(path).map_err(missing)?;
     let words = text.split(|byte| byte.is_ascii_whitespace() || *byte == 0x0B);
     Ok(words.filter(|word| !word.is_empty()).map(BString::from).collect())
 }
