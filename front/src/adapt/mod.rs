@@ -22,6 +22,17 @@ use crate::session_client::{Options, SessionClient, SessionObject, Target};
 use crate::snapshot::Bytes;
 use arguments::{AdaptArguments, USAGE};
 
+/// The statuses of the program (docs/scripts.md, 'Rewriting scripts of GNU ld').
+#[derive(Clone, Copy, PartialEq, Eq, PartialOrd, Ord, Debug)]
+enum Status {
+    /// Nothing is left or changed.
+    Good = 0,
+    /// Something is changed.
+    Changed = 1,
+    /// Something is left, or nothing is written.
+    Left = 2,
+}
+
 /// Why no script is written.
 #[derive(Debug, thiserror::Error)]
 enum AdaptFault {
@@ -44,17 +55,17 @@ pub fn main(words: &[OsString]) -> u8 {
     let environment: Environment = std::env::vars_os().collect();
     if words.iter().any(|word| word == "-h" || word == "--help") {
         print!("{USAGE}");
-        return 0;
+        return Status::Good as u8;
     }
     if words == ["--version"] {
         println!("ldi-adapt {}", own_version(&environment));
-        return 0;
+        return Status::Good as u8;
     }
     match run(words, &environment) {
-        Ok(status) => status,
+        Ok(status) => status as u8,
         Err(fault) => {
             eprint!("{fault}{}", if matches!(fault, AdaptFault::Words(_)) { "" } else { "\n" });
-            2
+            Status::Left as u8
         }
     }
 }
@@ -63,7 +74,7 @@ fn file_fault(path: &Path, error: &std::io::Error) -> AdaptFault {
     AdaptFault::File(path.display().to_string(), os_message(error))
 }
 
-fn run(words: &[OsString], environment: &Environment) -> Result<u8, AdaptFault> {
+fn run(words: &[OsString], environment: &Environment) -> Result<Status, AdaptFault> {
     let call = AdaptArguments::read(words)?;
     let objects = call.objects.as_ref().map(|paths| read_objects(paths)).transpose()?;
     let text = std::fs::read(&call.script).map_err(|error| file_fault(&call.script, &error))?;
@@ -71,13 +82,13 @@ fn run(words: &[OsString], environment: &Environment) -> Result<u8, AdaptFault> 
         let refused = refusal::of_given(&call, &text, environment);
         refused.iter().for_each(|line| eprintln!("{line}"));
         if !refused.is_empty() {
-            return Ok(2);
+            return Ok(Status::Left);
         }
     }
     let reading = match read_script(&call, text) {
         Err(AdaptFault::Script(error)) if call.is_check => {
             eprintln!("{}: changed: ldi takes it, and GNU ld refuses it: {}", error.place(), error.kind());
-            return Ok(1);
+            return Ok(Status::Changed);
         }
         read => read?,
     };
@@ -86,15 +97,15 @@ fn run(words: &[OsString], environment: &Environment) -> Result<u8, AdaptFault> 
         eprintln!("{note}");
     }
     let mut status = status_of(&result);
-    if let (Some(objects), true) = (&objects, status < 2) {
+    if let (Some(objects), true) = (&objects, status < Status::Left) {
         let lines = differences(&reading, objects, &result, evaluation, environment);
         lines.iter().for_each(|line| eprintln!("{line}"));
-        status = status.max(u8::from(!lines.is_empty()));
+        status = if lines.is_empty() { status } else { status.max(Status::Changed) };
     }
-    let refused = if status < 2 { refusal::lines(&call.script, &result, environment) } else { Vec::new() };
+    let refused = if status < Status::Left { refusal::lines(&call.script, &result, environment) } else { Vec::new() };
     for line in refused {
         eprintln!("{line}: left: the adapted script is refused there");
-        status = 2;
+        status = Status::Left;
     }
     match &call.out {
         _ if call.is_check => {}
@@ -108,14 +119,14 @@ fn run(words: &[OsString], environment: &Environment) -> Result<u8, AdaptFault> 
     Ok(status)
 }
 
-/// 0: nothing is left or changed; 1: something is changed; 2: something is left.
-fn status_of(result: &AdaptedScript) -> u8 {
-    let kinds = result.notes.iter().map(|note| match note.kind {
-        NoteKind::Left => 2,
-        NoteKind::Changed => 1,
-        NoteKind::Dropped | NoteKind::Rewritten => 0,
+/// The status by what became of the constructs.
+fn status_of(result: &AdaptedScript) -> Status {
+    let statuses = result.notes.iter().map(|note| match note.kind {
+        NoteKind::Left => Status::Left,
+        NoteKind::Changed => Status::Changed,
+        NoteKind::Dropped | NoteKind::Rewritten => Status::Good,
     });
-    kinds.max().unwrap_or(0)
+    statuses.max().unwrap_or(Status::Good)
 }
 
 fn read_objects(paths: &[PathBuf]) -> Result<Vec<Object>, AdaptFault> {

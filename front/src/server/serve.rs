@@ -25,6 +25,7 @@ use super::links::{LinkRequest, Links, Outcome};
 use super::status::{ask, State};
 use super::usage::{memory_limit, resident, work_of};
 use super::wire::{Kind, Message, Reader};
+use crate::once::Status;
 use crate::plan::Environment;
 use crate::publish::remove_left;
 use crate::report::Style;
@@ -54,7 +55,7 @@ const STACK: usize = 16 << 20;
 pub fn main(words: &[OsString]) -> u8 {
     let path = match words {
         [path] => PathBuf::from(path),
-        _ => return 2,
+        _ => return Status::Refused as u8,
     };
     let environment: Environment = std::env::vars_os().collect();
     // A server that cannot start has ended; the call that started it links by itself.
@@ -62,9 +63,9 @@ pub fn main(words: &[OsString]) -> u8 {
         Ok(mut server) => {
             server.run();
             server.end();
-            0
+            Status::Good as u8
         }
-        Err(_) => 3,
+        Err(_) => Status::Device as u8,
     }
 }
 

@@ -29,12 +29,13 @@ use std::os::unix::ffi::OsStrExt;
 
 use bstr::BString;
 
+use crate::once::Status;
 use crate::plan::{own_version, Environment};
 use arguments::{read_words, USAGE};
 use jobserver::Jobserver;
 use listing::check_files;
 use stops::Stops;
-use turns::{Status, Watch, WatchFault};
+use turns::{Watch, WatchFault};
 
 /// The program `ldi-watch`; gives its exit status.
 pub fn main(words: &[OsString]) -> u8 {
@@ -43,12 +44,12 @@ pub fn main(words: &[OsString]) -> u8 {
     if let [word] = words.as_slice() {
         if word == "-h" || word == "--help" {
             let _ = write!(std::io::stdout(), "{USAGE}");
-            return 0;
+            return Status::Good as u8;
         }
         if word == "--version" {
             let environment: Environment = std::env::vars_os().collect();
             println!("ldi-watch {}", own_version(&environment));
-            return 0;
+            return Status::Good as u8;
         }
     }
     let asked = match read_words(&words) {

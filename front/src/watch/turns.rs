@@ -24,22 +24,13 @@ use super::reporter::{Good, NoOutput, Reporter, State};
 use super::running::{Commands, StartFault};
 use super::stops::Stops;
 use super::working_folder::WorkingFolder;
+use crate::once::Status;
 use crate::publish::NotWritten;
 use crate::report::os_message;
 use crate::session_client::SessionError;
 
 /// How often a step begins anew as a file changed meanwhile, before it waits for rest.
 const MAX_ROUNDS: usize = 3;
-
-/// The exit statuses of `--once`.
-#[derive(Clone, Copy, PartialEq, Eq, Debug)]
-pub(super) enum Status {
-    Good = 0,
-    Faults = 1,
-    Refused = 2,
-    Device = 3,
-    Memory = 4,
-}
 
 /// What ends a watch.
 #[derive(Debug, thiserror::Error)]
@@ -477,10 +468,10 @@ impl<'a> Watch<'a> {
             Some(State::Refused(_)) => return Status::Refused,
             _ => {}
         }
-        match self.linking.status.and_then(|status| status.code()) {
+        let status = self.linking.status.and_then(|status| Status::of(u8::try_from(status.code()?).ok()?));
+        match status {
             _ if self.commands.has_failed() => Status::Faults,
-            Some(2) => Status::Refused,
-            Some(4) => Status::Memory,
+            Some(status @ (Status::Refused | Status::Memory)) => status,
             _ => Status::Device,
         }
     }
