@@ -115,65 +115,62 @@ impl Link<'_> {
     }
 
     fn fold_inner(&mut self, e: ExprId) -> Result<Folded, Stop> {
-        let found = match self.program.expressions.node(e) {
+        let found = match *self.program.expressions.node(e) {
             Node::Number(value) => {
-                let base = if self.counts_absolute() { Base::Absolute } else { Base::Number };
-                Folded::of(*value, base)
+                Folded::of(value, if self.counts_absolute() { Base::Absolute } else { Base::Number })
             }
             Node::Dot => self.of_address(self.dot),
-            Node::Symbol(symbol) => {
-                let symbol = *symbol;
-                self.fold_symbol(symbol, e)?
+            Node::Symbol(symbol) => self.fold_symbol(symbol, e)?,
+            Node::Binary(word, left, right) => self.fold_binary(word, left, right, e)?,
+            Node::Unary(word, inner) => self.fold_unary(word, inner)?,
+            Node::Conditional(test, yes, no) => self.fold_conditional(test, yes, no)?,
+            Node::SegmentStart(ref name, inner) => {
+                let given = self.segment_start(name);
+                self.fold_segment_start(given, inner)?
             }
-            Node::Binary(word, left, right) => {
-                let (word, left, right) = (*word, *left, *right);
-                self.fold_binary(word, left, right, e)?
-            }
-            Node::Unary(word, inner) => {
-                let (word, inner) = (*word, *inner);
-                self.fold_unary(word, inner)?
-            }
-            Node::Conditional(test, yes, no) => {
-                let (test, yes, no) = (*test, *yes, *no);
-                let source = self.source;
-                let found = self.fold_node(test)?;
-                self.source = source;
-                match (found.is_valid, found.value) {
-                    (false, _) => found,
-                    (true, 0) => self.fold_node(no)?,
-                    (true, _) => self.fold_node(yes)?,
-                }
-            }
-            Node::SegmentStart(name, inner) => {
-                let (given, inner) = (self.segment_start(name), *inner);
-                let found = self.fold_node(inner)?;
-                match found.is_valid {
-                    true => self.of_address(given.unwrap_or(found.value)),
-                    false => found,
-                }
-            }
-            Node::OfSection(query, name) => {
-                let (query, name) = (*query, *name);
-                self.fold_of_section(query, name, e)?
-            }
-            Node::OfRegion(query, name) => {
-                let (query, name) = (*query, name.clone());
+            Node::OfSection(query, name) => self.fold_of_section(query, name, e)?,
+            Node::OfRegion(query, ref name) => {
+                let name = name.clone();
                 self.fold_of_region(query, &name, e)?
             }
-            Node::Constant(name) => self.fold_constant(name, e)?,
-            Node::Defined(symbol) => Folded::number(u64::from(self.is_defined(*symbol))),
+            Node::Constant(ref name) => self.fold_constant(name, e)?,
+            Node::Defined(symbol) => Folded::number(u64::from(self.is_defined(symbol))),
             Node::Headers => self.fold_headers(),
-            Node::Assert(condition, message) => {
-                let (condition, message) = (*condition, message.clone());
-                let found = self.fold_node(condition)?;
-                if self.phase == Phase::Final && found.value == 0 && self.settings.checks_assertions {
-                    return refused(RefusedReason::Assertion(message), self.span(e));
-                }
-                found
+            Node::Assert(condition, ref message) => {
+                let message = message.clone();
+                self.fold_assert(condition, message, e)?
             }
         };
         if found.is_valid {
             self.program.expressions.keep(e, Some((found.value, found.base)));
+        }
+        Ok(found)
+    }
+
+    fn fold_conditional(&mut self, test: ExprId, yes: ExprId, no: ExprId) -> Result<Folded, Stop> {
+        let source = self.source;
+        let found = self.fold_node(test)?;
+        self.source = source;
+        match (found.is_valid, found.value) {
+            (false, _) => Ok(found),
+            (true, 0) => self.fold_node(no),
+            (true, _) => self.fold_node(yes),
+        }
+    }
+
+    /// SEGMENT_START: the address that an option gives, or that of the expression.
+    fn fold_segment_start(&mut self, given: Option<u64>, inner: ExprId) -> Result<Folded, Stop> {
+        let found = self.fold_node(inner)?;
+        Ok(match found.is_valid {
+            true => self.of_address(given.unwrap_or(found.value)),
+            false => found,
+        })
+    }
+
+    fn fold_assert(&mut self, condition: ExprId, message: Name, e: ExprId) -> Result<Folded, Stop> {
+        let found = self.fold_node(condition)?;
+        if self.phase == Phase::Final && found.value == 0 && self.settings.checks_assertions {
+            return refused(RefusedReason::Assertion(message), self.span(e));
         }
         Ok(found)
     }

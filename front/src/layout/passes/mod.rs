@@ -13,6 +13,7 @@ use super::orphans::Orphans;
 use super::program::{Output, OutputKind, Program, StepKind};
 use super::rows::Rows;
 use super::settings::Settings;
+use super::stabs::LinkedStabs;
 use super::stop::{not_evaluated, refused, NotEvaluatedReason, RefusedReason, Stop};
 use super::symbols::SymbolKind;
 use crate::objects::Object;
@@ -26,44 +27,15 @@ pub(crate) fn run(
     settings: &Settings,
     merged: &AllMerges,
 ) -> Result<Evaluation, Stop> {
-    for (name, span) in files_of(&program) {
-        if !objects.iter().any(|object| object.origin().archive.is_none() && object.origin().name == name) {
-            return not_evaluated(NotEvaluatedReason::OpensFile(name), Some(span));
-        }
-    }
+    check_files(&program, objects)?;
     let mut link = Link::new(program, rows.sections.clone(), settings);
-    let stack = link.program.names.find(b".note.GNU-stack");
-    link.headers.has_stack =
-        settings.has_stack || stack.map_or(false, |stack| link.sections.iter().any(|section| section.name == stack));
-    link.find_eh_frame_hdr(objects);
-    link.want_names();
-    link.set_regions(false)?;
-    if settings.script_first {
-        link.first_values(objects, rows)?;
-    }
-    link.read_objects(objects, rows);
-    if !settings.script_first {
-        link.first_values(objects, rows)?;
-    }
-    link.set_regions(true)?;
-    link.start_bounds();
-    link.values(Phase::Mark)?;
-    link.program.symbols.keep_first_values();
-    link.phase = Phase::First;
+    link.find_headers(objects);
+    link.read_all(objects, rows)?;
     link.place_commons(objects, rows);
     link.pass += 1;
     link.keep(rows);
     link.collect(objects, rows);
-    if !settings.starts_late {
-        link.set_addresses()?;
-    }
-    link.strip_debugging();
-    let stabs = link.link_stabs(objects);
-    link.map(rows, objects)?;
-    if settings.starts_late {
-        link.set_addresses()?;
-    }
-    link.find_linked(objects, rows);
+    let stabs = link.map_all(objects, rows)?;
     link.insert_statements()?;
     Orphans::run(&mut link)?;
     link.merge(objects, merged);
@@ -85,7 +57,59 @@ pub(crate) fn run(
     Ok(link.result())
 }
 
+/// A file that a pattern names is opened by GNU ld: it has to be an object of the link.
+fn check_files(program: &Program, objects: &[Object]) -> Result<(), Stop> {
+    let is_object =
+        |name: &Name| objects.iter().any(|object| object.origin().archive.is_none() && object.origin().name == *name);
+    match files_of(program).into_iter().find(|(name, _)| !is_object(name)) {
+        Some((name, span)) => not_evaluated(NotEvaluatedReason::OpensFile(name), Some(span)),
+        None => Ok(()),
+    }
+}
+
 impl Link<'_> {
+    /// What the program headers are to say of the stack and of the table of frames.
+    fn find_headers(&mut self, objects: &[Object]) {
+        let stack = self.program.names.find(b".note.GNU-stack");
+        let has_note = |stack| self.sections.iter().any(|section| section.name == stack);
+        self.headers.has_stack = self.settings.has_stack || stack.map_or(false, has_note);
+        self.find_eh_frame_hdr(objects);
+    }
+
+    /// The names and first values of the script, and the objects.
+    fn read_all(&mut self, objects: &[Object], rows: &Rows) -> Result<(), Stop> {
+        self.want_names();
+        self.set_regions(false)?;
+        if self.settings.script_first {
+            self.first_values(objects, rows)?;
+        }
+        self.read_objects(objects, rows);
+        if !self.settings.script_first {
+            self.first_values(objects, rows)?;
+        }
+        self.set_regions(true)?;
+        self.start_bounds();
+        self.values(Phase::Mark)?;
+        self.program.symbols.keep_first_values();
+        self.phase = Phase::First;
+        Ok(())
+    }
+
+    /// Each input section goes to the output section that takes it.
+    fn map_all(&mut self, objects: &[Object], rows: &Rows) -> Result<LinkedStabs, Stop> {
+        if !self.settings.starts_late {
+            self.set_addresses()?;
+        }
+        self.strip_debugging();
+        let stabs = self.link_stabs(objects);
+        self.map(rows, objects)?;
+        if self.settings.starts_late {
+            self.set_addresses()?;
+        }
+        self.find_linked(objects, rows);
+        Ok(stabs)
+    }
+
     /// The names that are wanted from the start are undefined (ldlang.c, `lang_place_undefineds`).
     pub fn want_names(&mut self) {
         let entry = self.settings.entry.as_ref().or(self.program.entry.as_ref());
