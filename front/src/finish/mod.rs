@@ -2,6 +2,7 @@
 //!
 //! What is loaded stays as `ldi` answered it, byte for byte; `finish` ends with a test of that.
 
+mod default_headers;
 mod digest;
 mod file_hash;
 mod file_image;
@@ -11,16 +12,16 @@ mod inserted;
 mod kept_tables;
 mod loaded;
 mod pages;
-mod program_headers;
+mod phdrs;
 mod rights;
 mod section_names;
-mod segments;
 mod symbols;
 mod unloaded;
 
 use bstr::BString;
 
 use crate::session_client::SessionImage;
+pub use default_headers::{MadeHeaders, MadeSection, MadeSegment, PT_GNU_PROPERTY};
 pub use file_hash::{hash_of, place_of_note, HashKind};
 pub use file_image::FileImage;
 pub use flat::NoFlatImage;
@@ -28,9 +29,8 @@ pub use image_headers::NotAnImage;
 pub use kept_tables::KeptTables;
 pub use loaded::Differs;
 pub use pages::TooFar;
-pub use program_headers::{NotWritten, WantedSegment};
+pub use phdrs::{NotWritten, WantedSegment};
 pub use rights::Rights;
-pub use segments::{MadeHeaders, MadeSection, MadeSegment, PT_GNU_PROPERTY};
 use symbols::OtherSections;
 pub use symbols::{LaidOut, LinkedNames, NoTable, Strip, SymbolOptions, Symbols};
 pub use unloaded::Unloaded;
@@ -228,9 +228,9 @@ fn with_segments(
     (notes, outside): (&mut Vec<FinishNote>, &mut Vec<BString>),
 ) -> Result<Option<file_image::FilePlan>, FinishError> {
     let problem = form.segments_problem.clone().map(NotWritten::Unknown);
-    match problem.map_or_else(|| program_headers::write(image, segments, form.page), Err) {
+    match problem.map_or_else(|| phdrs::write(image, segments, form.page), Err) {
         Ok(plan) => {
-            for (name, place) in program_headers::outside(image, segments)? {
+            for (name, place) in phdrs::outside(image, segments)? {
                 notes.extend((!form.left_out.contains(&place)).then(|| FinishNote::Outside(name.clone())));
                 outside.push(name);
             }
@@ -246,7 +246,7 @@ fn with_segments(
 
 /// The file with the program headers of GNU ld, else with those of `ldi`, if no headers are to be in memory.
 fn with_headers(image: &[u8], form: &Form, headers: &MadeHeaders) -> Result<Option<file_image::FilePlan>, FinishError> {
-    match segments::write(image, headers, &form.names) {
+    match default_headers::write(image, headers, &form.names) {
         Ok(plan) => Ok(Some(plan)),
         Err(NotWritten::NotAnImage(fault)) => Err(fault.into()),
         Err(fault) if headers.are_in_memory() => Err(FinishError::NoHeaders(fault)),

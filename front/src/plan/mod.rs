@@ -7,6 +7,7 @@ mod aliased_objects;
 mod build_id_note;
 mod collecting;
 mod crossrefs;
+mod default_headers;
 mod draft;
 mod eh_frame_hdr;
 mod gnu_property;
@@ -18,7 +19,6 @@ mod loaded;
 mod merged_objects;
 mod overridden;
 mod placed_commons;
-mod program_headers;
 mod programs;
 mod scripts;
 mod settings;
@@ -48,13 +48,13 @@ use crate::unloaded::{KeptStrings, Spans};
 pub use build_id_note::BuildIdNote;
 use build_id_note::NoBuildId;
 pub use crossrefs::{prohibited, Prohibited};
+pub(crate) use default_headers::is_stack_executed;
 pub use draft::PlanDraft;
 use eh_frame_hdr::EhFrameHdrs;
 use gnu_property::GnuProperty;
 use got::Got;
 use loaded::MadeLoaded;
 use merged_objects::MergedObjects;
-pub(crate) use program_headers::is_stack_executed;
 pub use programs::{find_program, is_own, others, own_version, Environment, WITHIN};
 pub use scripts::{Scripts, ScriptsFault};
 pub use settings::settings_of;
@@ -542,7 +542,7 @@ fn form_of(command: &Command, inputs: &Inputs, adapted: &AdaptedScript, evaluati
         segments: adapted.segments.clone(),
         segments_problem: adapted.segments_problem.clone(),
         headers: evaluation
-            .and_then(|evaluation| program_headers::headers_of(command, &inputs.loaded.objects, evaluation)),
+            .and_then(|evaluation| default_headers::headers_of(command, &inputs.loaded.objects, evaluation)),
         names: adapted.names.clone(),
         rights: evaluation.map_or_else(Vec::new, |evaluation| rights_of(inputs, evaluation)),
         symbols: symbols::options_of(command, &inputs.retained),

@@ -3,7 +3,7 @@
 use bstr::{BString, ByteSlice};
 use indexmap::IndexMap;
 
-use super::program_headers::says_stack;
+use super::default_headers::says_stack;
 use super::symbols::strips_debugging;
 use super::Scripts;
 use crate::command::{Command, Input, Orphans};

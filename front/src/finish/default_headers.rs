@@ -11,7 +11,7 @@ use object::elf;
 
 use super::file_image::{range, FilePlan};
 use super::image_headers::{Image, NotAnImage, Section, Segment, ELF_HEADER, PROGRAM_HEADER};
-use super::program_headers::NotWritten;
+use super::phdrs::NotWritten;
 use super::{MAX_FILE, PAGE};
 use crate::layout::segments::{is_relro, loads, HeaderPlace, InMemory, Load, Paging};
 use crate::layout::Flags;
