@@ -63,7 +63,10 @@ fn main() {
         let mut third = next.next();
         let again = load(&request, &mut third, Some(&loaded)).map(|loaded| loaded.objects.len());
         lap();
-        assert!(matches!(again, Ok(count) if count == paths.len()) && loaded.take_changed(&command, &mut third, &paths[..1]));
+        assert!(
+            matches!(again, Ok(count) if count == paths.len())
+                && loaded.take_changed(&command, &mut third, &paths[..1])
+        );
         lap();
         best.iter_mut().zip(times).for_each(|(best, time)| *best = best.min(time));
     }
