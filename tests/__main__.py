@@ -1,13 +1,15 @@
 """Runs the tests, and ends with the line `N passed, N failed`, with `, N skipped` where some were.
 
-Words name modules of this folder, as `test_gdb`, or tests in them, as `test_gdb.GdbTest`; without words all are run. A
-test that takes longer than LIMIT is ended, and has failed. The names of those that failed are printed before the last
+Words name modules of this folder, as `test_gdb`, or tests in them, as `test_gdb.GdbTest`; without words all are run.
+`--list` prints the modules with what each is for. A test that takes longer than LIMIT is ended, and has failed. The names of those that failed are printed before the last
 line.
 """
+import ast
 import os
 import signal
 import sys
 import unittest
+from pathlib import Path
 from types import FrameType
 
 LIMIT = 600
@@ -33,8 +35,20 @@ def too_long(_number: int, _frame: FrameType | None) -> None:
     raise TimeoutError(f"it takes longer than {LIMIT} s")
 
 
+def purposes() -> list[str]:
+    """A line for each module of tests: its name, and the first sentences of its text."""
+    found = []
+    for path in sorted(Path(__file__).parent.glob("test_*.py")):
+        text = ast.get_docstring(ast.parse(path.read_text(encoding="utf-8"))) or ""
+        found.append(f"{path.stem:26} {' '.join(text.split(chr(10) * 2)[0].split())}")
+    return found
+
+
 def main() -> int:
     """Runs the tests that the words name; gives the exit status."""
+    if sys.argv[1:] == ["--list"]:
+        print("\n".join(purposes()))
+        return 0
     os.environ["LDI_SERVER"] = "0"  # no `ld.ldi` leaves a server, but in the tests of it
     folder = os.path.dirname(os.path.abspath(__file__))
     loader = unittest.TestLoader()

@@ -1,6 +1,7 @@
 """The program headers of a script without PHDRS, beside GNU ld's."""
 from __future__ import annotations
 
+from tests.beside import START, BesideTest
 from tests.images import Segment, read_image
 from tests.linking import LinkTest, needs
 
@@ -94,3 +95,40 @@ class SegmentsTest(LinkTest):
         self.write("image.ld", PAGES)
         self.both("-N", "-T", "image.ld", "one.o")
         self.assertEqual([(one.kind, one.rights) for one in self.segments("own")][0], (1, 7))
+
+
+HEADS = """.section .interp,"a"
+.asciz "/lib/interpreter"
+.section .note.one,"a",@note
+.balign 4
+.long 4, 0, 1
+.asciz "one"
+.section .note.two,"a",@note
+.balign 4
+.long 4, 0, 2
+.asciz "two"
+.section .note.wide,"a",@note
+.balign 8
+.long 8, 0, 3
+.asciz "wide..."
+.section .data.rel.ro,"aw"
+.quad _start
+.data
+.quad 5
+.section .note.GNU-stack,"",@progbits
+"""
+
+
+@needs("ld.bfd")
+class ProgramHeadersTest(BesideTest):
+    """Program headers, where the headers of the file are in memory."""
+
+    def test_default_script(self) -> None:
+        """PT_PHDR, PT_INTERP, PT_NOTE, PT_GNU_STACK, PT_GNU_RELRO, as GNU ld writes them."""
+        self.compile("heads.s", START + HEADS)
+        self.compile("plain.s", START + HEADS[HEADS.index(".section .data"):])
+        self.compile("image.s", ".globl more\nmore: .long 1\n")
+        self.must("ld.bfd", "-e", "0", "image.o", "-o", "image")
+        for words in (("heads.o",), ("plain.o",), ("heads.o", "-z", "norelro"), ("heads.o", "-z", "execstack"),
+                      ("heads.o", "-z", "noseparate-code"), ("-R", "image", "heads.o"), ("plain.o", "image.o")):
+            self.assertEqual(*(image.segments for image in self.both(*words)), words)

@@ -1,4 +1,4 @@
-"""`ld.ldi`: links that another linker makes, which is never `ld.ldi` itself; long names, and NEXT in an ASSERT."""
+"""`ld.ldi`: links that another linker makes, which is never `ld.ldi` itself."""
 from __future__ import annotations
 
 import os
@@ -91,22 +91,3 @@ class FallbackTest(LinkTest):
         self.assertLessEqual(len(left), 2, "what was told in builds that have ended is removed")
         for _ in range(2):
             self.assertIn("linked by", self.ld("-r", "-o", "r.o", "a.o", env=env).stderr)
-
-
-class EndsTest(LinkTest):
-    """Names and signals."""
-
-    def test_long_name(self) -> None:
-        """A name of 252 bytes in 84 characters."""
-        self.write("t.ld", PLAIN)
-        self.compile("a.s", ".globl _start\n_start: nop\n")
-        name = "\N{CJK UNIFIED IDEOGRAPH-6F22}" * 84
-        self.links("-T", "t.ld", "-o", name, "-Map", f"{name[:-2]}.m", "a.o")
-        self.assertTrue((self.folder / name).is_file())
-
-    def test_next_in_assert(self) -> None:
-        """NEXT and BLOCK in an ASSERT are of the place where it stands."""
-        self.compile("a.s", ".globl _start\n_start: nop\n")
-        self.write("t.ld", """ENTRY(_start) SECTIONS { . = 0x1000; .text : { *(.text) } ASSERT(NEXT(16) == 0x1010, "x")
-                              ASSERT(BLOCK(16) == 0x1010, "y") /DISCARD/ : { *(*) } }""")
-        self.links("-T", "t.ld", "-o", "out", "a.o")

@@ -1,4 +1,4 @@
-"""What GNU ld merges, and `ldi` would leave as it is: the bytes are those of GNU ld, and nothing is said."""
+"""Notes of properties, equal CIEs and sections of one name, which GNU ld merges: the bytes are those of GNU ld."""
 from __future__ import annotations
 
 from tests.linking import LinkTest, needs

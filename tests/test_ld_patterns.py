@@ -1,7 +1,8 @@
-"""Names and patterns in which a comment seems to begin, beside GNU ld."""
+"""Names and patterns: in which a comment seems to begin, of many signs, long ones; beside GNU ld."""
 from __future__ import annotations
 
-from tests.linking import BesideGnu, needs
+from tests.linking import BesideGnu, LinkTest, needs
+from tests.test_ld_link import PLAIN
 
 SOURCE = ('.globl {0}\n.section .text,"ax"\n{0}: ret\n.section .data,"aw"\n.quad {0}\n'
           '.section .data.more,"aw"\n.long 5\n.section .note.GNU-stack\n')
@@ -46,3 +47,22 @@ class PatternTest(BesideGnu):
             terms = "|".join(f"(0x4000000>>{number % 20})" for number in range(count))
             with self.subTest(count):
                 self.same(f"mask = ~(({terms}) - 1); .two mask & 0x7000000 : {{ *(.data) }}")
+
+
+class NameTest(LinkTest):
+    """Names of files, and of functions of GNU ld."""
+
+    def test_long_name(self) -> None:
+        """A name of 252 bytes in 84 characters."""
+        self.write("t.ld", PLAIN)
+        self.compile("a.s", ".globl _start\n_start: nop\n")
+        name = "\N{CJK UNIFIED IDEOGRAPH-6F22}" * 84
+        self.links("-T", "t.ld", "-o", name, "-Map", f"{name[:-2]}.m", "a.o")
+        self.assertTrue((self.folder / name).is_file())
+
+    def test_next_in_assert(self) -> None:
+        """NEXT and BLOCK in an ASSERT are of the place where it stands."""
+        self.compile("a.s", ".globl _start\n_start: nop\n")
+        self.write("t.ld", """ENTRY(_start) SECTIONS { . = 0x1000; .text : { *(.text) } ASSERT(NEXT(16) == 0x1010, "x")
+                              ASSERT(BLOCK(16) == 0x1010, "y") /DISCARD/ : { *(*) } }""")
+        self.links("-T", "t.ld", "-o", "out", "a.o")

@@ -1,4 +1,4 @@
-"""Scripts that once came silently to another image: now the one that GNU ld makes, with nothing to say."""
+"""A table of scripts, each beside GNU ld: the image is GNU ld's, with nothing to say."""
 from __future__ import annotations
 
 import os

@@ -1,39 +1,10 @@
-"""Links that were other than GNU ld's, each beside GNU ld's image of the same words."""
+"""What scripts say of sections, names and the form of the file; each link beside GNU ld's image of the same words."""
 from __future__ import annotations
 
-import random
-
+from tests.beside import NONE, PLAIN, START, BesideTest
 from tests.images import EXECUTE, WRITE, Image, read_image
 from tests.programs import LDI_WATCH, OutsideTest, needs
 from tests.test_ld_kernel import HEADER
-
-START = ".globl _start\n_start: nop\n"
-PLAIN = """ENTRY(_start)
-SECTIONS { . = 0x400000; .text : { *(.text) } .rodata : { *(.rodata*) } . = ALIGN(4096); .data : { *(.data) }
-           .bss : { *(.bss) *(COMMON) } /DISCARD/ : { *(.comment) *(.note*) *(.eh_frame) } }
-"""
-NONE = {"LDI_FALLBACK": "none"}
-"""No link of these tests is another linker's, but where that is said."""
-
-
-@needs("ld.bfd")
-class BesideTest(OutsideTest):
-    """Links by both linkers."""
-
-    def both(self, *words: str) -> tuple[Image, Image]:
-        """The images of `ld.ldi`, which links by itself, and of GNU ld."""
-        self.links(*words, "-o", "own", env=NONE)
-        self.must("ld.bfd", *words, "-o", "gnu")
-        return read_image(self.read("own")), read_image(self.read("gnu"))
-
-    def same(self, *words: str) -> tuple[Image, Image]:
-        """The same, whose sections, symbols and entries are the same."""
-        own, gnu = self.both(*words)
-        self.assertEqual(own.places(), gnu.places())
-        self.assertEqual(own.symbols, gnu.symbols)
-        self.assertEqual(own.entry, gnu.entry)
-        return own, gnu
-
 
 ENTRIES = START + """ push other@GOTPCREL(%rip)
  .weak other
@@ -68,58 +39,6 @@ class HeaderTest(BesideTest):
             self.same(*words, *objects)
             headers = [self.must("readelf", "-SW", name) for name in ("own", "gnu")]
             self.assertEqual(*(HEADER.findall(text) for text in headers), words)
-
-
-class CommonTest(BesideTest):
-    """Common blocks: their order and padding."""
-
-    def blocks(self) -> list[str]:
-        """Four files, with seven common blocks in each."""
-        choice, kinds = random.Random(1), ("char", "short", "int", "long")
-        names = []
-        for file in range(4):
-            text = "".join(f"{choice.choice(kinds)} c{file}_{n}[{choice.randrange(1, 20)}];\n" for n in range(7))
-            text += "int _start(void) { return c0_0[0]; }\n" if file == 0 else ""
-            names.append(self.compile(f"f{file}.c", text, "-fcommon"))
-        return names
-
-    def test_default_script(self) -> None:
-        """Seven to a file in four files, under GNU ld's default script: nothing is said, and all is as GNU ld's."""
-        self.same(*self.blocks())
-        self.assertEqual(self.ld(*self.blocks(), "-o", "own", env=NONE).stderr, "")
-
-    def test_script(self) -> None:
-        """The same under a script of the user."""
-        self.write("t.ld", PLAIN)
-        self.same("-T", "t.ld", *self.blocks())
-
-    def test_arrays(self) -> None:
-        """Blocks of which several files have other sizes."""
-        self.write("t.ld", PLAIN)
-        names = [self.compile(f"{name}.c", text, "-fcommon") for name, text in (
-            ("a", "int com3[5], com4[4]; int _start(void) { return com3[0]; }\n"), ("b", "int com2[8], com3[4];\n"),
-            ("c", "int com2[4], com4[9];\n"))]
-        self.same("-T", "t.ld", *names)
-
-    def test_watch(self) -> None:
-        """`ldi-watch` makes the image of the same words under the default script's text."""
-        text = self.must("ld.bfd", "-static", "--verbose").split("=" * 50 + "\n")[1]
-        self.write("default.ld", text)
-        names = self.blocks()
-        self.must(LDI_WATCH, "--once", "-T", "default.ld", "-o", "own", *names, env=NONE)
-        self.must("ld.bfd", "-T", "default.ld", "-o", "gnu", *names)
-        self.assertEqual(read_image(self.read("own")).places(), read_image(self.read("gnu")).places())
-
-    def test_a_build_goes_on(self) -> None:
-        """None of them ends a build, or leaves a worse image than GNU ld's, also by a later call."""
-        self.write("t.ld", PLAIN)
-        blocks = self.blocks()
-        for words in (("-T", "t.ld"), ()):
-            self.must("ld.bfd", *words, "-o", "gnu", *blocks)
-            for links in (self.links, self.serves, self.serves):
-                done = links(*words, "-o", "own", *blocks)
-                self.assertLessEqual(len(done.stderr.splitlines()), 1 + done.stderr.count("warning: "), done.stderr)
-                self.assertEqual(read_image(self.read("own")).symbols, read_image(self.read("gnu")).symbols)
 
 
 class ScriptTest(BesideTest):
@@ -218,95 +137,6 @@ class ScriptTest(BesideTest):
             for env in (NONE, {}):
                 self.assertNotEqual(self.ld("-T", "bad.ld", "b.o", "-o", "bad", env=env).returncode, 0)
                 self.assertFalse((self.folder / "bad").exists())
-
-
-HEADS = """.section .interp,"a"
-.asciz "/lib/interpreter"
-.section .note.one,"a",@note
-.balign 4
-.long 4, 0, 1
-.asciz "one"
-.section .note.two,"a",@note
-.balign 4
-.long 4, 0, 2
-.asciz "two"
-.section .note.wide,"a",@note
-.balign 8
-.long 8, 0, 3
-.asciz "wide..."
-.section .data.rel.ro,"aw"
-.quad _start
-.data
-.quad 5
-.section .note.GNU-stack,"",@progbits
-"""
-
-
-@needs("ld.bfd")
-class ProgramHeadersTest(BesideTest):
-    """Program headers, where the headers of the file are in memory."""
-
-    def test_default_script(self) -> None:
-        """PT_PHDR, PT_INTERP, PT_NOTE, PT_GNU_STACK, PT_GNU_RELRO, as GNU ld writes them."""
-        self.compile("heads.s", START + HEADS)
-        self.compile("plain.s", START + HEADS[HEADS.index(".section .data"):])
-        self.compile("image.s", ".globl more\nmore: .long 1\n")
-        self.must("ld.bfd", "-e", "0", "image.o", "-o", "image")
-        for words in (("heads.o",), ("plain.o",), ("heads.o", "-z", "norelro"), ("heads.o", "-z", "execstack"),
-                      ("heads.o", "-z", "noseparate-code"), ("-R", "image", "heads.o"), ("plain.o", "image.o")):
-            self.assertEqual(*(image.segments for image in self.both(*words)), words)
-
-
-@needs("ld.bfd")
-class CrossReferenceTest(OutsideTest):
-    """NOCROSSREFS and NOCROSSREFS_TO."""
-
-    def setUp(self) -> None:
-        """Code that calls a function of `.init.text`, which names a local symbol of `.data`."""
-        super().setUp()
-        self.compile("a.s", ".globl _start, v\n_start: call first\n call first\n.data\nv: .quad 1\nown: .quad 2\n")
-        self.compile("b.s", '.section .init.text, "ax"\n.globl first\nfirst: mov near, %eax\n ret\n'
-                            '.data\nnear: .quad 1\n')
-
-    def tried(self, line: str, *words: str) -> tuple[int, str]:
-        """The status of a link under a script with this line, which is 0 exactly if GNU ld's is, and what is said."""
-        self.write("t.ld", f"""{line}
-            SECTIONS {{ . = 0x1000; .text : {{ *(.text) }} .init.text : {{ *(.init.text) }}
-            .data : {{ *(.data) here = .; }} /DISCARD/ : {{ *(.note*) }} }}""")
-        done = self.ld("-e", "_start", *words, "-T", "t.ld", "a.o", "b.o", "-o", "own", env=NONE)
-        gnu = self.run_program("ld.bfd", "-e", "_start", *words, "-T", "t.ld", "a.o", "b.o", "-o", "gnu")
-        self.assertEqual(done.returncode == 0, gnu.returncode == 0, (line, done.stderr, gnu.stderr))
-        return done.returncode, done.stderr
-
-    def test_prohibited(self) -> None:
-        """References by global and by local symbols; which sections a list is of."""
-        for line, status in (("NOCROSSREFS(.text .init.text)", 1), ("NOCROSSREFS(.init.text .data)", 1),
-                             ("NOCROSSREFS(.text .data)", 0), ("NOCROSSREFS_TO(.init.text .text)", 1),
-                             ("NOCROSSREFS_TO(.text .init.text)", 0), ("NOCROSSREFS_TO(.data .text .init.text)", 1),
-                             ("NOCROSSREFS(.text .none)", 0), ("", 0)):
-            for words in ((), ("--gc-sections",)):
-                with self.subTest(line=line, words=words):
-                    self.assertEqual(self.tried(line, *words)[0], status)
-
-    def test_message(self) -> None:
-        """Each relocation is said, with its place, the symbol and both sections; no image is written."""
-        _, said = self.tried("NOCROSSREFS(.text .init.text)")
-        lines = [line for line in said.splitlines() if "prohibited cross reference" in line]
-        self.assertEqual(len(lines), 2, said)
-        for line, place in zip(lines, ("a.o: (.text+0x1)", "a.o: (.text+0x6)")):
-            for part in (place, "first", ".init.text"):
-                self.assertIn(part, line)
-        self.assertFalse((self.folder / "own").exists())
-
-    def test_with_a_server(self) -> None:
-        """A reference that comes with an edit which changes no size is found by a later call."""
-        self.write("t.ld", f"NOCROSSREFS(.text .data)\n{PLAIN}")
-        self.compile("a.s", START + " .long 4\n.data\n.globl v\nv: .quad 1\n")
-        self.serves("-T", "t.ld", "a.o", "-o", "own", env=NONE)
-        before = self.read("own")
-        self.compile("a.s", START + " .long v\n.data\n.globl v\nv: .quad 1\n")
-        self.assertEqual(self.serve("-T", "t.ld", "a.o", "-o", "own", env=NONE).returncode, 1)
-        self.assertEqual(self.read("own"), before)
 
 
 @needs("ld.bfd")
