@@ -4,8 +4,8 @@ test says that it needs.
 `programs.py` has the programs that they run: those that `tools/build-front` and `make ldi` built, or others that
 LD_LDI, LDI_WATCH, LDI_ADAPT, LDI_GDB and LDI name.
 
-`tools/test-client --list` prints what each module is for. A new test goes into the module of its subject, or into one of
-its own, and takes the base class that fits:
+`tools/test-client --list` prints what each module is for. A new test goes into the module of its subject, or into
+one of its own, and takes the base class that fits:
 
 - `programs.OutsideTest`: a folder, any of the programs, no server but by `serve`; `ProjectTest` has two
   objects and a script in it. `beside.BesideTest` compares small links with GNU ld's.

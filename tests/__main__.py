@@ -1,8 +1,8 @@
 """Runs the tests, and ends with the line `N passed, N failed`, with `, N skipped` where some were.
 
 Words name modules of this folder, as `test_gdb`, or tests in them, as `test_gdb.GdbTest`; without words all are run.
-`--list` prints the modules with what each is for. A test that takes longer than LIMIT is ended, and has failed. The names of those that failed are printed before the last
-line.
+`--list` prints the modules with what each is for. A test that takes longer than LIMIT is ended, and has
+failed. The names of those that failed are printed before the last line.
 """
 import ast
 import os

@@ -212,9 +212,11 @@ class UnloadedTest(OutsideTest):
     def test_comment_and_others(self) -> None:
         """`.comment` of several compilers is merged; sections without ALLOC and strings of all kinds; `(INFO)`."""
         text = """ .globl _start\n_start: ret\n .section .comment,"MS",@progbits,1\n .string "x y"\n .string "y"
- .string ""\n .section .own,"",@progbits\n .quad _start, 5\n .long .Lhere\n .Lhere: .byte 1\n .section .strings,"MS",@progbits,1
+ .string ""\n .section .own,"",@progbits\n .quad _start, 5\n .long .Lhere\n .Lhere: .byte 1
+ .section .strings,"MS",@progbits,1
  .string "abc"\n .string "bc"\n .byte 0,0\n .string "c"
- .section .refers,""\n .long .strings + 4, .strings + 5, .strings\n .long .strings + 9\n .section .info,"a"\n .quad _start\n .byte 7\n"""
+ .section .refers,""\n .long .strings + 4, .strings + 5, .strings\n .long .strings + 9
+ .section .info,"a"\n .quad _start\n .byte 7\n"""
         words = [self.compile("a.s", text),
                  self.compile("b.s", text.replace("_start", "other").replace("x y", "z x y"))]
         for script in (SCRIPT.replace("*(.note*)", "*(.note*) *(.info)"), TYPES):
@@ -241,7 +243,8 @@ class UnloadedTest(OutsideTest):
     def test_loaded_strings(self) -> None:
         """References to strings that are loaded and merged, by sections and by symbols."""
         text = """ .globl NAME\nNAME: mov $.Ltext, %edi\n ret
- .section .rodata.str1.1,"aMS",@progbits,1\n .string "FIRST"\n .Ltext: .string "bc"\n local: .string "SECOND"\n .section .own,"",@progbits\n .quad .rodata.str1.1 + 6, local, .Ltext
+ .section .rodata.str1.1,"aMS",@progbits,1\n .string "FIRST"\n .Ltext: .string "bc"
+ local: .string "SECOND"\n .section .own,"",@progbits\n .quad .rodata.str1.1 + 6, local, .Ltext
  .quad .rodata.str1.1, local + 1\n"""
         names = [self.compile(f"{name}.s", text.replace("NAME", name).replace("FIRST", first).replace("SECOND", second))
                  for name, first, second in (("_start", "abc", "x"), ("other", "dabc", "abc"), ("third", "x", "x"))]
