@@ -3,19 +3,24 @@
 //! A call that a server makes reads its words no further: they are read only if one of them may name an option that is
 //! looked at here.
 
-use std::ffi::OsString;
+use std::ffi::{OsStr, OsString};
+use std::fs;
 use std::os::unix::ffi::OsStrExt;
-use std::path::PathBuf;
+use std::path::{Path, PathBuf};
 
 use bstr::{BString, ByteSlice};
 
 use super::links::are_lasting_words;
 use crate::command::{expand_words, read_command, Command, ServerRequest};
+use crate::snapshot::is_by_process;
 
 /// The options that a call looks at, without their dashes.
 const OPTIONS: [&str; 4] = ["no-server", "server-status", "server-stop", "verbose"];
 /// The bytes of these that a name has at least.
 const MIN_LENGTH: usize = 2;
+/// What the text of a response file has if one of its words may name an option: how these begin, what may stand in them
+/// besides, or another file.
+const MARKS: [&str; 7] = ["-no", "-se", "-ve", "@", "\\", "'", "\""];
 
 /// What is wished of servers.
 #[derive(Clone, PartialEq, Eq, Debug, Default)]
@@ -34,19 +39,17 @@ impl Wishes {
     /// The wishes of some words.
     pub(super) fn of(words: &[OsString]) -> Wishes {
         let own: Vec<&[u8]> = words.iter().map(|word| word.as_bytes()).collect();
-        let has_files = own.iter().any(|word| word.starts_with(b"@"));
-        // A file that can be read once is left to the process that links; no server does.
-        if !has_files || !are_lasting_words(words) {
-            return Wishes::of_expanded(&own);
-        }
-        Wishes::of_expanded(&expand_words(own).words)
-    }
-
-    fn of_expanded<W: AsRef<[u8]>>(words: &[W]) -> Wishes {
-        if !words.iter().any(|word| may_be_looked_at(word.as_ref())) {
+        if !own.iter().any(|word| may_be_looked_at(word) || has_marks(word)) {
             return Wishes::default();
         }
-        let words: Vec<BString> = words.iter().map(|word| BString::from(word.as_ref())).collect();
+        // A file that can be read once is left to the process that links; no server does.
+        let words: Vec<BString> = match are_lasting_words(words) {
+            true => expand_words(own).words,
+            false => own.into_iter().map(BString::from).collect(),
+        };
+        if !words.iter().any(|word| may_be_looked_at(word)) {
+            return Wishes::default();
+        }
         let without_server = || Wishes { is_without_server: true, ..Wishes::default() };
         read_command(&words).map_or_else(|_| without_server(), Wishes::of_command)
     }
@@ -59,6 +62,17 @@ impl Wishes {
             is_verbose: command.is_verbose,
         }
     }
+}
+
+/// Whether a word is that of a response file in which a word may name one of the options.
+fn has_marks(word: &[u8]) -> bool {
+    let path = match word.strip_prefix(b"@") {
+        Some(name) => Path::new(OsStr::from_bytes(name)),
+        None => return false,
+    };
+    let is_regular = !is_by_process(path) && fs::metadata(path).map_or(false, |found| found.is_file());
+    let text = if is_regular { fs::read(path).unwrap_or_default() } else { Vec::new() };
+    MARKS.iter().any(|mark| text.contains_str(mark))
 }
 
 /// Whether a word may name one of the options, whole or shortened.
@@ -108,10 +122,13 @@ mod tests {
     fn words_of_files_are_looked_at() {
         let path = std::env::temp_dir().join(format!("ldi-front-wishes-{}", std::process::id()));
         let word = format!("@{}", path.display());
-        for (text, is_without) in [("a.o --no-'server'", true), ("a.o\n-o\nimage", false)] {
+        for (text, is_without) in
+            [("a.o --no-'server'", true), ("-no-server", true), ("--n\\o-server", true), ("a.o\n-o\nimage", false)]
+        {
             std::fs::write(&path, text).unwrap();
             assert_eq!(wishes(&word).is_without_server, is_without, "{text}");
         }
+        assert_eq!(wishes(&format!("--server-stop {word}")).output, Some("image".into()));
         std::fs::remove_file(path).unwrap();
     }
 
@@ -127,6 +144,10 @@ mod tests {
         assert_eq!(names, OPTIONS);
         for word in ["--no-server", "-no-server", "--serv", "--ver", "--verbose=1"] {
             assert!(may_be_looked_at(word.as_bytes()), "{word}");
+        }
+        for option in OPTIONS {
+            let start = option.get(..MIN_LENGTH).unwrap();
+            assert!(MARKS.contains(&format!("-{start}").as_str()), "{option}");
         }
         for word in ["-n", "-v", "--no-servers", "--no-relax", "no-server", "-", "--", "-s", "--gc-sections"] {
             assert!(!may_be_looked_at(word.as_bytes()), "{word}");
