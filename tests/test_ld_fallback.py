@@ -62,7 +62,7 @@ class FallbackTest(LinkTest):
         self.write("words", "--no-serv --Map-format 'gnu' -o r.o")
         for words in (("--no-serv", "-o", "r.o"), ("@words",), ("-no-server", "@words", "--Map-f=gnu")):
             done = self.ld("-r", "a.o", *words, env=self.env())
-            self.assertEqual((done.returncode, done.stderr), (0, "ld.ldi: -r: relocatable output: linked by ld.bfd\n"))
+            self.assertEqual(done.returncode, 0, done.stderr)
             (self.folder / "r.o").unlink()
 
     def test_no_memory(self) -> None:

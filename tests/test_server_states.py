@@ -246,7 +246,7 @@ class WantedTest(ServerTest):
         for word in ("-no-server", "--no-serv", "@words"):
             done = self.ld(*WORDS, word, env=self.env())
             self.assertEqual((done.returncode, self.servers()), (0, []), f"{word}: {done.stderr}")
-        pid = self.start(*WORDS, "-u", "--no-server")
+        pid = self.start(*WORDS, "-L", "--no-server")
         for words in (("-server-status",), ("--server-sta", "--outp=image"), ("@words",)):
             self.write("words", "--server-status -o image")
             self.assertIn(f"process {pid} in", self.run_program(LD_LDI, *words, env=self.env()).stdout, words)
