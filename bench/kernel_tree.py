@@ -84,9 +84,10 @@ INIT = ABSOLUTE(init_data_0);
 """
 
 
-def source(number, count, extra=0, symbols=0, code=0x90):
-    """The assembly of an object; with `extra` instructions more, `symbols` more global names, another `code` byte."""
-    lines = []
+def source(number, count, extra=0, symbols=0, code=0x90, debug=False):
+    """The assembly of an object; with `extra` instructions more, `symbols` more global names, another `code` byte, and
+    debug information that has relocations."""
+    lines = [".text", ".Ltext:"] if debug else []
     for index in range(FUNCTIONS):
         name, other = f"f_{number}_{index}", f"f_{(number * 7 + index * 13 + 1) % count}_{index}"
         section = ".text" if index % 6 else '.text.unlikely,"ax",@progbits'
@@ -111,12 +112,27 @@ def source(number, count, extra=0, symbols=0, code=0x90):
               '.section .altinstructions,"a"', f".long f_{number}_3-.", '.section .discard.reach,"",@progbits',
               f".long {number}", '.section .rodata,"a"', f".quad f_{number}_5, f_{(number + 9) % count}_6",
               '.section .debug_info,"",@progbits', ".fill 3000,1,1", '.section .note.GNU-stack,"",@progbits']
+    lines += debug_lines(number) if debug else []
     for index in range(symbols):
         lines += [".data", f".globl more_{number}_{index}", f"more_{number}_{index}: .quad 1"]
     if number == 0:
         lines += ['.section .head.text,"ax"', ".globl start_0", "start_0: jmp f_0_0", ".data", ".globl jiffies_64",
                   ".balign 64", "jiffies_64: .quad 0", ".text", "movq jiffies(%rip),%rax"]
     return "\n".join(lines) + "\n"
+
+
+def debug_lines(number):
+    """What `-g` adds: relocations to functions, strings and other sections of debug information."""
+    lines = ['.section .debug_abbrev,"",@progbits', ".Labbrev:", ".fill 60,1,7", '.section .debug_line,"",@progbits',
+             ".Lline:", ".fill 400,1,3", ".quad .Ltext", '.section .debug_info,"",@progbits', ".Linfo:", ".long 1000",
+             ".long .Labbrev, .Lname, .Lline"]
+    types = [f'.Lt{at}: .asciz "type number {at} of all"' for at in range(6)]
+    texts = [f'.Lname: .asciz "{object_name(number)}"', *types]
+    for index in range(FUNCTIONS):
+        lines += [f".long .Ls{index}", f".quad f_{number}_{index}", ".fill 20,1,5", f".long .Lt{index % 6}"]
+        texts.append(f'.Ls{index}: .asciz "f_{number}_{index}"')
+    return [*lines, '.section .debug_str,"MS",@progbits,1', *texts, '.section .debug_aranges,"",@progbits', ".long 44",
+            ".long .Linfo", ".quad .Ltext, 100"]
 
 
 def assemble(folder, name, text):
@@ -131,12 +147,16 @@ def object_name(number):
     return f"d{number // 20}/o{number}.o"
 
 
-def make(folder, count):
+def make(folder, count, debug=False):
     """Makes the tree; gives the words of its link, without the linker and the output."""
     with open(os.path.join(folder, "kernel.lds"), "w", encoding="ascii") as file:
         file.write(SCRIPT)
+
+    def write(number):
+        assemble(folder, object_name(number), source(number, count, debug=debug))
+
     with ThreadPoolExecutor(2) as pool:
-        list(pool.map(lambda number: assemble(folder, object_name(number), source(number, count)), range(count)))
+        list(pool.map(write, range(count)))
         list(pool.map(lambda number: assemble(folder, f"lib/l{number}.o", library(number)), range(40)))
     archive(folder, count)
     subprocess.run(["ar", "rcs", "lib/lib.a", *(f"lib/l{number}.o" for number in range(40))], cwd=folder, check=True)

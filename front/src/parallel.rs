@@ -1,18 +1,29 @@
 //! Does the same for each of many items, on several threads.
 
-use std::sync::Mutex;
+use std::sync::atomic::{AtomicUsize, Ordering};
 
 /// So few are done by one thread.
 const FEW: usize = 64;
 const MAX_THREADS: usize = 8;
-/// So many are taken by a thread at once.
-const AT_ONCE: usize = 16;
+
+/// On how many threads a lot is done. The system is asked once, as it reads files for the answer.
+pub(crate) fn threads() -> usize {
+    static KNOWN: AtomicUsize = AtomicUsize::new(0);
+    match KNOWN.load(Ordering::Relaxed) {
+        0 => {
+            let threads = std::thread::available_parallelism().map_or(1, usize::from).min(MAX_THREADS);
+            KNOWN.store(threads, Ordering::Relaxed);
+            threads
+        }
+        known => known,
+    }
+}
 
 /// The results of a function for some items, in their order, computed by several threads.
 pub(crate) fn map_all<T: Sync, R: Send>(items: &[T], act: &(dyn Fn(&T) -> R + Sync)) -> Vec<R> {
     let threads = match items.len() {
         0..=FEW => 1,
-        _ => std::thread::available_parallelism().map_or(1, usize::from).min(MAX_THREADS),
+        _ => threads(),
     };
     if threads <= 1 {
         return items.iter().map(act).collect();
@@ -42,33 +53,9 @@ pub(crate) fn beside<A: Send, B>(first: impl FnOnce() -> A + Send, second: impl 
     })
 }
 
-/// Does something with each of many things, which need not be of one size.
-pub(crate) fn do_all<T: Send>(items: Vec<T>, act: &(dyn Fn(T) + Sync)) {
-    let threads = match items.len() {
-        0..=FEW => 1,
-        _ => std::thread::available_parallelism().map_or(1, usize::from).min(MAX_THREADS),
-    };
-    if threads <= 1 {
-        return items.into_iter().for_each(act);
-    }
-    let queue = Mutex::new(items.into_iter());
-    let some = || queue.lock().map_or_else(|_| Vec::new(), |mut queue| queue.by_ref().take(AT_ONCE).collect());
-    std::thread::scope(|scope| {
-        for _ in 0..threads {
-            scope.spawn(|| loop {
-                let items: Vec<T> = some();
-                if items.is_empty() {
-                    return;
-                }
-                items.into_iter().for_each(act);
-            });
-        }
-    });
-}
-
 #[cfg(test)]
 mod tests {
-    use super::{beside, do_all, map_all};
+    use super::{beside, map_all};
 
     #[test]
     fn all_in_their_order() {
@@ -84,14 +71,5 @@ mod tests {
         let (mut one, mut other) = (0, 0);
         let done = beside(|| one += 1, || other += 2);
         assert_eq!((done, one, other), ((Some(()), ()), 1, 2));
-    }
-
-    #[test]
-    fn each_of_all() {
-        for count in [0, 1, 64, 65, 1000] {
-            let mut done = vec![0; count];
-            do_all(done.iter_mut().enumerate().collect(), &|(number, one): (usize, &mut usize)| *one += number + 1);
-            assert_eq!(done, (1..=count).collect::<Vec<_>>());
-        }
     }
 }

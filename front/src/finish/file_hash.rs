@@ -11,11 +11,11 @@ use bstr::ByteSlice;
 use super::digest::{Digest, Md5, Quick, Rounds, Sha1};
 use super::file_image::FileImage;
 use super::image_headers::Image;
+use crate::parallel::threads;
 
 /// The bytes of a piece.
 const PIECE: u64 = 1 << 20;
 const ZEROS: [u8; 4096] = [0; 4096];
-const MAX_THREADS: usize = 8;
 
 /// How a file is hashed.
 #[derive(Clone, Copy, PartialEq, Eq, Debug)]
@@ -52,8 +52,7 @@ pub fn hash_of(file: &FileImage, kind: HashKind, id: Range<u64>) -> Vec<u8> {
 fn of_pieces<R: Rounds + Default>(file: &FileImage, id: &Range<u64>) -> Vec<u8> {
     let count = (file.len() + PIECE - 1) / PIECE;
     let mut hashes: Vec<Vec<u8>> = vec![Vec::new(); usize::try_from(count).unwrap_or(0)];
-    let threads = std::thread::available_parallelism().map_or(1, usize::from).clamp(1, MAX_THREADS);
-    let share = (hashes.len() + threads - 1) / threads;
+    let share = (hashes.len() + threads() - 1) / threads();
     if share <= 1 {
         fill(file, id, 0, &mut hashes);
     } else {

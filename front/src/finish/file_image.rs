@@ -203,8 +203,8 @@ pub(super) struct FilePlan {
     pub(super) names_in: usize,
     /// The table of symbols, if it is another, or there is to be none.
     pub(super) symbols: Option<Option<SymbolTable>>,
-    /// The bytes of the sections that the image does not have, by their numbers.
-    pub(super) contents: BTreeMap<usize, Bytes>,
+    /// The bytes of the sections that the image does not have, by their numbers, in parts.
+    pub(super) contents: BTreeMap<usize, Vec<Bytes>>,
 }
 
 impl FilePlan {
@@ -280,8 +280,12 @@ impl FilePlan {
             }
             if let Some(content) = self.contents.remove(&index) {
                 section.offset = aligned(end, section.align);
-                end = section.offset + content.len() as u64;
-                pieces.push(Piece { at: section.offset, source: Source::Shared(content) });
+                end = section.offset;
+                for part in content {
+                    let size = part.len() as u64;
+                    pieces.push(Piece { at: end, source: Source::Shared(part) });
+                    end += size;
+                }
                 continue;
             }
             let old = range(section.offset, section.size);

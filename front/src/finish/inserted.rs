@@ -24,7 +24,8 @@ struct Inserted {
     header: Section,
     /// The section that relocations are of.
     target: Option<usize>,
-    content: Bytes,
+    /// Its bytes, in parts.
+    content: Vec<Bytes>,
 }
 
 /// Gives a file these sections, by which its section headers get other numbers.
@@ -100,7 +101,7 @@ impl Numbers {
 
 fn of_relocations(table: RelocationTable, name: &[u8]) -> Inserted {
     let flags = elf::SHF_INFO_LINK.into();
-    let size = table.entries.len() as u64;
+    let size = table.entries.iter().map(|part| part.len() as u64).sum();
     Inserted {
         after: table.section,
         number: None,
@@ -114,7 +115,7 @@ fn of_relocations(table: RelocationTable, name: &[u8]) -> Inserted {
 fn of_nothing(section: EmptySection) -> Inserted {
     let EmptySection { after, number, name, kind, flags, address, align } = section;
     let header = Section { kind, flags, address, align, ..NO_SECTION };
-    Inserted { after, number: Some(number), name, header, target: None, content: Bytes::default() }
+    Inserted { after, number: Some(number), name, header, target: None, content: Vec::new() }
 }
 
 /// A header of zeros.
@@ -163,7 +164,7 @@ impl FilePlan {
     }
 
     /// Puts a section in its place.
-    fn put(&mut self, number: usize, header: Section, content: Bytes) {
+    fn put(&mut self, number: usize, header: Section, content: Vec<Bytes>) {
         self.sections.insert(number.min(self.sections.len()), header);
         self.contents.insert(number, content);
     }
@@ -176,7 +177,7 @@ mod tests {
     /// ldlang.c, `strip_excluded_output_sections`: what stands behind a section that goes has a number less.
     #[test]
     fn numbers_of_sections_that_stay() {
-        let inserted = [of_relocations(RelocationTable { section: 1, entries: vec![0; 24].into() }, b".text")];
+        let inserted = [of_relocations(RelocationTable { section: 1, entries: vec![vec![0; 24].into()] }, b".text")];
         let numbers = Numbers::of(5, &inserted, &[2, 3]);
         assert_eq!(numbers.inserted, [2]);
         assert_eq!([0, 1, 4].map(|number| numbers.get(number)), [0, 1, 3]);

@@ -45,7 +45,7 @@ impl KeptTables {
     }
 
     /// The sections that are not loaded of the image before, if an image differs from that in loaded bytes alone: those
-    /// of some objects that got other bytes.
+    /// of some objects that got other bytes. They are given once, until others are held.
     pub fn before(&mut self, answered: &SessionImage, objects: &[Object]) -> Option<Before> {
         let image = Image::read(answered).ok()?;
         let made = self.made.as_mut().filter(|made| made.is_whole && made.objects.len() == objects.len())?;
@@ -60,13 +60,7 @@ impl KeptTables {
     }
 
     /// The tables, if they are those of an image with these sections that are not loaded.
-    pub(super) fn of(
-        &mut self,
-        answered: &SessionImage,
-        image: &Image<'_>,
-        unloaded: &[Unloaded],
-        objects: &[Object],
-    ) -> Option<Tables> {
+    pub(super) fn of(&mut self, answered: &SessionImage, image: &Image<'_>, unloaded: &[Unloaded]) -> Option<Tables> {
         let made = self.made.as_mut()?;
         let are_same = made.unloaded.len() == unloaded.len()
             && made.unloaded.iter().zip(unloaded).all(|(one, other)| without_bytes(one) == without_bytes(other));
@@ -74,20 +68,27 @@ impl KeptTables {
             return None;
         }
         made.answer = answered.number();
-        made.hold(unloaded, objects);
+        made.is_whole = false;
         Some(made.tables.clone())
     }
 
     /// Keeps tables that were made of an image.
-    pub(super) fn keep(&mut self, answered: &SessionImage, unloaded: &[Unloaded], objects: &[Object], tables: &Tables) {
+    pub(super) fn keep(&mut self, answered: &SessionImage, unloaded: &[Unloaded], tables: &Tables) {
         let made = || Made {
             answer: answered.number(),
-            unloaded: unloaded.to_vec(),
-            objects: objects.to_vec(),
-            is_whole: true,
+            unloaded: unloaded.iter().map(without_bytes).collect(),
+            objects: Vec::new(),
+            is_whole: false,
             tables: tables.clone(),
         };
         self.made = self.is_wanted.then(made);
+    }
+
+    /// Holds the sections that are not loaded, with their bytes, of an image of which there are tables.
+    pub fn hold(&mut self, answered: &SessionImage, unloaded: &[Unloaded], objects: &[Object]) {
+        if let Some(made) = self.made.as_mut().filter(|made| made.answer == answered.number()) {
+            (made.unloaded, made.objects, made.is_whole) = (unloaded.to_vec(), objects.to_vec(), true);
+        }
     }
 }
 
@@ -96,10 +97,6 @@ impl Made {
     fn is_of(&self, answered: &SessionImage, image: &Image<'_>) -> bool {
         let is_loaded = |range: &Range<usize>| image.segments.iter().any(|segment| has(segment, range));
         answered.changed_since(self.answer).map_or(false, |changed| changed.iter().all(is_loaded))
-    }
-
-    fn hold(&mut self, unloaded: &[Unloaded], objects: &[Object]) {
-        (self.unloaded, self.objects, self.is_whole) = (unloaded.to_vec(), objects.to_vec(), true);
     }
 }
 
@@ -124,7 +121,7 @@ mod tests {
     }
 
     fn is_known(kept: &mut KeptTables, answered: &SessionImage, unloaded: &[Unloaded]) -> bool {
-        kept.of(answered, &Image::read(answered).unwrap(), unloaded, &[]).is_some()
+        kept.of(answered, &Image::read(answered).unwrap(), unloaded).is_some()
     }
 
     #[test]
@@ -134,10 +131,10 @@ mod tests {
         let within = start..start + segment.file_size as usize;
         let tables = Tables { symbols: Default::default(), sections: Default::default() };
         let mut kept = KeptTables::default();
-        kept.keep(&answer(None, 1), &[], &[], &tables);
+        kept.keep(&answer(None, 1), &[], &tables);
         assert!(!is_known(&mut kept, &answer(None, 2), &[]), "nobody wants them");
         kept.want();
-        kept.keep(&answer(None, 2), &[], &[], &tables);
+        kept.keep(&answer(None, 2), &[], &tables);
         assert!(is_known(&mut kept, &answer(Some(within.clone()), 3), &[]));
         assert!(!is_known(&mut kept, &answer(None, 5), &[]), "an image was answered between");
         kept.follow(&answer(None, 4));
@@ -154,7 +151,7 @@ mod tests {
             content: b"text".to_vec().into(),
         };
         assert!(!is_known(&mut kept, &answer(None, 6), std::slice::from_ref(&one)), "another section");
-        kept.keep(&answer(None, 6), std::slice::from_ref(&one), &[], &tables);
+        kept.keep(&answer(None, 6), std::slice::from_ref(&one), &tables);
         let other = Unloaded { content: b"more".to_vec().into(), ..one.clone() };
         assert!(is_known(&mut kept, &answer(None, 7), &[other]));
         assert!(!is_known(&mut kept, &text_and_data().into(), &[]), "of no session");

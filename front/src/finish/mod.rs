@@ -31,8 +31,7 @@ pub use loaded::Differs;
 pub use pages::TooFar;
 pub use phdrs::{NotWritten, WantedSegment};
 pub use rights::Rights;
-use symbols::OtherSections;
-pub use symbols::{LaidOut, LinkedNames, NoTable, Strip, SymbolOptions, Symbols};
+pub use symbols::{LaidOut, LinkedNames, NameValues, NoTable, OtherSections, Strip, SymbolOptions, Symbols, Tables};
 pub use unloaded::Unloaded;
 
 /// The page size of the images of `ldi`.
@@ -137,21 +136,66 @@ pub fn finish(
     symbols: Option<&Symbols<'_>>,
     unloaded: Vec<Unloaded>,
 ) -> Result<Finished, FinishError> {
-    finish_again(image, form, symbols, unloaded, &mut KeptTables::default())
+    let image = image.into();
+    let tables = tables_of(&image, form, symbols, &unloaded, &mut KeptTables::default())?;
+    finish_with(image, form, tables, unloaded)
 }
 
-/// The same with tables that are kept.
+/// Which tables of symbols and relocations a file has.
+#[derive(Debug)]
+pub enum FileTables {
+    /// Those of the image.
+    OfImage,
+    /// These.
+    Made(Tables),
+    /// None, but these sections are others than in the image.
+    None(OtherSections),
+}
+
+/// The tables of the file of an image. Of the sections that are not loaded the bytes do not count.
+///
+/// # Errors
+/// If there is no such table.
+pub fn tables_of(
+    data: &SessionImage,
+    form: &Form,
+    symbols: Option<&Symbols<'_>>,
+    unloaded: &[Unloaded],
+    kept: &mut KeptTables,
+) -> Result<FileTables, FinishError> {
+    let symbols = match symbols {
+        _ if form.is_flat => return Ok(FileTables::OfImage),
+        Some(symbols) => symbols,
+        None if form.symbols.emits_relocations => return Err(NoTable::Layout.into()),
+        None if form.symbols.has_table() => return Ok(FileTables::OfImage),
+        None => return Ok(FileTables::None(OtherSections::default())),
+    };
+    let image = image_headers::Image::read(data)?;
+    if !form.symbols.has_table() {
+        return Ok(FileTables::None(symbols::sections_of(&image, symbols, &form.names, unloaded)?));
+    }
+    let by_map = symbols.map.is_some();
+    let known = if by_map { None } else { kept.of(data, &image, unloaded) };
+    if let Some(known) = known {
+        return Ok(FileTables::Made(known));
+    }
+    let found = symbols::table_of(&image, symbols, &form.symbols, &form.names, unloaded)?;
+    if !by_map {
+        kept.keep(data, unloaded, &found);
+    }
+    Ok(FileTables::Made(found))
+}
+
+/// The same as [`finish`], with tables that are made.
 ///
 /// # Errors
 /// As [`finish`].
-pub fn finish_again(
-    image: impl Into<SessionImage>,
+pub fn finish_with(
+    mut image: SessionImage,
     form: &Form,
-    symbols: Option<&Symbols<'_>>,
+    tables: FileTables,
     unloaded: Vec<Unloaded>,
-    kept: &mut KeptTables,
 ) -> Result<Finished, FinishError> {
-    let mut image = image.into();
     if form.is_flat {
         let flat = flat::flat_binary(&image, &form.left_out)?;
         return Ok(Finished { file: FileImage::whole(flat), notes: Vec::new() });
@@ -164,7 +208,7 @@ pub fn finish_again(
         (None, None) => pages::with_pages(&image, form.page, false)?,
     };
     section_names::rename(&image, &form.names, &mut plan)?;
-    let sections = put_symbols((&image, kept), form, symbols, &unloaded, &mut plan)?;
+    let sections = put_tables(&image, tables, &mut plan)?;
     unloaded::add(&image, unloaded, &mut plan)?;
     inserted::insert(&image, sections, &mut plan)?;
     let (segments, file) = match plan {
@@ -184,34 +228,15 @@ pub fn put_image(file: &mut FileImage, form: &Form, mut image: SessionImage) -> 
 }
 
 /// Gives the file its table of symbols, or takes that of the image away; gives how its sections differ.
-fn put_symbols(
-    (data, kept): (&SessionImage, &mut KeptTables),
-    form: &Form,
-    symbols: Option<&Symbols<'_>>,
-    unloaded: &[Unloaded],
+fn put_tables(
+    data: &[u8],
+    tables: FileTables,
     plan: &mut Option<file_image::FilePlan>,
 ) -> Result<OtherSections, FinishError> {
-    let image = image_headers::Image::read(data)?;
-    let (table, sections) = match symbols {
-        Some(symbols) if form.symbols.has_table() => {
-            let by_map = symbols.map.is_some();
-            let known = if by_map { None } else { kept.of(data, &image, unloaded, symbols.objects) };
-            let found = match known {
-                Some(known) => known,
-                None => {
-                    let found = symbols::table_of(&image, symbols, &form.symbols, &form.names, unloaded)?;
-                    if !by_map {
-                        kept.keep(data, unloaded, symbols.objects, &found);
-                    }
-                    found
-                }
-            };
-            (Some(found.symbols), found.sections)
-        }
-        Some(symbols) => (None, symbols::sections_of(&image, symbols, &form.names, unloaded)?),
-        None if form.symbols.emits_relocations => return Err(NoTable::Layout.into()),
-        None if form.symbols.has_table() => return Ok(OtherSections::default()),
-        None => (None, OtherSections::default()),
+    let (table, sections) = match tables {
+        FileTables::OfImage => return Ok(OtherSections::default()),
+        FileTables::Made(tables) => (Some(tables.symbols), tables.sections),
+        FileTables::None(sections) => (None, sections),
     };
     let mut changed = file_image::plan_or_unchanged(data, plan.take())?;
     changed.symbols = Some(table);

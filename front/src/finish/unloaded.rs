@@ -53,7 +53,7 @@ pub(super) fn add(data: &[u8], unloaded: Vec<Unloaded>, plan: &mut Option<FilePl
     let rest = changed.sections.split_off(first);
     let stabs = place_of(&unloaded, b".stab").zip(place_of(&unloaded, b".stabstr"));
     for one in unloaded {
-        changed.contents.insert(changed.sections.len(), one.content.clone());
+        changed.contents.insert(changed.sections.len(), vec![one.content.clone()]);
         changed.sections.push(header_of(&one, enter(&mut names, &one.name)));
     }
     if let Some((rows, names)) = stabs {

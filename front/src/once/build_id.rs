@@ -5,13 +5,15 @@ use std::ops::Range;
 
 use crate::command::BuildId;
 use crate::finish::{
-    finish, finish_again, hash_of, place_of_note, put_image, FileImage, FinishError, Finished, HashKind, KeptTables,
-    LaidOut, Unloaded,
+    finish, finish_with, hash_of, place_of_note, put_image, tables_of, FileImage, FinishError, Finished, HashKind,
+    KeptTables, LaidOut, Unloaded,
 };
 use crate::objects::NOTE_HEAD;
+use crate::parallel;
 use crate::plan::{BuildIdNote, LinkPlan};
+use crate::publish::NotWritten;
 use crate::session_client::{SessionClient, SessionError, SessionImage, Target};
-use crate::unloaded::{self, unloaded, Arrangement, KeptStrings, NotMade, Spans};
+use crate::unloaded::{self, unloaded, Arrangement, Before, KeptStrings, NotMade, Spans};
 
 /// How far around a build ID the session may answer bytes again that are the same.
 const AROUND: usize = 2 * 4096;
@@ -51,10 +53,34 @@ impl<'a> Beside<'a> {
 /// A file before its build ID is in it.
 pub(crate) struct WithoutBuildId {
     finished: Finished,
-    /// Where in the image its ID is to be, and the ID; `None` if it has the right one.
-    id: Option<(usize, Vec<u8>)>,
+    /// Where its ID is, if that is to be found.
+    id: Option<PlaceOfId>,
     /// What is not loaded, if the file may be made once more.
     again: Vec<Unloaded>,
+}
+
+impl WithoutBuildId {
+    /// The file.
+    pub(crate) fn file(&self) -> &FileImage {
+        &self.finished.file
+    }
+}
+
+/// Where an ID is.
+struct PlaceOfId {
+    in_image: Range<usize>,
+    in_file: Range<u64>,
+}
+
+/// Writes a file, but for its ID.
+pub(crate) type WriteEarly<'a> = &'a (dyn Fn(&FileImage) -> Result<(), NotWritten> + Sync);
+
+/// What of a file was written while its ID was found.
+pub(crate) enum Early {
+    /// Nothing that counts.
+    Nothing,
+    /// All, but that other bytes are to be at a place.
+    Written(Result<(), NotWritten>, Option<(u64, Vec<u8>)>),
 }
 
 /// The file of the image that the session has.
@@ -69,7 +95,7 @@ pub(crate) fn file_of(
         .map_err(FileFault::from)
         .and_then(|beside| without_build_id(plan, image, laid_out, &beside, (&mut kept.tables, &mut *client)));
     plan.kept = kept;
-    with_build_id(plan, made?, laid_out, client)
+    with_build_id(plan, made?, laid_out, client, None).map(|(finished, _)| finished)
 }
 
 /// The file of the image that the session has, before its build ID is in it.
@@ -80,46 +106,82 @@ pub(crate) fn without_build_id(
     beside: &Beside<'_>,
     (tables, client): (&mut KeptTables, &mut SessionClient),
 ) -> Result<WithoutBuildId, FileFault> {
-    let place = plan.inputs.build_id_note().and_then(|identity| place_of(plan, identity, &image));
-    let unloaded = unloaded_of(plan, &image, laid_out, beside, (tables, client))?;
-    let has_hash = plan.inputs.build_id_note().map_or(false, |identity| identity.style().is_found());
-    let again = if has_hash { unloaded.clone() } else { Vec::new() };
+    let note = plan.inputs.build_id_note();
+    let place = note.and_then(|note| place_of(plan, note, &image)).map(|place| place + NOTE_HEAD);
     let symbols = plan.symbols(laid_out, beside.spans.as_ref());
-    let finished = finish_again(image, &plan.form, symbols.as_ref(), unloaded, tables)?;
-    let place = place.map(|place| place + NOTE_HEAD);
-    let start = place.and_then(|place| finished.file.place_of(place));
-    let id = match (plan.inputs.build_id_note(), start) {
-        (Some(identity), Some(start)) => {
-            let end = start + identity.id().len() as u64;
-            id_of(identity.style(), &finished.file, start..end).filter(|id| identity.id() != id.as_slice())
-        }
-        _ => None,
-    };
-    Ok(WithoutBuildId { finished, id: place.zip(id), again })
+    let (before, outlines) = (tables.before(&image, plan.inputs.objects()), beside.arrangement.outlines());
+    let (unloaded, made) = parallel::beside(
+        || unloaded_of(plan, &image, laid_out, beside, before, client),
+        || tables_of(&image, &plan.form, symbols.as_ref(), &outlines, tables),
+    );
+    let unloaded = unloaded.unwrap_or_else(|| unloaded_of(plan, &image, laid_out, beside, None, client))?;
+    let made = made?;
+    tables.hold(&image, &unloaded, plan.inputs.objects());
+    let has_hash = note.map_or(false, |note| note.style().is_found());
+    let again = if has_hash { unloaded.clone() } else { Vec::new() };
+    let finished = finish_with(image, &plan.form, made, unloaded)?;
+    let id = note.filter(|_| has_hash).zip(place).and_then(|(note, start)| {
+        let (size, place) = (note.id().len(), finished.file.place_of(start)?);
+        Some(PlaceOfId { in_image: start..start + size, in_file: place..place + size as u64 })
+    });
+    Ok(WithoutBuildId { finished, id, again })
 }
 
-/// A file with its build ID.
+/// A file with its build ID. While that is found, `write` writes the file.
 pub(crate) fn with_build_id(
     plan: &mut LinkPlan,
     made: WithoutBuildId,
     laid_out: LaidOut<'_>,
     client: &mut SessionClient,
-) -> Result<Finished, FileFault> {
+    write: Option<WriteEarly<'_>>,
+) -> Result<(Finished, Early), FileFault> {
     let WithoutBuildId { mut finished, id, again } = made;
-    let (place, id) = match id {
-        Some(found) => found,
-        None => return Ok(finished),
+    let place = match id {
+        Some(place) => place,
+        None => return Ok((finished, Early::Nothing)),
     };
-    let stretch = place..place + id.len();
-    plan.set_id(id);
-    match with_id(plan, &mut finished.file, stretch, client)? {
-        Some(image) => Ok(finish(image, &plan.form, plan.symbols(laid_out, None).as_ref(), again)?),
-        None => Ok(finished),
+    let file = &finished.file;
+    let mut find = || link_with_id(plan, file, place.in_file.clone(), client);
+    let (written, found) = match write {
+        Some(write) => parallel::beside(|| write(file), find),
+        None => (None, find()),
+    };
+    let early = |id| written.map_or(Early::Nothing, |written| Early::Written(written, id));
+    let id = match found? {
+        Some(id) => id,
+        None => return Ok((finished, early(None))),
+    };
+    match with_id(plan, &mut finished.file, place.in_image, client)? {
+        Some(image) => {
+            let again = finish(image, &plan.form, plan.symbols(laid_out, None).as_ref(), again)?;
+            Ok((again, Early::Nothing))
+        }
+        None => Ok((finished, early(Some((place.in_file.start, id))))),
     }
 }
 
-/// Gives a file the image with the ID that the note has now, which stands at a place of it; if that image differs
-/// from the one before in more, it is given, and the file is to be made anew.
+/// Finds the ID of a file, and has the session link with it; `None` if the note has it already.
+fn link_with_id(
+    plan: &mut LinkPlan,
+    file: &FileImage,
+    place: Range<u64>,
+    client: &mut SessionClient,
+) -> Result<Option<Vec<u8>>, SessionError> {
+    let note = plan.inputs.build_id_note();
+    let found = note.and_then(|note| id_of(note.style(), file, place).filter(|id| note.id() != id.as_slice()));
+    if let Some(id) = &found {
+        plan.set_id(id.clone());
+        let wanted = Target { options: &plan.options, objects: plan.held(), script: &plan.adapted.text };
+        let brought = client.sync(wanted)?;
+        if !brought.is_good || !brought.refused.is_empty() {
+            return Err(SessionError::NoAnswer("the note of the build ID was not taken".to_owned()));
+        }
+    }
+    Ok(found)
+}
+
+/// Gives a file the image of the session's link with the ID, which stands at a place of it; if that image differs from
+/// the one before in more, it is given, and the file is to be made anew.
 fn with_id(
     plan: &mut LinkPlan,
     file: &mut FileImage,
@@ -132,7 +194,7 @@ fn with_id(
     let around = id.start.saturating_sub(AROUND)..id.end.saturating_add(AROUND).min(length);
     let before = image.get(around.clone()).unwrap_or_default().to_vec();
     client.reuse(image);
-    let image = image_again(plan, client)?;
+    let image = client.image()?;
     let is_around = |range: &Range<usize>| around.start <= range.start && range.end <= around.end;
     let is_near = image.len() == length && image.changed().map_or(false, |ranges| ranges.iter().all(is_around));
     let now = image.get(around.clone()).unwrap_or_default();
@@ -152,13 +214,13 @@ fn unloaded_of(
     image: &SessionImage,
     laid_out: LaidOut<'_>,
     beside: &Beside<'_>,
-    (tables, client): (&mut KeptTables, &mut SessionClient),
+    before: Option<Before>,
+    client: &mut SessionClient,
 ) -> Result<Vec<Unloaded>, FileFault> {
     match &plan.evaluation {
         Ok(evaluation) if !plan.form.is_flat => {
             let objects = plan.inputs.objects();
-            let link = unloaded::Link { evaluation, objects, laid_out };
-            let before = tables.before(image, objects);
+            let link = unloaded::Link { evaluation, objects, laid_out, names: plan.linked_names() };
             unloaded(link, &beside.arrangement, image, before, || client.map().map_err(FileFault::from))
         }
         _ => Ok(Vec::new()),
@@ -174,15 +236,6 @@ fn place_of(plan: &LinkPlan, identity: &BuildIdNote, image: &[u8]) -> Option<usi
         evaluation.section_address(section)
     });
     place_of_note(image, &identity.note(), address)
-}
-
-/// The image with the note as it is now.
-fn image_again(plan: &LinkPlan, client: &mut SessionClient) -> Result<SessionImage, SessionError> {
-    let brought = client.sync(Target { options: &plan.options, objects: plan.held(), script: &plan.adapted.text })?;
-    if !brought.is_good || !brought.refused.is_empty() {
-        return Err(SessionError::NoAnswer("the note of the build ID was not taken".to_owned()));
-    }
-    client.image()
 }
 
 /// The ID of a file, whose ID so far is at a stretch; `None` if it is a number that is given.

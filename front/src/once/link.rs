@@ -6,7 +6,7 @@ use std::path::{Path, PathBuf};
 
 use bstr::{BStr, ByteSlice};
 
-use super::build_id::{with_build_id, without_build_id, Beside, FileFault, WithoutBuildId};
+use super::build_id::{with_build_id, without_build_id, Beside, Early, FileFault, WithoutBuildId, WriteEarly};
 use super::fallback::Reasons;
 use super::host::{Asked, Host};
 use super::maps::{self, Maps};
@@ -160,17 +160,21 @@ pub(crate) fn make(
         Outcome::Ended(status) => return Ok(status),
     };
     let laid_out = LaidOut::of(made.verdict.agrees, made.pieces.as_ref());
-    let finished = made.file.and_then(|file| with_build_id(plan, file, laid_out, client));
+    let warned = made.file.as_ref().ok().and_then(|file| fatal::warning(command, plan, file.file()));
+    if let Some(why) = warned {
+        let link = Link { command, plan, asked, host };
+        return Ok(link.no_image(Some(why.clone()), &|| say(&why), Status::Faults));
+    }
+    let write = |file: &FileImage| write_image(command, file, host);
+    let early: Option<WriteEarly<'_>> = if host.writes_beside() { Some(&write) } else { None };
+    let finished = made.file.and_then(|file| with_build_id(plan, file, laid_out, client, early));
     let link = Link { command, plan, asked, host };
-    let finished = match finished {
+    let (finished, early) = match finished {
         Ok(finished) => finished,
         Err(fault) => return link.no_file(fault),
     };
-    if let Some(why) = fatal::warning(command, link.plan, &finished.file) {
-        return Ok(link.no_image(Some(why.clone()), &|| say(&why), Status::Faults));
-    }
     made.verdict.maps = made.maps;
-    link.write_files(&finished, &made.map, &made.verdict, client)?;
+    link.write_files((&finished, early), &made.map, &made.verdict, client)?;
     if host.keeps_session() {
         client.reuse(finished.file.into_image());
     }
@@ -490,7 +494,7 @@ impl<'a> Link<'a> {
     /// Writes the files of a good link.
     fn write_files(
         &self,
-        finished: &Finished,
+        (finished, early): (&Finished, Early),
         map: &[u8],
         verdict: &Verdict,
         client: &mut SessionClient,
@@ -502,7 +506,7 @@ impl<'a> Link<'a> {
             say(format!("{}: {note}", self.path()));
         }
         self.write_map(map, verdict.maps.as_ref())?;
-        self.write_image(&finished.file)?;
+        self.write_rest(&finished.file, early).map_err(LinkFault::NotWritten)?;
         self.write_dependencies()?;
         self.print_tables(map);
         Ok(())
@@ -520,9 +524,17 @@ impl<'a> Link<'a> {
         prohibited.for_each(|one| say(one.to_string()));
     }
 
-    fn write_image(&self, file: &FileImage) -> Result<(), LinkFault> {
-        let zeros = zeros_of(file);
-        self.host.write(&self.command.output, &pieces_of(file, &zeros), PROGRAM).map_err(LinkFault::NotWritten)
+    /// Writes what is not written yet of the image.
+    fn write_rest(&self, file: &FileImage, early: Early) -> Result<(), NotWritten> {
+        let write = || write_image(self.command, file, self.host);
+        match early {
+            Early::Nothing => write(),
+            Early::Written(written, id) => {
+                let amend = |(at, id): (u64, Vec<u8>)| self.host.amend(&self.command.output, at, &id);
+                // One that this user may not write again, as by its mode, is written anew.
+                written.and_then(|()| id.map_or(Ok(()), amend)).or_else(|_| write())
+            }
+        }
     }
 
     fn write_map(&self, map: &[u8], maps: Option<&Maps>) -> Result<(), LinkFault> {
@@ -636,6 +648,11 @@ fn has_section(script: &Script, name: &[u8]) -> bool {
         }),
         _ => false,
     })
+}
+
+fn write_image(command: &Command, file: &FileImage, host: &dyn Host) -> Result<(), NotWritten> {
+    let zeros = zeros_of(file);
+    host.write(&command.output, &pieces_of(file, &zeros), PROGRAM)
 }
 
 /// The zeros of the greatest gap between two pieces.

@@ -392,6 +392,11 @@ impl LinkPlan {
         Some(Symbols { objects: self.inputs.objects(), evaluation, names, map, spans })
     }
 
+    /// The names of script and objects, if they are listed.
+    pub fn linked_names(&self) -> Option<&LinkedNames> {
+        self.names.as_ref()
+    }
+
     /// Whether the image may be laid out otherwise than was evaluated.
     pub fn may_differ(&self) -> bool {
         self.evaluation.is_ok() && self.adapted.changed().next().is_some()

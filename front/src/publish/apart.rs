@@ -8,7 +8,7 @@ use super::writing::write_all;
 use rustix::fs::{cwd, renameat, renameat_with, unlinkat, AtFlags, Mode, OFlags, RenameFlags};
 use std::fs::{self, DirBuilder, File, OpenOptions};
 use std::io;
-use std::os::unix::fs::{DirBuilderExt, MetadataExt, OpenOptionsExt};
+use std::os::unix::fs::{DirBuilderExt, FileExt, MetadataExt, OpenOptionsExt};
 use std::path::{Path, PathBuf};
 
 /// The file's name in its folder.
@@ -30,16 +30,10 @@ impl Apart {
     /// # Errors
     /// If the file cannot be written. Nothing of it is then left.
     pub fn write(path: &Path, pieces: &[&[u8]], mode: Mode) -> io::Result<Option<Apart>> {
-        let target = super::new_file::resolved(path)?;
-        match fs::metadata(&target) {
-            Ok(found) if !found.is_file() => return Ok(None),
-            Err(fault) if fault.kind() != io::ErrorKind::NotFound => return Err(fault),
-            _ => {}
-        }
-        if path.file_name().is_none() || target.file_name().is_none() {
-            return Ok(None);
-        }
-        let target = fs::canonicalize(folder_of(&target))?.join(target.file_name().unwrap_or_default());
+        let target = match Apart::place_of(path)? {
+            Some(target) => target,
+            None => return Ok(None),
+        };
         let folder = new_name(&target)?;
         DirBuilder::new().mode(0o700).create(&folder)?;
         let apart = Apart { folder, target };
@@ -53,6 +47,31 @@ impl Apart {
                 Err(fault)
             }
         }
+    }
+
+    /// The place of the file of a path; `None` if it is one of no regular file.
+    ///
+    /// # Errors
+    /// If it cannot be known.
+    pub fn place_of(path: &Path) -> io::Result<Option<PathBuf>> {
+        let target = super::new_file::resolved(path)?;
+        match fs::metadata(&target) {
+            Ok(found) if !found.is_file() => return Ok(None),
+            Err(fault) if fault.kind() != io::ErrorKind::NotFound => return Err(fault),
+            _ => {}
+        }
+        if path.file_name().is_none() || target.file_name().is_none() {
+            return Ok(None);
+        }
+        Ok(Some(fs::canonicalize(folder_of(&target))?.join(target.file_name().unwrap_or_default())))
+    }
+
+    /// Writes other bytes at a place of the file.
+    ///
+    /// # Errors
+    /// If they cannot be written.
+    pub fn amend(&self, at: u64, bytes: &[u8]) -> io::Result<()> {
+        OpenOptions::new().write(true).open(self.folder.join(NAME))?.write_all_at(bytes, at)
     }
 
     /// Puts it in place, in one step: the names are exchanged if there is a regular file, which is quicker on ext4.

@@ -1,6 +1,5 @@
 //! What a link uses of the server: new files beside their places, and reasons for another linker to be kept.
 
-use std::cell::RefCell;
 use std::io;
 use std::path::Path;
 use std::sync::{Arc, Mutex, MutexGuard, PoisonError};
@@ -28,10 +27,23 @@ impl NewFiles {
         if written.is_closed {
             return Err(io::Error::from(io::ErrorKind::BrokenPipe));
         }
-        let apart = Apart::write(path, pieces, mode)?;
-        let is_placeable = apart.is_some();
-        written.places.extend(apart);
-        Ok(is_placeable)
+        let apart = match Apart::write(path, pieces, mode)? {
+            Some(apart) => apart,
+            None => return Ok(false),
+        };
+        if let Some(old) = written.places.iter_mut().find(|old| old.target == apart.target) {
+            std::mem::replace(old, apart).remove();
+        } else {
+            written.places.push(apart);
+        }
+        Ok(true)
+    }
+
+    /// Writes other bytes into a file that is there.
+    fn amend(&self, path: &Path, at: u64, bytes: &[u8]) -> io::Result<()> {
+        let (written, target) = (self.written(), Apart::place_of(path)?);
+        let own = written.places.iter().find(|apart| Some(&apart.target) == target.as_ref());
+        own.map_or(Ok(()), |own| own.amend(at, bytes))
     }
 
     /// The files that are there now.
@@ -66,7 +78,7 @@ impl Written {
 #[derive(Debug)]
 pub(super) struct ServerHost {
     files: NewFiles,
-    found: RefCell<Found>,
+    found: Mutex<Found>,
 }
 
 /// What a link left, but for new files.
@@ -81,12 +93,18 @@ pub(super) struct Found {
 impl ServerHost {
     /// A link that writes such files.
     pub(super) fn new(files: NewFiles) -> ServerHost {
-        ServerHost { files, found: RefCell::default() }
+        ServerHost { files, found: Mutex::default() }
     }
 
     /// Why another linker is to link, or why the server cannot, if so.
     pub(super) fn found(self) -> Found {
-        self.found.into_inner()
+        self.found.into_inner().unwrap_or_else(PoisonError::into_inner)
+    }
+}
+
+impl ServerHost {
+    fn finding(&self) -> MutexGuard<'_, Found> {
+        self.found.lock().unwrap_or_else(PoisonError::into_inner)
     }
 }
 
@@ -94,9 +112,17 @@ impl Host for ServerHost {
     fn write(&self, path: &Path, pieces: &[&[u8]], mode: Mode) -> Result<(), NotWritten> {
         let written = self.files.write(path, pieces, mode);
         if !written.map_err(|fault| NotWritten { path: path.to_owned(), fault })? {
-            self.found.borrow_mut().why_not_ours = Some(format!("{} is no regular file", path.display()));
+            self.finding().why_not_ours = Some(format!("{} is no regular file", path.display()));
         }
         Ok(())
+    }
+
+    fn writes_beside(&self) -> bool {
+        true
+    }
+
+    fn amend(&self, path: &Path, at: u64, bytes: &[u8]) -> Result<(), NotWritten> {
+        self.files.amend(path, at, bytes).map_err(|fault| NotWritten { path: path.to_owned(), fault })
     }
 
     fn hand_over(&self, reasons: &Reasons<'_>, link: &Asked<'_>) -> Status {
@@ -104,7 +130,7 @@ impl Host for ServerHost {
             return status;
         }
         let reasons = HandedOver::of(reasons, link.environment, link.is_verbose);
-        self.found.borrow_mut().handed_over = Some(reasons);
+        self.finding().handed_over = Some(reasons);
         Status::Refused
     }
 
@@ -128,7 +154,11 @@ mod tests {
         assert_eq!((count(), files.places().len()), (1, 1));
         files.remove();
         assert_eq!((count(), files.places().len()), (0, 0));
-        assert!(files.write(&path, &[b"two"], Mode::RUSR).unwrap());
+        assert!(files.write(&path, &[b"two"], Mode::RUSR | Mode::WUSR).unwrap());
+        files.amend(&path, 1, b"ou").unwrap();
+        assert_eq!(fs::read(files.places()[0].folder.join("new")).unwrap(), b"tou");
+        assert!(files.write(&path, &[b"two again"], Mode::RUSR).unwrap());
+        assert_eq!((count(), files.places().len()), (1, 1), "in place of the one before");
         let by_another_thread = files.clone();
         files.close();
         assert_eq!(count(), 0);

@@ -133,7 +133,9 @@ impl Links {
         }
         self.keep(planned, request);
         if is_same && why_not_ours.is_none() {
-            let answer = Answer { status: status as u8, places: self.files.places(), texts };
+            // A file that was written before the link had a fault stays beside its place.
+            let places = if status == Status::Good { self.files.places() } else { Vec::new() };
+            let answer = Answer { status: status as u8, places, texts };
             return Some(Outcome { message: answer.message(), is_made: true });
         }
         why_not_ours.map(Outcome::declined)

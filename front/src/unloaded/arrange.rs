@@ -9,6 +9,7 @@ use super::compressed::inflated;
 use super::strings::{KeptStrings, Strings};
 use super::NotMade;
 use crate::fast_map::FastMap;
+use crate::finish::Unloaded;
 use crate::layout::evaluation::{Evaluation, Gap, InputSection, OutputSection, Placed, StatementKind};
 use crate::layout::ids::SectionId;
 use crate::objects::{MergedPart, Object, SectionFlags, Shortened};
@@ -89,6 +90,21 @@ impl<'a> Arrangement<'a> {
             }
         }
         Ok(arrangement)
+    }
+
+    /// The sections, without their bytes.
+    pub fn outlines(&self) -> Vec<Unloaded> {
+        let outline = |one: &Arranged<'_>| Unloaded {
+            name: one.output.name.clone(),
+            kind: one.place.kind,
+            flags: one.place.bits,
+            address: one.place.address,
+            align: one.align,
+            entry_size: one.place.entry_size,
+            size: one.size,
+            content: Bytes::default(),
+        };
+        self.outputs.iter().map(outline).collect()
     }
 
     /// Where an input section is.

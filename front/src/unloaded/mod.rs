@@ -23,11 +23,11 @@ use bstr::{BStr, BString, ByteSlice};
 use object::elf;
 
 use crate::fast_map::FastSet;
-use crate::finish::{LaidOut, Unloaded};
+use crate::finish::{LaidOut, LinkedNames, NameValues, Unloaded};
 use crate::layout::ids::{OutputId, SectionId};
 use crate::layout::{Evaluation, Flags};
-use crate::objects::{Binding, LinkNames, Object, Relocation, SectionFlags, SectionIndex, SymbolIndex};
-use crate::parallel::map_all;
+use crate::objects::{Binding, LinkNames, Object, ObjectIndex, Relocation, SectionFlags, SectionIndex, SymbolIndex};
+use crate::parallel::{map_all, threads};
 use crate::report::link_map::LinkMap;
 pub use arrange::Arrangement;
 use arrange::{Arranged, Piece};
@@ -40,7 +40,6 @@ use targets::{Target, Targets};
 
 /// From as many bytes on several threads write.
 const MUCH: u64 = 1 << 20;
-const MAX_THREADS: usize = 8;
 /// A list that 0 would end (bfd/reloc.c, `_bfd_clear_contents`).
 const RANGES: &[u8] = b".debug_ranges";
 
@@ -141,6 +140,8 @@ pub struct Link<'a> {
     pub objects: &'a [Object],
     /// How the image is laid out.
     pub laid_out: LaidOut<'a>,
+    /// The names of the objects, if there is a list of them.
+    pub names: Option<&'a LinkedNames>,
 }
 
 /// Sections that were made for the last image, from which another one differs in the bytes of some objects alone.
@@ -184,7 +185,7 @@ pub fn unloaded<E: From<NotMade>>(
     before: Option<Before>,
     map: impl FnOnce() -> Result<Vec<u8>, E>,
 ) -> Result<Vec<Unloaded>, E> {
-    let Link { evaluation, objects, laid_out } = link;
+    let Link { evaluation, objects, laid_out, names } = link;
     let before = before.filter(|before| before.fits(evaluation, arrangement));
     let is_written = |piece: &Piece<'_>| before.as_ref().map_or(true, |before| before.is_other(evaluation, piece));
     let pieces = arrangement.outputs.iter().flat_map(|output| &output.pieces);
@@ -193,7 +194,8 @@ pub fn unloaded<E: From<NotMade>>(
     if relocated.is_empty() {
         return Ok(written(arrangement, evaluation, before, None)?);
     }
-    let wanted = names_of(&relocated);
+    let values = names.and_then(|names| NameValues::read(image, names));
+    let wanted = names_of(&relocated, values.as_ref());
     let answered = ImageSections::read(image, &wanted);
     let mut places = SectionPlaces::new(evaluation);
     match laid_out {
@@ -207,7 +209,7 @@ pub fn unloaded<E: From<NotMade>>(
     let missing = wanted.iter().filter(|name| answered.value(name).is_none());
     let names = LinkNames::look_up(objects, missing);
     let (image, kept) = (&answered, KeptGroups::of(objects));
-    let targets = Targets { evaluation, objects, arrangement, places, image, names, kept };
+    let targets = Targets { evaluation, objects, arrangement, places, values: values.as_ref(), image, names, kept };
     Ok(written(arrangement, evaluation, before, Some(&targets))?)
 }
 
@@ -216,19 +218,21 @@ fn relocated<'a>(evaluation: &Evaluation, objects: &'a [Object], piece: &Piece<'
     let id = piece.section?;
     let section = evaluation.section(id)?;
     let (object, number) = (objects.get(section.object.0 as usize)?, section.number()?);
-    object.has_relocations(number).then_some(Relocated { object, number })
+    object.has_relocations(number).then_some(Relocated { index: section.object, object, number })
 }
 
 /// A section with relocations.
 #[derive(Clone, Copy)]
 struct Relocated<'a> {
+    index: ObjectIndex,
     object: &'a Object,
     number: SectionIndex,
 }
 
-/// The names that relocations of sections refer to.
-fn names_of<'a>(relocated: &[Relocated<'a>]) -> FastSet<&'a BStr> {
-    let of = |Relocated { object, number }: &Relocated<'a>| -> Vec<&'a BStr> {
+/// The names that relocations of sections refer to, but for those that have a value already.
+fn names_of<'a>(relocated: &[Relocated<'a>], values: Option<&NameValues<'_>>) -> FastSet<&'a BStr> {
+    let of = |Relocated { index, object, number }: &Relocated<'a>| -> Vec<&'a BStr> {
+        let is_unknown = |symbol: &SymbolIndex| values.map_or(true, |one| one.of_symbol(*index, *symbol).is_none());
         let mut is_referred = vec![false; object.symbol_count()];
         for one in object.relocations(*number) {
             if let Some(own) = is_referred.get_mut(one.symbol.0 as usize) {
@@ -236,8 +240,9 @@ fn names_of<'a>(relocated: &[Relocated<'a>]) -> FastSet<&'a BStr> {
             }
         }
         let referred = (0..).zip(is_referred).filter(|(_, is_referred)| *is_referred);
-        let symbols = referred.filter_map(|(index, _)| object.symbol(SymbolIndex(index)));
-        symbols.filter(|symbol| symbol.binding != Binding::Local).map(|symbol| symbol.name).collect()
+        let nameless = referred.filter_map(|(number, _)| object.nameless_symbol(SymbolIndex(number)));
+        let global = nameless.filter(|symbol| symbol.binding != Binding::Local).map(|symbol| symbol.index);
+        global.filter(is_unknown).filter_map(|number| object.symbol(number)).map(|symbol| symbol.name).collect()
     };
     map_all(relocated, &of).into_iter().flatten().collect()
 }
@@ -282,23 +287,14 @@ fn written(
         }
     }
     run(jobs, targets)?;
-    let made = arrangement.outputs.iter().zip(contents).map(|(output, content)| Unloaded {
-        name: output.output.name.clone(),
-        kind: output.place.kind,
-        flags: output.place.bits,
-        address: output.place.address,
-        align: output.align,
-        entry_size: output.place.entry_size,
-        size: output.size,
-        content: content.into(),
-    });
-    Ok(made.collect())
+    let made = arrangement.outlines().into_iter().zip(contents);
+    Ok(made.map(|(outline, content)| Unloaded { content: content.into(), ..outline }).collect())
 }
 
 /// Writes all pieces, by several threads if that is a lot; of several faults the first is given.
 fn run(jobs: Vec<Job<'_>>, targets: Option<&Targets<'_>>) -> Result<(), NotMade> {
     let much = jobs.iter().map(|job| job.bytes.len() as u64).sum::<u64>() > MUCH;
-    let threads = if much { std::thread::available_parallelism().map_or(1, usize::from).min(MAX_THREADS) } else { 1 };
+    let threads = if much { threads() } else { 1 };
     if threads <= 1 {
         return jobs.into_iter().try_for_each(|job| write(job, targets));
     }
@@ -356,12 +352,7 @@ fn apply(piece: &Piece<'_>, address: u64, bytes: &mut [u8], targets: Option<&Tar
 }
 
 /// What the field of a relocation gets; `None` if what it names is not in the output.
-fn value_of(
-    targets: &Targets<'_>,
-    object: crate::objects::ObjectIndex,
-    one: &Relocation,
-    address: u64,
-) -> Result<Option<u64>, Fault> {
+fn value_of(targets: &Targets<'_>, object: ObjectIndex, one: &Relocation, address: u64) -> Result<Option<u64>, Fault> {
     let field = relocate::Field::of(one.kind)?;
     Ok(match targets.of(object, one.symbol, one.addend as u64) {
         Target::Address(value) if field.map_or(false, |field| field.is_relative) => {

@@ -6,6 +6,7 @@ use super::arrange::Arrangement;
 use super::image_sections::ImageSections;
 use super::kept_groups::KeptGroups;
 use super::section_places::SectionPlaces;
+use crate::finish::NameValues;
 use crate::layout::evaluation::Fate;
 use crate::layout::Evaluation;
 use crate::objects::{
@@ -28,6 +29,8 @@ pub(super) struct Targets<'a> {
     pub(super) objects: &'a [Object],
     pub(super) arrangement: &'a Arrangement<'a>,
     pub(super) places: SectionPlaces<'a>,
+    /// The values of names in the image, by the objects' symbols, and of those that have none by them.
+    pub(super) values: Option<&'a NameValues<'a>>,
     pub(super) image: &'a ImageSections<'a>,
     /// The definitions of the names that the image does not have.
     pub(super) names: LinkNames,
@@ -44,6 +47,9 @@ impl Targets<'_> {
         };
         if nameless.binding == Binding::Local {
             return self.of_home(object, &nameless, addend);
+        }
+        if let Some(value) = self.values.and_then(|values| values.of_symbol(object, number)) {
+            return Target::Address(value.wrapping_add(addend));
         }
         let symbol = own.and_then(|own| own.symbol(number)).unwrap_or(nameless);
         if let Some(value) = self.image.value(symbol.name) {

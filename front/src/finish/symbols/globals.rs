@@ -17,7 +17,7 @@ use super::{SymbolOptions, Symbols};
 use crate::fast_map::FastMap;
 use crate::layout::evaluation::{Base, Definer, Evaluation, Symbol};
 use crate::layout::ids::SymbolId;
-use crate::objects::{Home, EH_FRAME_HDR_START, GLOBAL_OFFSET_TABLE};
+use crate::objects::{Home, ObjectIndex, SymbolIndex, EH_FRAME_HDR_START, GLOBAL_OFFSET_TABLE};
 use crate::parallel::map_all;
 
 /// How many assignments are followed from one symbol to the next.
@@ -77,6 +77,26 @@ impl<'a> ImageNames<'a> {
 
 /// Stands for no entry.
 const NONE: u32 = u32::MAX;
+
+/// The values that an image gives to the names of objects.
+pub struct NameValues<'a> {
+    linked: &'a LinkedNames,
+    own: ImageNames<'a>,
+}
+
+impl<'a> NameValues<'a> {
+    /// Those of an image; `None` if it is none of `ldi`.
+    pub fn read(image: &'a [u8], linked: &'a LinkedNames) -> Option<NameValues<'a>> {
+        let own = ImageNames::read(&Image::read(image).ok()?, linked).ok()?;
+        Some(NameValues { linked, own })
+    }
+
+    /// The value of the name of an object's symbol; `None` if the image has none.
+    pub fn of_symbol(&self, object: ObjectIndex, symbol: SymbolIndex) -> Option<u64> {
+        let entry = self.own.get(self.linked.name_of(object.0 as usize, symbol)?)?;
+        (entry.st_shndx.get(LE) != elf::SHN_UNDEF).then(|| entry.st_value.get(LE))
+    }
+}
 
 /// The names that are written together.
 const AT_ONCE: usize = 256;

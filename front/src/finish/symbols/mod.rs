@@ -25,6 +25,7 @@ use crate::layout::Evaluation;
 use crate::objects::{Object, Visibility};
 use crate::report::link_map::LinkMap;
 use crate::unloaded::Spans;
+pub use globals::NameValues;
 use globals::Names;
 pub use linked_names::LinkedNames;
 use locals::Locals;
@@ -144,7 +145,7 @@ impl SymbolOptions {
 
 /// The symbol table of a link, and the sections that go with it.
 #[derive(Clone, Debug)]
-pub(super) struct Tables {
+pub struct Tables {
     /// The symbol table.
     pub(super) symbols: SymbolTable,
     /// The sections that go with it.
@@ -153,7 +154,7 @@ pub(super) struct Tables {
 
 /// How the sections of a file differ from those of the image of `ldi`, but for what is not loaded.
 #[derive(Clone, Debug, Default)]
-pub(super) struct OtherSections {
+pub struct OtherSections {
     /// The relocations, sections of their own.
     pub(super) relocations: Vec<RelocationTable>,
     /// The sections without bytes that GNU ld's file has and the image has not.

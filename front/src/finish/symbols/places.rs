@@ -88,20 +88,8 @@ impl InputPlaces {
         self.sections.get(self.at(object, section)?).copied().flatten()
     }
 
-    /// How many relocations sections have, by [`InputPlaces::at`].
-    pub(super) fn relocation_counts(&self, objects: &[Object]) -> Vec<u32> {
-        let mut counts = vec![0; self.sections.len()];
-        for (number, object) in objects.iter().enumerate() {
-            for (section, count) in object.relocated_sections() {
-                let own = self.at(number, section).and_then(|at| counts.get_mut(at));
-                own.into_iter().for_each(|own| *own = count as u32);
-            }
-        }
-        counts
-    }
-
     /// The number of a section of an object among those of all.
-    pub(super) fn at(&self, object: usize, section: SectionIndex) -> Option<usize> {
+    fn at(&self, object: usize, section: SectionIndex) -> Option<usize> {
         self.first.get(object)?.checked_add(section.0 as usize)
     }
 

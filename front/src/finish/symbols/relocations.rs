@@ -9,20 +9,22 @@ use crate::layout::evaluation::{Definer, Fate};
 use crate::layout::ids::{OutputId, SectionId};
 use crate::layout::Flags;
 use crate::objects::{Binding, Home, Object, ObjectIndex, Relocation, SectionIndex, Symbol, SymbolKind};
-use crate::parallel::{do_all, map_all};
+use crate::parallel::map_all;
 use crate::snapshot::Bytes;
 use crate::unloaded::KeptGroups;
 
 /// The bytes of an entry.
 const ENTRY: usize = 24;
+/// From as many entries on those of the next input section are written apart.
+const AT_ONCE: usize = 1024;
 
 /// The relocations of an output section.
 #[derive(Clone, PartialEq, Eq, Debug)]
 pub(in crate::finish) struct RelocationTable {
     /// The number of its header in the image.
     pub(in crate::finish) section: usize,
-    /// The entries, by ascending offsets.
-    pub(in crate::finish) entries: Bytes,
+    /// The entries, by ascending offsets, in parts.
+    pub(in crate::finish) entries: Vec<Bytes>,
 }
 
 /// Goes over the relocations of an object's sections that are in the file, in the order of its headers.
@@ -103,46 +105,95 @@ struct Input {
     is_debugging: bool,
 }
 
+/// What the relocations of an object need.
+struct OfObject {
+    /// What its symbols stand for, by their numbers.
+    targets: Vec<Target>,
+    /// How many relocations its sections have, by their numbers.
+    counts: Vec<u32>,
+}
+
+/// Entries of an output section that are written together.
+struct Rows {
+    bytes: Vec<u8>,
+    /// The first and the last offset, if all ascend.
+    ascending: Option<(u64, u64)>,
+}
+
 /// The tables of all output sections that have relocations.
 pub(super) fn tables(symbols: &Symbols<'_>, places: &InputPlaces, numbers: &Numbers<'_>) -> Vec<RelocationTable> {
     let objects: Vec<(usize, &Object)> = symbols.objects.iter().enumerate().collect();
     let kept = KeptGroups::of(symbols.objects);
-    let targets = map_all(&objects, &|(number, object)| targets_of(*number, object, (places, &kept), numbers));
-    let counts = places.relocation_counts(symbols.objects);
-    let ids = &symbols.evaluation.order;
-    let inputs: Vec<(Vec<Input>, usize)> = ids.iter().map(|id| inputs_of(*id, symbols, places, &counts)).collect();
-    let table = |(inputs, _): &(Vec<Input>, usize)| vec![0; inputs.iter().map(|input| input.count * ENTRY).sum()];
-    let mut tables: Vec<Vec<u8>> = inputs.iter().map(table).collect();
-    let mut jobs = Vec::new();
-    for (table, (inputs, _)) in tables.iter_mut().zip(&inputs) {
-        let mut rest = table.as_mut_slice();
-        for input in inputs {
-            let (own, after) = rest.split_at_mut((input.count * ENTRY).min(rest.len()));
-            jobs.push((input, own));
-            rest = after;
-        }
-    }
-    do_all(jobs, &|(input, rows): (&Input, &mut [u8])| {
-        if let (Some(object), Some(targets)) = (symbols.objects.get(input.object), targets.get(input.object)) {
-            write_rows(input, rows, (object, targets), places, numbers);
-        }
+    let of_objects = map_all(&objects, &|(number, object)| OfObject {
+        targets: targets_of(*number, object, (places, &kept), numbers),
+        counts: counts_of(object),
     });
-    let numbers = inputs.iter().map(|(_, section)| *section);
-    let tables = numbers.zip(tables).filter(|(_, entries)| !entries.is_empty());
-    tables.map(|(section, entries)| RelocationTable { section, entries: sorted(entries).into() }).collect()
+    let ids = &symbols.evaluation.order;
+    let inputs: Vec<(Vec<Input>, usize)> = ids.iter().map(|id| inputs_of(*id, symbols, places, &of_objects)).collect();
+    let parts: Vec<Vec<&[Input]>> = inputs.iter().map(|(inputs, _)| parts_of(inputs)).collect();
+    let all: Vec<&[Input]> = parts.iter().flatten().copied().collect();
+    let mut rows = map_all(&all, &|part| rows_of(part, symbols, &of_objects, places, numbers)).into_iter();
+    let sections = inputs.iter().map(|(_, section)| *section).zip(parts).filter(|(_, parts)| !parts.is_empty());
+    let mut entries = |count| sorted(rows.by_ref().take(count).collect());
+    sections.map(|(section, parts)| RelocationTable { section, entries: entries(parts.len()) }).collect()
+}
+
+fn counts_of(object: &Object) -> Vec<u32> {
+    let mut counts = vec![0; object.section_count()];
+    for (section, count) in object.relocated_sections() {
+        counts.get_mut(section.0 as usize).into_iter().for_each(|own| *own = count as u32);
+    }
+    counts
+}
+
+/// Input sections in parts with enough relocations to be written together.
+fn parts_of(inputs: &[Input]) -> Vec<&[Input]> {
+    let (mut parts, mut rest) = (Vec::new(), inputs);
+    while !rest.is_empty() {
+        let mut count = 0;
+        let last = rest.iter().position(|input| {
+            count += input.count;
+            count >= AT_ONCE
+        });
+        let (part, after) = rest.split_at(last.map_or(rest.len(), |last| last + 1));
+        parts.push(part);
+        rest = after;
+    }
+    parts
+}
+
+/// The relocations of some input sections.
+fn rows_of(
+    inputs: &[Input],
+    symbols: &Symbols<'_>,
+    of_objects: &[OfObject],
+    places: &InputPlaces,
+    numbers: &Numbers<'_>,
+) -> Rows {
+    let count: usize = inputs.iter().map(|input| input.count).sum();
+    let mut bytes = Vec::with_capacity(count * ENTRY);
+    for input in inputs {
+        let end = bytes.len() + input.count * ENTRY;
+        if let (Some(object), Some(own)) = (symbols.objects.get(input.object), of_objects.get(input.object)) {
+            write_rows(input, &mut bytes, (object, &own.targets), places, numbers);
+        }
+        bytes.resize(end, 0);
+    }
+    let ascending = are_ascending(&bytes).then(|| (offset_of(&bytes), offset_of(last_of(&bytes))));
+    Rows { bytes, ascending }
 }
 
 /// Writes the relocations of an input section; `targets` are those of its object's symbols.
 fn write_rows(
     input: &Input,
-    rows: &mut [u8],
+    rows: &mut Vec<u8>,
     (object, targets): (&Object, &[Target]),
     places: &InputPlaces,
     numbers: &Numbers<'_>,
 ) {
     let shortened = places.shortened(input.object, input.section);
     let mut last = input.place.address;
-    for (row, one) in rows.chunks_exact_mut(ENTRY).zip(object.relocations(input.section)) {
+    for one in object.relocations(input.section).take(input.count) {
         let words = match shortened.map_or(Some(one.offset), |now| now.place(one.offset)) {
             Some(offset) => {
                 let one = Relocation { offset, ..one };
@@ -152,20 +203,27 @@ fn write_rows(
             None => [last, 0, 0],
         };
         last = words[0];
+        let mut row = [0; ENTRY];
         row.chunks_exact_mut(8).zip(words).for_each(|(to, word)| to.copy_from_slice(&word.to_le_bytes()));
+        rows.extend_from_slice(&row);
     }
 }
 
-/// The input sections of an output section that have relocations, and the number of its header in the image. `counts`
-/// are those of the relocations of all sections.
-fn inputs_of(id: OutputId, symbols: &Symbols<'_>, places: &InputPlaces, counts: &[u32]) -> (Vec<Input>, usize) {
+/// The input sections of an output section that have relocations, and the number of its header in the image.
+fn inputs_of(
+    id: OutputId,
+    symbols: &Symbols<'_>,
+    places: &InputPlaces,
+    of_objects: &[OfObject],
+) -> (Vec<Input>, usize) {
     let place = symbols.evaluation.output(id).and_then(|output| output.in_image());
     let inputs = place.map_or(&[][..], |place| place.inputs.as_slice());
     let input = |id: &SectionId, least: usize| {
         let section = symbols.evaluation.section(*id)?;
         let (object, number) = (section.object.0 as usize, section.number()?);
         let is_left_out = section.flags.has(Flags::EXCLUDE | Flags::CREATED);
-        let count = places.at(object, number).and_then(|at| counts.get(at)).map_or(0, |count| *count as usize);
+        let counts = of_objects.get(object).map(|own| &own.counts);
+        let count = counts.and_then(|counts| counts.get(number.0 as usize)).map_or(0, |count| *count as usize);
         let is_wanted = count >= least && !is_left_out;
         let place = if is_wanted { places.get(object, number)? } else { return None };
         let is_debugging = section.flags.has(Flags::DEBUGGING);
@@ -177,15 +235,33 @@ fn inputs_of(id: OutputId, symbols: &Symbols<'_>, places: &InputPlaces, counts: 
 }
 
 /// Entries by ascending offsets.
-fn sorted(entries: Vec<u8>) -> Vec<u8> {
-    let offset = |row: &[u8]| row.get(..8).and_then(|bytes| bytes.try_into().ok()).map_or(0, u64::from_le_bytes);
-    let rows = || entries.chunks_exact(ENTRY);
-    if rows().zip(rows().skip(1)).all(|(one, next)| offset(one) <= offset(next)) {
-        return entries;
+fn sorted(parts: Vec<Rows>) -> Vec<Bytes> {
+    let mut last = Some(0);
+    for part in &parts {
+        let follows = |(start, _): &(u64, u64)| last.map_or(false, |last| last <= *start);
+        last = part.ascending.filter(follows).map(|(_, end)| end);
     }
-    let mut sorted: Vec<&[u8]> = rows().collect();
-    sorted.sort_by_key(|row| offset(row));
-    sorted.concat()
+    if last.is_some() {
+        return parts.into_iter().map(|part| part.bytes.into()).collect();
+    }
+    let mut rows: Vec<&[u8]> = parts.iter().flat_map(|part| part.bytes.chunks_exact(ENTRY)).collect();
+    rows.sort_by_key(|row| offset_of(row));
+    vec![rows.concat().into()]
+}
+
+fn are_ascending(rows: &[u8]) -> bool {
+    let each = || rows.chunks_exact(ENTRY);
+    each().zip(each().skip(1)).all(|(one, next)| offset_of(one) <= offset_of(next))
+}
+
+/// The last of some entries.
+fn last_of(rows: &[u8]) -> &[u8] {
+    rows.get(rows.len().saturating_sub(ENTRY)..).unwrap_or_default()
+}
+
+/// The offset of the first of some entries.
+fn offset_of(rows: &[u8]) -> u64 {
+    rows.get(..8).and_then(|bytes| bytes.try_into().ok()).map_or(0, u64::from_le_bytes)
 }
 
 /// What relocations that refer to a symbol refer to in the file.
@@ -274,5 +350,44 @@ fn row_of(
         Target::Discarded | Target::Merged(_) | Target::KeptGroups(..) => [offset, 0, 0],
         Target::Section(symbol, within) => row(symbol, within.wrapping_add(addend)),
         Target::Symbol(symbol) => row(symbol, addend),
+    }
+}
+
+#[cfg(test)]
+mod tests {
+    use super::*;
+
+    fn rows(offsets: &[u64]) -> Rows {
+        let row = |offset: &u64| [*offset, 1, 2].map(u64::to_le_bytes).concat();
+        let bytes: Vec<u8> = offsets.iter().flat_map(row).collect();
+        let ascending = are_ascending(&bytes).then(|| (offset_of(&bytes), offset_of(last_of(&bytes))));
+        Rows { bytes, ascending }
+    }
+
+    fn offsets(parts: &[&[u64]]) -> Vec<Vec<u64>> {
+        let parts = sorted(parts.iter().map(|part| rows(part)).collect());
+        parts.iter().map(|part| part.chunks_exact(ENTRY).map(offset_of).collect()).collect()
+    }
+
+    /// elflink.c, `elf_link_adjust_relocs`: offsets ascend, and equal ones keep their order.
+    #[test]
+    fn entries_ascend_over_all_parts() {
+        assert_eq!(offsets(&[&[1, 2], &[2, 3]]), [[1, 2], [2, 3]]);
+        assert_eq!(offsets(&[&[1, 4], &[2, 3]]), [[1, 2, 3, 4]]);
+        assert_eq!(offsets(&[&[2, 1], &[3]]), [[1, 2, 3]]);
+        assert!(offsets(&[]).is_empty());
+    }
+
+    #[test]
+    fn input_sections_are_written_together_up_to_enough_relocations() {
+        let place = Place { output: 1, start: 0, address: 0, is_merged: false, is_loaded: true };
+        let input = |count| Input { object: 0, section: SectionIndex(1), place, count, is_debugging: false };
+        let counts = |of: &[usize]| {
+            let inputs: Vec<Input> = of.iter().map(|count| input(*count)).collect();
+            parts_of(&inputs).iter().map(|part| part.len()).collect::<Vec<_>>()
+        };
+        assert_eq!(counts(&[1, AT_ONCE - 1, 1, 1]), [2, 2]);
+        assert_eq!(counts(&[2 * AT_ONCE, 1]), [1, 1]);
+        assert!(counts(&[]).is_empty());
     }
 }
