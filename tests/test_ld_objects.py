@@ -327,6 +327,25 @@ class NoteTest(ObjectTest):
             with self.subTest(words=words):
                 self.same(*words, "-e", "0x400000")
 
+    def test_stack_size(self) -> None:
+        """`-z stack-size` is a property, if an object has a note."""
+        a, b = self.note("a", (self.FEATURES, 3)), self.note("b")
+        c = self.note("c", (self.STACK, 8192), (self.NEEDED, 1))
+        for words in ((a,), (b,), (b, a), (c,), (a, c)):
+            for size in (4096, 0x10000):
+                with self.subTest(words=words, size=size):
+                    self.same(*words, "-e", "0x400000", "-z", f"stack-size={size}")
+
+    def test_words(self) -> None:
+        """`-z ibt` and the like make a note: GNU ld links, unless the script leaves all notes out."""
+        words = "-T", "t.ld", self.note("a", (self.FEATURES, 2)), self.note("b"), "-e", "0x400000", "-o", "own"
+        for word in ("ibt", "shstk", "x86-64-v3", "lam-u48", "indirect-extern-access"):
+            self.assertEqual(self.ld("-z", word, *words, env={"LDI_FALLBACK": "none"}).returncode, 2, word)
+            self.assertIn(f"-z {word}: a note of properties: linked by", self.ld("-z", word, *words).stderr)
+        self.links("-z", "ibtplt", "-z", "lam-report=none", *words, env={"LDI_FALLBACK": "none"})
+        self.write("t.ld", SCRIPT.replace("SECTIONS {", "SECTIONS { /DISCARD/ : { *(.note.gnu.property) }"))
+        self.links("-z", "ibt", *words, env={"LDI_FALLBACK": "none"})
+
     def test_compiler(self) -> None:
         """What `gcc -fcf-protection` writes: one note, and none where an object has none."""
         flags = ("-fcf-protection=full",)

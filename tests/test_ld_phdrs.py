@@ -4,6 +4,7 @@ from __future__ import annotations
 import re
 import struct
 
+from tests.images import read_image
 from tests.linking import LinkTest, needs
 from tests.test_ld_kernel import KERNEL, LARGE_PAGE
 
@@ -81,6 +82,22 @@ class ProgramHeaderTest(LinkTest):
             self.assertNotIn("PHDRS", said)
             self.assertNotIn("segments follow", said)
             self.assertNotIn("warning", self.run_tool("readelf", "-lSW", "image").lower())
+
+    @needs("ld.bfd")
+    def test_without_bytes(self) -> None:
+        """A PT_LOAD of zeros takes no room in the file, and a segment whose sections all go is empty, as picolibc's
+        (elf.c, `assign_file_positions_for_load_sections`, no_contents)."""
+        script = """ENTRY(start) PHDRS { text PT_LOAD; init PT_LOAD; ram PT_LOAD; tls PT_TLS; note PT_NOTE; }
+            SECTIONS { . = 0x400000; .text : { *(.text*) *(.rodata*) } :text
+            . = 0x500000; .data : { *(.data*) *(.later) } :init
+            .tdata : { *(.tdata) } :init :tls .tbss (NOLOAD) : { *(.tbss) } :init :tls SPACE : { *(.bss*) } :ram
+            .none : { *(.none) } :WHERE .end : { end = .; } :NONE /DISCARD/ : { *(*) } }"""
+        for space in (".bss", ".bss 0x601040", ".bss (NOLOAD)"):
+            for note in ("note", "ram :note"):
+                for words in ((), ("-z", f"max-page-size={LARGE_PAGE:#x}"), ("-n",)):
+                    self._links_both(script.replace("SPACE", space).replace("WHERE", note), *words)
+                    own, gnu = (read_image((self.folder / name).read_bytes()) for name in ("image", "gnu"))
+                    self.assertEqual(own.segments, gnu.segments, (space, note, words))
 
     @needs("ld.bfd")
     def test_kernel(self) -> None:

@@ -4,6 +4,7 @@ from __future__ import annotations
 from tests.beside import NONE, PLAIN, START, BesideTest
 from tests.images import EXECUTE, WRITE, Image, read_image
 from tests.programs import LDI_WATCH, OutsideTest, needs
+from tests.symbol_table import read_relocations, read_table
 from tests.test_ld_kernel import HEADER
 
 ENTRIES = START + """ push other@GOTPCREL(%rip)
@@ -35,10 +36,37 @@ class HeaderTest(BesideTest):
         got = "*(.got.plt)"
         self.write("one.ld", TABLES.replace("GOT", got).replace("REST", ""))
         self.write("two.ld", TABLES.replace("GOT", "").replace("REST", f".table : {{ {got} }}"))
-        for words in ((), ("-T", "one.ld"), ("-T", "two.ld"), ("-T", "two.ld", "-O2")):
+        for words in ((), ("-T", "one.ld"), ("-T", "two.ld"), ("-T", "two.ld", "-O2"), ("--build-id=0x12",)):
             self.same(*words, *objects)
-            headers = [self.must("readelf", "-SW", name) for name in ("own", "gnu")]
-            self.assertEqual(*(HEADER.findall(text) for text in headers), words)
+            self.same_headers(words)
+
+    def same_headers(self, words: tuple[str, ...]) -> None:
+        """The section headers of both, in their order, the tables of symbols and the relocations are the same."""
+        headers = [self.must("readelf", "-SW", name) for name in ("own", "gnu")]
+        self.assertEqual(*(HEADER.findall(text) for text in headers), words)
+        for read in (read_table, read_relocations):
+            self.assertEqual(read(self.read("own")), read(self.read("gnu")), words)
+
+    def test_sections_with_addresses(self) -> None:
+        """GNU ld makes the sections of `--section-start`, `-Ttext` and the like before all others (ldlang.c,
+        `map_input_to_output_sections`): their headers stand first, in the order of the options."""
+        objects = self.compile("a.s", START + '.quad number\n.data\nnumber: .quad 4, _start\n.section .rodata, "a"\n'
+                               '.quad 5\n.section more, "a"\n.quad 6\n.bss\n.skip 8\n.section .debug_x\n.quad number\n'),
+        late = "--section-start=more=0x20000000", "--section-start", ".data=0x10000000"
+        self.write("t.ld", "SECTIONS { . = 0x400000; .debug_x 0 : { *(.debug_x) } .text : { *(.text) } .none : { x = 1; }"
+                           " .data : { *(.data) } .kept : { y = .; } .rodata : { *(.rodata) } .bss : { *(.bss) } }")
+        for words in (("-Ttext=0x500000",), ("-Tdata=0x10000000",), ("-Tbss=0x10000000", "-Ttext=0x500000"), late,
+                      ("-q", "-Tdata=0x10000000"), ("-q", *late), ("-s", *late), ("-T", "t.ld"), ("-q", "-T", "t.ld"),
+                      ("-T", "t.ld", *late), ("-q", *late, "-T", "t.ld")):
+            self.same(*words, *objects)
+            self.same_headers(words)
+
+    def test_empty_sections(self) -> None:
+        """With `--emit-relocs` empty sections are in the file, with GNU ld's flags."""
+        objects = self.compile("a.s", START), self.compile("b.s", '.data\n.bss\n.section .init_array, "aw"\n')
+        for words in (("-q",), ("-q", "--build-id=0x12"), ()):
+            self.same(*words, *objects)
+            self.same_headers(words)
 
 
 class ScriptTest(BesideTest):
@@ -176,6 +204,20 @@ SECTIONS { . = 0; .header : { *(.header) } . = ALIGN(512); .text : { *(.data) . 
                              ".more : { LONG(end) } x = .; z = .; .last 0x60 (NOLOAD) : { . += 4; y = .; }"):
                     self.write("t.ld", script % (form, taken, more))
                     self.compare(*words, "-T", "t.ld", "a.o", env={})
+
+    def test_as_objects_have_it(self) -> None:
+        """The default script: there are no headers to count, and neither strings nor entries of `.eh_frame` are merged,
+        as the output is no ELF file."""
+        text = "{}.cfi_startproc\nnop\n.cfi_endproc\nlea .Ltext(%rip), %rax\n.quad .Ltext, _start\n" \
+               '.section .rodata.str1.1, "aMS", @progbits, 1\n.string "one"\n.Ltext: .string "text"\n'
+        objects = [self.compile(name, text.format(start)) for name, start in (("a.s", START), ("b.s", ""))]
+        self.assertEqual(self.compare("--oformat", "binary", *objects, env=NONE), "")
+        self.write("t.ld", "SECTIONS { . = 0x100000 + SIZEOF_HEADERS; .all : { *(.text .rodata* .eh_frame) } =0 }")
+        self.assertEqual(self.compare("--oformat=binary", "-T", "t.ld", *objects, env=NONE), "")
+        # What GNU ld leaves of sections and of references by a table is its own.
+        table = self.compile("c.s", "mov number@GOTPCREL(%rip), %rax\n.data\n.globl number\nnumber: .quad 1\n")
+        for words, why in (((table,), "references by a global offset table"), (("--gc-sections",), "--gc-sections")):
+            self.assertIn(f"{why}", self.compare("--oformat", "binary", *objects, *words, env={}))
 
     def test_sections_that_are_not_loaded(self) -> None:
         """`.reloc` without the flag ALLOC, as memtest86+ has it: it is linked, or the link goes to GNU ld, or none is

@@ -3,6 +3,7 @@ from __future__ import annotations
 
 from tests.programs import LDI_WATCH, OutsideTest, needs
 from tests.symbol_table import Table, read_table
+from tests.test_ld_kernel import HEADER
 
 NONE = {"LDI_FALLBACK": "none"}
 SCRIPT = """ENTRY(start)
@@ -111,9 +112,26 @@ class OptionTest(SymbolTest):
             with self.subTest(word):
                 self.assertIsNotNone(self.same(*word, "-T", "t.ld", *objects))
 
+    def test_wanted(self) -> None:
+        """A name that is asked for is in the table, though nothing defines it (ldlang.c, `ldlang_add_undef`)."""
+        objects = self.objects()
+        self.write("more.ld", SCRIPT + "EXTERN(of_script function)\n")
+        for words in (("-u", "missing"), ("-u", "nobody", "-u", "function", "-x"), ("-u", "missing", "-q")):
+            for script in ("t.ld", "more.ld"):
+                self.same(*words, "-T", script, *objects)
+        table = self.same("-u", "missing", "-s", "-T", "t.ld", *objects)
+        self.assertIsNone(table)
+        plain = self.compile("plain.s", ".globl f\nf: nop\n")
+        for words in ((), ("-e", "f"), ("-e", "missing"), ("-u", "_start"), ("-u", "f", "-e", "0x401000")):
+            self.same(*words, plain)
+
     def test_none(self) -> None:
-        """`-s`: the image has no table of symbols."""
-        self.assertIsNone(self.same("-s", "-T", "t.ld", *self.objects()))
+        """`-s`: the image has no table of symbols, and GNU ld's sections, also under the default script."""
+        objects = self.objects()
+        names = self.compile("d.s", ".globl _start, provided, provided_hidden\n_start: provided: provided_hidden: nop\n")
+        for words in (("-T", "t.ld"), (names,)):
+            self.assertIsNone(self.same("-s", *words, *objects))
+            self.assertEqual(*(HEADER.findall(self.must("readelf", "-SW", name)) for name in ("own", "gnu")))
 
     def test_retained(self) -> None:
         """`--retain-symbols-file`: the names in the file alone; the last of `-s`, `-S` and this counts."""

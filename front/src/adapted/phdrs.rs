@@ -44,6 +44,9 @@ struct Member<'a> {
     /// Whether it is in no segment without a name, not in that of the section before it (ldlang.c,
     /// `lang_record_phdrs`).
     is_unloaded: bool,
+    /// Whether GNU ld's file has it: not, if it is empty and nothing keeps it (ldlang.c,
+    /// `strip_excluded_output_sections`).
+    is_in_file: bool,
 }
 
 fn wanted(walk: &Walk<'_>, headers: &[&Spanned<ProgramHeader>]) -> Result<Vec<WantedSegment>, String> {
@@ -62,7 +65,8 @@ fn wanted(walk: &Walk<'_>, headers: &[&Spanned<ProgramHeader>]) -> Result<Vec<Wa
 fn members<'a>(walk: &'a Walk<'_>) -> Vec<Member<'a>> {
     let mut found: Vec<(u32, Member<'a>)> = Vec::new();
     for (section, span) in sections(walk.script) {
-        let place = walk.request.evaluation.and_then(|evaluation| evaluation.output_at(span)?.place.as_ref());
+        let output = walk.request.evaluation.and_then(|evaluation| evaluation.output_at(span));
+        let place = output.and_then(|output| output.place.as_ref());
         if place.is_none() && section.constraint.is_some() {
             continue;
         }
@@ -70,10 +74,12 @@ fn members<'a>(walk: &'a Walk<'_>) -> Vec<Member<'a>> {
         let segments = section.segments.iter().map(|segment| &segment.node).collect();
         let kind = section.kind.as_ref().map(|kind| &kind.node);
         let is_unloaded = matches!(kind, Some(SectionType::NoLoad | SectionType::NotAllocated(_)));
-        found.push((span.start, Member { name, segments, is_unloaded }));
+        let is_in_file = output.map_or(true, |output| output.in_image().is_some());
+        found.push((span.start, Member { name, segments, is_unloaded, is_in_file }));
     }
     let orphans = walk.orphans.written().map(|(at, name, segments)| {
-        (at, Member { name: Some(name.clone()), segments: segments.iter().collect(), is_unloaded: false })
+        let (name, segments) = (Some(name.clone()), segments.iter().collect());
+        (at, Member { name, segments, is_unloaded: false, is_in_file: true })
     });
     found.extend(orphans);
     found.sort_by_key(|(at, _)| *at);
@@ -103,14 +109,14 @@ fn inside(segment: &WantedSegment, members: &[Member<'_>]) -> Vec<Name> {
         members.iter().find(|one| !one.segments.is_empty()).map_or_else(Vec::new, |one| one.segments.clone());
     let mut last = first;
     let mut found = Vec::new();
-    for Member { name, segments: own, is_unloaded } in members {
+    for Member { name, segments: own, is_unloaded, is_in_file } in members {
         if own.is_empty() && (segment.kind == elf::PT_INTERP || *is_unloaded) {
             continue;
         }
         if !own.is_empty() {
             last = own.clone();
         }
-        if let (Some(name), true) = (name, last.contains(&&segment.name)) {
+        if let (Some(name), true) = (name, *is_in_file && last.contains(&&segment.name)) {
             found.push(name.clone());
         }
     }

@@ -256,7 +256,7 @@ impl FilePlan {
     }
 
     /// Takes section headers out; what refers to sections has their new numbers already.
-    pub(super) fn take_out(&mut self, numbers: &[usize]) {
+    fn take_out(&mut self, numbers: &[usize]) {
         let mut number = 0;
         self.sections.retain(|_| {
             number += 1;

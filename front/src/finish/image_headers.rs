@@ -56,6 +56,20 @@ pub(super) struct Section {
 }
 
 impl Section {
+    /// A header of zeros.
+    pub(super) const NONE: Section = Section {
+        name: 0,
+        kind: 0,
+        flags: 0,
+        address: 0,
+        offset: 0,
+        size: 0,
+        link: 0,
+        info: 0,
+        align: 0,
+        entry_size: 0,
+    };
+
     /// The address after it.
     pub(super) fn end(&self) -> u64 {
         self.address.wrapping_add(self.size)

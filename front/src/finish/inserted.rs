@@ -33,7 +33,7 @@ pub(super) fn insert(data: &[u8], sections: OtherSections, plan: &mut Option<Fil
     if sections.is_empty() {
         return Ok(());
     }
-    let OtherSections { relocations, missing, dropped } = sections;
+    let OtherSections { relocations, missing, dropped, empty, order } = sections;
     let image = Image::read(data)?;
     let mut changed = plan_or_unchanged(data, plan.take())?;
     let mut names = changed.names_of(&image)?;
@@ -44,13 +44,15 @@ pub(super) fn insert(data: &[u8], sections: OtherSections, plan: &mut Option<Fil
         inserted.push(of_relocations(table, name));
     }
     inserted.extend(missing.into_iter().map(of_nothing));
+    let order: Vec<usize> = (0..changed.sections.len()).map(|at| order.get(at).copied().unwrap_or(at)).collect();
     // Stable, so that relocations follow their section at once.
-    inserted.sort_by_key(|one| one.after);
-    let numbers = Numbers::of(changed.sections.len(), &inserted, &dropped);
+    inserted.sort_by_cached_key(|one| order.iter().position(|number| *number == one.after));
+    empty.iter().for_each(|one| changed.put_empty(one));
+    let numbers = Numbers::of(&order, &inserted, &dropped);
     let table = changed.sections.iter().position(|section| section.kind == elf::SHT_SYMTAB);
     let table = table.map_or(0, |table| numbers.get(table) as u32);
     changed.renumber(&|number| numbers.get(number));
-    changed.take_out(&dropped);
+    changed.arrange(order.into_iter().filter(|number| dropped.binary_search(number).is_err()));
     if let Some(Some(symbols)) = &mut changed.symbols {
         renumber_homes(symbols, &numbers);
     }
@@ -77,12 +79,13 @@ struct Numbers {
 }
 
 impl Numbers {
-    fn of(count: usize, inserted: &[Inserted], dropped: &[usize]) -> Numbers {
-        let mut found = Numbers { numbers: Vec::with_capacity(count), inserted: Vec::new(), referred: Vec::new() };
+    /// The numbers of sections in an order, some of which are taken out.
+    fn of(order: &[usize], inserted: &[Inserted], dropped: &[usize]) -> Numbers {
+        let mut found = Numbers { numbers: vec![0; order.len()], inserted: Vec::new(), referred: Vec::new() };
         let mut rest = inserted.iter().peekable();
         let mut next = 0;
-        for number in 0..count {
-            found.numbers.push(next);
+        for number in order.iter().copied() {
+            found.numbers.get_mut(number).into_iter().for_each(|own| *own = next);
             next += usize::from(dropped.binary_search(&number).is_err());
             while let Some(one) = rest.next_if(|one| one.after == number) {
                 found.inserted.push(next);
@@ -106,21 +109,16 @@ fn of_relocations(table: RelocationTable, name: &[u8]) -> Inserted {
         after: table.section,
         number: None,
         name: [&b".rela"[..], name].concat().into(),
-        header: Section { kind: elf::SHT_RELA, flags, size, align: 8, entry_size: ENTRY, ..NO_SECTION },
+        header: Section { kind: elf::SHT_RELA, flags, size, align: 8, entry_size: ENTRY, ..Section::NONE },
         target: Some(table.section),
         content: table.entries,
     }
 }
 
 fn of_nothing(section: EmptySection) -> Inserted {
-    let EmptySection { after, number, name, kind, flags, address, align } = section;
-    let header = Section { kind, flags, address, align, ..NO_SECTION };
+    let EmptySection { after, number, name, header } = section;
     Inserted { after, number: Some(number), name, header, target: None, content: Vec::new() }
 }
-
-/// A header of zeros.
-const NO_SECTION: Section =
-    Section { name: 0, kind: 0, flags: 0, address: 0, offset: 0, size: 0, link: 0, info: 0, align: 0, entry_size: 0 };
 
 /// A text of a table of names.
 fn name_at(names: &[u8], at: usize) -> &[u8] {
@@ -163,6 +161,19 @@ impl FilePlan {
         }
     }
 
+    /// Gives a section without bytes another header.
+    fn put_empty(&mut self, empty: &EmptySection) {
+        if let Some(section) = self.sections.get_mut(usize::from(empty.number)) {
+            let Section { name, offset, .. } = *section;
+            *section = Section { name, offset, ..empty.header };
+        }
+    }
+
+    /// Brings section headers into an order; what refers to sections has their new numbers already.
+    fn arrange(&mut self, order: impl Iterator<Item = usize>) {
+        self.sections = order.filter_map(|number| self.sections.get(number).copied()).collect();
+    }
+
     /// Puts a section in its place.
     fn put(&mut self, number: usize, header: Section, content: Vec<Bytes>) {
         self.sections.insert(number.min(self.sections.len()), header);
@@ -178,8 +189,17 @@ mod tests {
     #[test]
     fn numbers_of_sections_that_stay() {
         let inserted = [of_relocations(RelocationTable { section: 1, entries: vec![vec![0; 24].into()] }, b".text")];
-        let numbers = Numbers::of(5, &inserted, &[2, 3]);
+        let numbers = Numbers::of(&[0, 1, 2, 3, 4], &inserted, &[2, 3]);
         assert_eq!(numbers.inserted, [2]);
         assert_eq!([0, 1, 4].map(|number| numbers.get(number)), [0, 1, 3]);
+    }
+
+    /// ldlang.c, `map_input_to_output_sections`: a section of `--section-start` is made first.
+    #[test]
+    fn numbers_of_sections_in_another_order() {
+        let inserted = [of_relocations(RelocationTable { section: 3, entries: vec![0; 24].into() }, b".data")];
+        let numbers = Numbers::of(&[0, 3, 1, 2, 4], &inserted, &[1]);
+        assert_eq!(numbers.inserted, [2]);
+        assert_eq!([0, 3, 2, 4].map(|number| numbers.get(number)), [0, 1, 3, 4]);
     }
 }

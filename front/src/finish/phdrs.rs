@@ -144,6 +144,8 @@ impl Entry<'_> {
 struct Writer<'a> {
     parts: Vec<Part<'a>>,
     entries: Vec<Entry<'a>>,
+    /// What segments are aligned to in the file, a power of two.
+    page: u64,
 }
 
 /// The file with the program headers of PHDRS, its segments aligned to `page` or more.
@@ -153,8 +155,9 @@ pub(super) fn write(data: &[u8], wanted: &[WantedSegment], page: u64) -> Result<
         return Err(NotWritten::TooMany(wanted.len()));
     }
     let parts = parts_of(&image)?;
-    let entries = entries_of(&parts, wanted, page.max(1));
-    let mut writer = Writer { parts, entries };
+    let page = page.max(1);
+    let entries = entries_of(&parts, wanted, page);
+    let mut writer = Writer { parts, entries, page };
     let end = writer.place_loads()?;
     let end = writer.place_others(end);
     if end > MAX_FILE {
@@ -231,6 +234,12 @@ impl Writer<'_> {
         Ok(())
     }
 
+    /// Whether the file has bytes of a segment.
+    fn is_in_file(&self, entry: &Entry<'_>) -> bool {
+        let mut parts = entry.parts.iter().filter_map(|at| self.part(*at));
+        entry.wants_headers() || parts.any(|part| part.header.is_in_file())
+    }
+
     /// Gives the sections of each PT_LOAD their places, one segment after the other; gives the end of the last one.
     fn place_loads(&mut self) -> Result<u64, NotWritten> {
         let mut end = ELF_HEADER + PROGRAM_HEADER * self.entries.len() as u64;
@@ -246,6 +255,8 @@ impl Writer<'_> {
             };
             self.check_order(entry)?;
             let start = end.wrapping_add(first.wrapping_sub(end) & (entry.align - 1));
+            // A segment without bytes takes no room in the file.
+            let start = if self.is_in_file(entry) { start } else { start & (self.page - 1) };
             for at in &entry.parts {
                 let part = match self.part(*at) {
                     Some(part) => part,

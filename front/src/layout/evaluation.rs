@@ -403,6 +403,8 @@ pub struct Symbol {
     /// Whether an assignment of it stands in an output section that counts, or outside of all: GNU ld's table of
     /// symbols has it then, even if it is undefined.
     pub is_recorded: bool,
+    /// Whether the command or the script asks for it: GNU ld's table of symbols has it, even if nothing defines it.
+    pub is_asked_for: bool,
     /// Whether GNU ld has given it a value as the start or end of a section, which may not stay.
     pub is_bound: bool,
     /// Its value when GNU ld looks at relocations, before sections have places, of a symbol that the script assigns.

@@ -49,8 +49,11 @@ pub(crate) fn room(place: &Place) -> u64 {
 }
 
 impl Link<'_> {
-    /// The value of SIZEOF_HEADERS now.
+    /// The value of SIZEOF_HEADERS now; a flat image has no headers.
     pub fn headers_size(&mut self) -> u64 {
+        if self.settings.flat {
+            return 0;
+        }
         let count = match self.headers.count {
             Some(count) => count,
             None => self.program.phdrs.filter(|count| *count > 0).unwrap_or_else(|| self.guess_headers()),

@@ -126,6 +126,7 @@ impl Link<'_> {
             section: self.section_of(symbol),
             is_local: false,
             is_recorded: false,
+            is_asked_for: symbol.is_asked_for,
             is_bound: false,
             first_value: symbol.first_value,
             likes: if symbol.of_script { symbol.likes.clone() } else { Vec::new() },

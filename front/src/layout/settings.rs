@@ -49,7 +49,7 @@ pub struct Settings {
     /// Whether the script is read before the objects: it stands before them on the command line. The default script is
     /// read after them.
     pub script_first: bool,
-    /// Whether the output is no ELF file (`--oformat binary`), in which NOLOAD takes no memory.
+    /// Whether the output is no ELF file (`--oformat binary`), in which headers and NOLOAD take no memory.
     pub flat: bool,
     /// `--no-check-sections` is not given: sections that overlap, and those without a region of MEMORY, are refused.
     pub checks_sections: bool,
@@ -60,7 +60,7 @@ pub struct Settings {
     pub merges: bool,
     /// `-S`, `-s`: debug information is left out, wherever the script places it.
     pub strips_debugging: bool,
-    /// `--traditional-format`: stabs and entries of `.eh_frame` stay as they are.
+    /// `--traditional-format`, or a flat image: stabs and entries of `.eh_frame` stay as they are.
     pub is_traditional: bool,
 }
 

@@ -39,6 +39,8 @@ pub(crate) struct SymbolState {
     pub is_in_objects: bool,
     pub is_hidden: bool,
     pub by_linker: bool,
+    /// Whether the command or the script asks for it (`-u`, `-e`, EXTERN, ENTRY).
+    pub is_asked_for: bool,
     /// Whether the symbol is in a section that is not linked.
     pub is_unlinked: bool,
     /// The output section that an address of the script becomes one of at the end.
@@ -94,6 +96,7 @@ impl Symbols {
             is_in_objects: false,
             is_hidden: false,
             by_linker: false,
+            is_asked_for: false,
             is_unlinked: false,
             final_section: None,
             likes: Vec::new(),

@@ -10,6 +10,8 @@ use std::collections::BTreeMap;
 pub const PROPERTIES: &str = ".note.gnu.property";
 /// NT_GNU_PROPERTY_TYPE_0
 const NOTE_KIND: u32 = 5;
+/// GNU_PROPERTY_STACK_SIZE
+const STACK_SIZE: u32 = 1;
 /// The bytes of a note before its properties: three words and its owner's name.
 const HEAD: usize = 16;
 const OWNER: &[u8] = b"GNU\0";
@@ -38,7 +40,7 @@ impl Rule {
     /// The rule of a type; `None` of one that GNU ld does not know.
     fn of(kind: u32) -> Option<Rule> {
         match kind {
-            1 => Some(Rule::Greatest),
+            STACK_SIZE => Some(Rule::Greatest),
             2 => Some(Rule::Present),
             0xC000_0000 | 0xC001_0000..=0xC001_7FFF => Some(Rule::OrOfAll),
             0xC000_0001 | 0xB000_8000..=0xB000_FFFF | 0xC000_8000..=0xC000_FFFF => Some(Rule::Or),
@@ -118,6 +120,14 @@ impl Properties {
         let new = new.filter(|(kind, value)| Rule::of(**kind).map_or(false, |rule| rule.is_added(**value)));
         merged.extend(new.map(|(kind, value)| (*kind, *value)));
         self.0 = merged;
+    }
+
+    /// Takes the size of `-z stack-size`, if there is one.
+    pub fn merge_stack_size(&mut self, size: u64) {
+        if size != 0 {
+            let known = self.0.entry(STACK_SIZE).or_insert(0);
+            *known = size.max(*known);
+        }
     }
 
     /// The note of the properties; `None` if there are none (elfxx-x86.c, `_bfd_x86_elf_link_fixup_gnu_properties`).
@@ -248,6 +258,12 @@ mod tests {
     fn a_stack_is_the_greatest() {
         assert_eq!(merged(&[(1, 4)], Some(&[(1, 8)])), properties(&[(1, 8)]));
         assert_eq!(merged(&[(2, 0)], Some(&[(1, 8)])), properties(&[(1, 8), (2, 0)]));
+        let mut found = properties(&[(2, 0)]);
+        found.merge_stack_size(0);
+        assert_eq!(found, properties(&[(2, 0)]));
+        found.merge_stack_size(8);
+        found.merge_stack_size(4);
+        assert_eq!(found, properties(&[(1, 8), (2, 0)]));
         assert_eq!(properties(&[]).note(), None);
         assert_eq!(properties(&[(FEATURES, 0)]).note(), None);
     }

@@ -95,9 +95,14 @@ impl BuildIdNote {
         &self.objects
     }
 
+    /// The place that an object has beside that of the note.
+    pub(super) fn place_beside(place: usize) -> usize {
+        place + usize::from(place >= AT)
+    }
+
     /// Takes an object in the place of another one.
     pub(super) fn put(&mut self, place: usize, object: Object) {
-        let place = place + usize::from(place >= AT);
+        let place = BuildIdNote::place_beside(place);
         if let Some(old) = self.objects.get_mut(place) {
             *old = object.clone();
         }

@@ -110,7 +110,7 @@ pub(super) fn says_stack(command: &Command) -> bool {
 }
 
 /// `-z stack-size=V`
-fn stack_size(command: &Command) -> u64 {
+pub(super) fn stack_size(command: &Command) -> u64 {
     let size = |word: &BString| number(word.strip_prefix(b"stack-size=")?);
     command.keywords.iter().rev().find_map(size).unwrap_or(0)
 }

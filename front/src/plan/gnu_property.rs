@@ -1,13 +1,11 @@
 //! One note of properties for all objects of a link, in the first that has one (bfd/elf-properties.c,
 //! `_bfd_elf_link_setup_gnu_properties`).
 
+use super::program_headers::stack_size;
 use crate::command::Command;
 use crate::layout::glob;
 use crate::objects::{Object, Properties, SectionIndex, PROPERTIES};
 use crate::script::tree::{InputStatement, Script, SectionStatement, SectionsStatement, Statement};
-
-/// How words of `-z` begin that change the note.
-const WORDS: [&[u8]; 6] = [b"ibt", b"shstk", b"lam-", b"x86-64-", b"stack-size=", b"indirect-extern-access"];
 
 /// The objects of a link with one note.
 #[derive(Debug)]
@@ -25,8 +23,7 @@ impl GnuProperty {
     /// what GNU ld makes of them.
     pub(super) fn of(command: &Command, script: &Script, objects: &[Object]) -> Option<GnuProperty> {
         let first = objects.iter().position(|object| object.property_notes().next().is_some())?;
-        let is_other = |word: &bstr::BString| WORDS.iter().any(|begin| word.starts_with(begin)) && word != "ibtplt";
-        if command.keywords.iter().any(is_other) || leaves_out(script, PROPERTIES.as_bytes()) {
+        if leaves_out(script, PROPERTIES.as_bytes()) {
             return None;
         }
         let mut merged = properties_of(objects.get(first)?)?.unwrap_or_default();
@@ -36,6 +33,7 @@ impl GnuProperty {
                 merged.merge(other.as_ref());
             }
         }
+        merged.merge_stack_size(stack_size(command));
         let mut notes = GnuProperty { first, note: merged.note(), objects: Vec::new() };
         notes.objects = objects.iter().enumerate().map(|(place, object)| notes.rewritten(place, object)).collect();
         Some(notes)

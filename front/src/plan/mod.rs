@@ -17,6 +17,7 @@ mod got_unrelaxed;
 mod incremental;
 mod loaded;
 mod merged_objects;
+mod other_linkers;
 mod overridden;
 mod placed_commons;
 mod programs;
@@ -34,7 +35,7 @@ use bstr::{BStr, BString, ByteSlice};
 
 use crate::adapted::{adapted_script, has_names, AdaptedScript, Request};
 use crate::command::{Command, Orphans, OutputFormat};
-use crate::finish::{Form, KeptTables, LaidOut, LinkedNames, Rights, Strip, Symbols, PAGE};
+use crate::finish::{Form, KeptTables, LaidOut, LinkedNames, Rights, Symbols, PAGE};
 use crate::gnu_map::{Named, NamedDefinition};
 use crate::inputs::{self, InputFault, Loaded, ScriptInputs};
 use crate::layout::evaluation::Placed;
@@ -112,6 +113,7 @@ impl Inputs {
         }
         got_references::check(command, &loaded.objects)?;
         wraps::check(command, &scripts)?;
+        other_linkers::check(command, &scripts, &loaded.objects)?;
         scripts.rename_files(&loaded.renamed);
         let mut inputs = Inputs {
             scripts,
@@ -146,6 +148,12 @@ impl Inputs {
     /// The objects with the table of references, and without the note of the build ID.
     fn objects_with_got(&self) -> &[Object] {
         self.got.as_ref().map_or_else(|| self.objects_with_eh_frame_hdr(), Got::objects)
+    }
+
+    /// The place among the objects of that of the table of references.
+    fn place_of_got(&self) -> Option<usize> {
+        let place = self.got.as_ref().and_then(Got::at)?;
+        Some(if self.build_id_note.is_ok() { BuildIdNote::place_beside(place) } else { place })
     }
 
     /// The objects with the note of properties and the table of entries, and without the other two.
@@ -260,7 +268,7 @@ impl LinkPlan {
         let options = options_of(command, adapted.entry.as_ref().map(|name| name.as_bstr()));
         let form = form_of(command, &inputs, &adapted, evaluation.as_ref().ok());
         let changed = as_changed(held, &inputs, &evaluation, &made_loaded, &adapted);
-        let wanted = evaluation.as_ref().ok().filter(|_| !form.is_flat && form.symbols.strip != Strip::All);
+        let wanted = evaluation.as_ref().ok().filter(|_| !form.is_flat);
         let names = wanted.map(|evaluation| LinkedNames::of(inputs.objects(), evaluation, names));
         let kept = Kept::default();
         LinkPlan {
@@ -574,7 +582,7 @@ fn is_flat(command: &Command, scripts: &Scripts) -> bool {
 /// The rights of GNU ld's sections. What has `.got.plt` says the size of its entries (elfxx-x86.c,
 /// `_bfd_x86_elf_finish_dynamic_sections`).
 fn rights_of(inputs: &Inputs, evaluation: &Evaluation) -> Vec<Rights> {
-    let table = inputs.got.as_ref().and_then(Got::at).map(|at| ObjectIndex(at as u32));
+    let table = inputs.place_of_got().map(|at| ObjectIndex(at as u32));
     let is_of_table = |id: &SectionId| {
         let section = evaluation.sections.get(id.index());
         section.map_or(false, |one| Some(one.object) == table && one.number() == Some(HEADER_SECTION))

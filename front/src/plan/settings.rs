@@ -12,6 +12,7 @@ use crate::layout::Settings;
 
 /// The settings of a layout for a command and its scripts.
 pub fn settings_of(command: &Command, scripts: &Scripts) -> Settings {
+    let is_flat = super::is_flat(command, scripts);
     let mut settings = Settings {
         paged: !command.is_omagic && !command.is_nmagic,
         text_read_only: !command.is_omagic,
@@ -23,10 +24,10 @@ pub fn settings_of(command: &Command, scripts: &Scripts) -> Settings {
         has_stack: says_stack(command),
         keeps_empty: command.emits_relocations,
         script_first: scripts.is_own && script_is_first(command),
-        flat: super::is_flat(command, scripts),
-        merges: true,
+        flat: is_flat,
+        merges: !is_flat,
         strips_debugging: strips_debugging(command),
-        is_traditional: command.is_traditional,
+        is_traditional: command.is_traditional || is_flat,
         ..Settings::default()
     };
     settings.set_pages(command.page_size, command.common_page_size);

@@ -144,8 +144,10 @@ fn part_of(names: &Names<'_>, used: Option<&[bool]>, first: usize) -> Part {
         Part { locals: Vec::new(), writer: Writer::part(AT_ONCE, None), numbers: Vec::with_capacity(AT_ONCE) };
     for (number, one) in (first..).zip(linked).take(AT_ONCE) {
         let is_used = used.and_then(|used| used.get(number)) == Some(&true);
-        let found = names.entry_of(number, one, is_used).filter(|_| is_used || !names.options.strips(&one.name));
-        match found.or_else(|| is_used.then(|| (names.undefined(one), false))) {
+        let is_undefined = is_used || names.is_asked_for(one);
+        let found = names.entry_of(number, one, is_used);
+        let found = found.or_else(|| is_undefined.then(|| (names.undefined(one), false)));
+        match found.filter(|_| is_used || !names.options.strips(&one.name)) {
             Some((entry, true)) => part.locals.push((number, entry)),
             Some((entry, false)) => {
                 part.numbers.push(number);
@@ -260,9 +262,16 @@ impl<'a> Names<'a> {
 
     /// The entry of a name that nothing defines.
     fn undefined(&self, one: &LinkedName) -> SymbolEntry {
-        let binding = if one.is_needed { elf::STB_GLOBAL } else { elf::STB_WEAK };
+        let is_needed = one.is_needed || self.is_asked_for(one);
+        let binding = if is_needed { elf::STB_GLOBAL } else { elf::STB_WEAK };
         let other = self.visibility_of(one, self.known(one));
         SymbolEntry { info: binding << 4 | one.kind, other, ..SymbolEntry::default() }
+    }
+
+    /// Whether the command or the script asks for a name that nothing defines (ldlang.c, `ldlang_add_undef`).
+    fn is_asked_for(&self, one: &LinkedName) -> bool {
+        let is_free = |known: &Symbol| known.is_asked_for && matches!(known.definer, Definer::None);
+        one.defined_by.is_none() && self.known(one).map_or(false, is_free)
     }
 
     /// What the layout says of a name.

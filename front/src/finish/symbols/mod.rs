@@ -161,12 +161,20 @@ pub struct OtherSections {
     pub(super) missing: Vec<EmptySection>,
     /// The numbers, ascending, of the sections without bytes that the image has and GNU ld's file has not.
     pub(super) dropped: Vec<usize>,
+    /// The sections without bytes of both, by their numbers, whose headers are others in GNU ld's file.
+    pub(super) empty: Vec<EmptySection>,
+    /// By place: the number of the section that stands there in GNU ld's file; that of the place, past its end.
+    pub(super) order: Vec<usize>,
 }
 
 impl OtherSections {
     /// Whether the sections are those of the image.
     pub(super) fn is_empty(&self) -> bool {
-        self.relocations.is_empty() && self.missing.is_empty() && self.dropped.is_empty()
+        self.relocations.is_empty()
+            && self.missing.is_empty()
+            && self.dropped.is_empty()
+            && self.empty.is_empty()
+            && self.order.is_empty()
     }
 }
 

@@ -20,6 +20,10 @@ pub(super) struct Outputs {
     missing: Vec<EmptySection>,
     /// The numbers of those of the image that GNU ld's file has not.
     dropped: Vec<usize>,
+    /// Those without bytes of both that GNU ld's file has with another header.
+    empty: Vec<EmptySection>,
+    /// By place: the number of the section that stands there in GNU ld's file.
+    order: Vec<usize>,
 }
 
 /// An output section without bytes that GNU ld's file has and the image has not.
@@ -31,11 +35,8 @@ pub(in crate::finish) struct EmptySection {
     pub(in crate::finish) number: u16,
     /// Its name.
     pub(in crate::finish) name: BString,
-    /// Its type, flags, address and alignment.
-    pub(in crate::finish) kind: u32,
-    pub(in crate::finish) flags: u64,
-    pub(in crate::finish) address: u64,
-    pub(in crate::finish) align: u64,
+    /// Its header, without name, link and info.
+    pub(in crate::finish) header: Section,
 }
 
 /// An output section in the image.
@@ -70,6 +71,8 @@ impl Outputs {
             instead: HashMap::new(),
             missing: Vec::new(),
             dropped: Vec::new(),
+            empty: Vec::new(),
+            order: Vec::new(),
         };
         let mut wanted: Vec<Wanted<'_>> = Vec::new();
         for id in &symbols.evaluation.order {
@@ -88,11 +91,14 @@ impl Outputs {
         outputs.assign_headers(&mut wanted, &mut headers, &is_at);
         outputs.assign_headers(&mut wanted, &mut headers, &is_named);
         outputs.take_unloaded(&others, unloaded, first_unloaded(image));
-        outputs.make_missing(symbols.evaluation, image.sections.len() + unloaded.len());
+        let count = image.sections.len() + unloaded.len();
+        outputs.make_missing(symbols.evaluation, count);
         outputs.find_instead(&headers, symbols);
         if symbols.map.is_none() {
             let empty = headers.iter().filter(|header| header.size == 0);
             outputs.dropped = empty.map(|header| usize::from(header.output.number)).collect();
+            outputs.empty = outputs.other_headers(image, symbols.evaluation);
+            outputs.order = outputs.listed(symbols.evaluation, count);
         }
         Ok(outputs)
     }
@@ -111,7 +117,7 @@ impl Outputs {
     /// Gives sections without bytes that the image has not numbers from one on that no section has.
     fn make_missing(&mut self, evaluation: &Evaluation, first: usize) {
         let mut after = 0;
-        for id in &evaluation.order {
+        for id in &evaluation.listed {
             if let Some(output) = self.get(*id) {
                 after = if output.is_loaded { output.number.into() } else { after };
                 continue;
@@ -127,15 +133,45 @@ impl Outputs {
                 _ => continue,
             };
             *slot = Some(Output { number, address: place.address, is_loaded: true });
-            let (kind, flags, align) = (place.kind, place.bits, place.align);
-            let (name, address) = (output.name.clone(), place.address);
-            self.missing.push(EmptySection { after, number, name, kind, flags, address, align });
+            self.missing.push(EmptySection { after, number, name: output.name.clone(), header: header_of(place) });
         }
+    }
+
+    /// The sections without bytes of both that GNU ld's file has with another header.
+    fn other_headers(&self, image: &Image<'_>, evaluation: &Evaluation) -> Vec<EmptySection> {
+        let of = |id: &OutputId| {
+            let place = evaluation.output(*id)?.in_image().filter(|place| place.size == 0)?;
+            let number = self.get(*id)?.number;
+            let own = image.sections.get(usize::from(number)).filter(|own| own.is_allocated())?;
+            let Section { name, offset, link, info, .. } = *own;
+            let header = Section { name, offset, link, info, ..header_of(place) };
+            let name = BString::default();
+            (header != *own).then_some(EmptySection { after: number.into(), number, name, header })
+        };
+        evaluation.order.iter().filter_map(of).collect()
+    }
+
+    /// By place: the number of the section that stands there in GNU ld's file, of `count`; nothing if all stand where
+    /// they do in the image. What it does not list stays (bfd/section.c: a section is listed once it is made).
+    fn listed(&self, evaluation: &Evaluation, count: usize) -> Vec<usize> {
+        let numbers = evaluation.listed.iter().filter_map(|id| self.get(*id)).map(|output| usize::from(output.number));
+        let listed: Vec<usize> = numbers.filter(|number| *number < count).collect();
+        let mut places = listed.clone();
+        places.sort_unstable();
+        if places == listed {
+            return Vec::new();
+        }
+        let mut order: Vec<usize> = (0..count).collect();
+        for (place, number) in places.into_iter().zip(listed) {
+            order.get_mut(place).into_iter().for_each(|at| *at = number);
+        }
+        order
     }
 
     /// How the sections of the file differ from those of the image (ldlang.c, `strip_excluded_output_sections`).
     pub(super) fn into_sections(self, relocations: Vec<RelocationTable>) -> OtherSections {
-        OtherSections { relocations, missing: self.missing, dropped: self.dropped }
+        let Outputs { missing, dropped, empty, order, .. } = self;
+        OtherSections { relocations, missing, dropped, empty, order }
     }
 
     /// Gives sections that are not loaded their numbers, from the first one on: those that are not empty, in their
@@ -191,6 +227,12 @@ impl Outputs {
 
 /// An output section of the layout.
 type Wanted<'a> = (OutputId, &'a OutputSection, &'a Placed);
+
+/// The header of an output section without bytes.
+fn header_of(place: &Placed) -> Section {
+    let Placed { kind, bits: flags, address, align, entry_size, .. } = *place;
+    Section { kind, flags, address, align, entry_size, ..Section::NONE }
+}
 
 /// The number of the first section that is not loaded: those of the link stand before those of the file itself.
 fn first_unloaded(image: &Image<'_>) -> usize {

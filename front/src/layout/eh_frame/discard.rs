@@ -74,14 +74,15 @@ impl Link<'_> {
     /// Leaves out entries, and gives whether a section has another size, and how many functions have one, if all
     /// entries are understood.
     fn choose_frames(&mut self, objects: &[Object]) -> (bool, Option<usize>) {
+        if self.settings.is_traditional {
+            self.frames_left = FramesLeft::AsInGnu;
+            return (false, None);
+        }
         let output = match first_made(self, b".eh_frame").filter(|_| self.settings.merges) {
             Some(output) => output,
             None => return (false, None),
         };
         self.frames_left = FramesLeft::AsInGnu;
-        if self.settings.is_traditional {
-            return (false, None);
-        }
         let inputs = self.place(output).map_or_else(Vec::new, |place| place.inputs.clone());
         let mut frames = self.frames_of(&inputs, objects);
         frames.choose(self, objects, inputs.last().copied());

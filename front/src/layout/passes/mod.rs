@@ -126,6 +126,7 @@ impl Link<'_> {
             let id = self.program.symbols.enter(&name);
             if let Some(symbol) = self.program.symbols.know(id) {
                 symbol.kind = SymbolKind::Undefined;
+                symbol.is_asked_for = true;
             }
         }
     }
