@@ -61,6 +61,15 @@ class HeaderTest(BesideTest):
             self.same(*words, *objects)
             self.same_headers(words)
 
+    def test_address_that_is_not_aligned(self) -> None:
+        """A section has the greatest alignment that its own and its address have (elf.c, `elf_fake_sections`)."""
+        objects = self.compile("a.s", START + ".balign 64\n.data\n.balign 32\n.quad 1\n.bss\n.balign 4096\n.skip 8\n"),
+        self.write("t.ld", "SECTIONS { .text 0x400021 : { *(.text) } =0 .data 0x500008 : { *(.data) } "
+                           ".bss . : { . = ALIGN(8); *(.bss) } .none 0x600004 : { x = .; } }")
+        for words in (("-T", "t.ld"), ("-q", "-T", "t.ld"), ("-Tdata=0x10000010",)):
+            self.same(*words, *objects)
+            self.same_headers(words)
+
     def test_empty_sections(self) -> None:
         """With `--emit-relocs` empty sections are in the file, with GNU ld's flags."""
         objects = self.compile("a.s", START), self.compile("b.s", '.data\n.bss\n.section .init_array, "aw"\n')

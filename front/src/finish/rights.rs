@@ -1,7 +1,8 @@
 //! Gives sections the rights to be written and executed that they have in GNU ld's file: `.text` of writable input
 //! sections and sections of data commands alone have others in the image of `ldi`. The loaded bytes stay. Notes and
 //! tables of functions or of names, which are SHT_PROGBITS in the image of `ldi`, get their types, by which other
-//! programs find them, and what has entries of one size gets that size, with SHF_MERGE and SHF_STRINGS.
+//! programs find them, and what has entries of one size gets that size, with SHF_MERGE and SHF_STRINGS. What is not
+//! at a multiple of its alignment gets the greatest that its address has.
 
 use std::collections::HashMap;
 
@@ -19,6 +20,7 @@ const FLAGS: u64 = MASK | SectionFlags::X86_64_LARGE.0;
 /// Where fields of a section header stand, p_flags in a program header, and e_shoff in the header of the file.
 const KIND_OF_SECTION: u64 = 4;
 const FLAGS_OF_SECTION: u64 = 8;
+const ALIGN_OF_SECTION: u64 = 48;
 const ENTRY_SIZE_OF_SECTION: u64 = 56;
 const FLAGS_OF_SEGMENT: u64 = 4;
 const SECTION_HEADER: u64 = 64;
@@ -42,6 +44,8 @@ pub struct Rights {
     pub kind: u32,
     /// `sh_entsize`
     pub entry_size: u64,
+    /// `sh_addralign`, of what is not at a multiple of its own alignment: 1 in the image of `ldi`.
+    pub align: u64,
 }
 
 /// Writes the rights and types of sections into their headers, and rights into those of the segments that have such a
@@ -71,6 +75,9 @@ fn changes(data: &[u8], wanted: &[Rights]) -> Result<Vec<(u64, Vec<u8>)>, NotAnI
         }
         if let Some(own) = own.filter(|own| section.kind == elf::SHT_PROGBITS && KINDS.contains(&own.kind)) {
             found.push((header.wrapping_add(KIND_OF_SECTION), own.kind.to_le_bytes().to_vec()));
+        }
+        if let Some(own) = own.filter(|own| section.align == 1 && own.align != 1) {
+            found.push((header.wrapping_add(ALIGN_OF_SECTION), own.align.to_le_bytes().to_vec()));
         }
         if let Some(own) = own.filter(|own| own.entry_size != section.entry_size) {
             found.push((header.wrapping_add(ENTRY_SIZE_OF_SECTION), own.entry_size.to_le_bytes().to_vec()));

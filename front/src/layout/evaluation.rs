@@ -263,6 +263,12 @@ impl Placed {
         self.flags.has(Flags::ALLOC)
     }
 
+    /// Its alignment in the section header, which its address has too (elf.c, `elf_fake_sections`).
+    pub fn header_align(&self) -> u64 {
+        let bits = self.align.max(1) | self.address;
+        bits & bits.wrapping_neg()
+    }
+
     /// Whether GNU ld's file has bytes for it.
     pub fn has_bytes(&self) -> bool {
         self.flags.has(Flags::LOAD | Flags::CONTENTS) && !self.flags.has(Flags::NEVER_LOAD)

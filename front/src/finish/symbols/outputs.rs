@@ -230,8 +230,8 @@ type Wanted<'a> = (OutputId, &'a OutputSection, &'a Placed);
 
 /// The header of an output section without bytes.
 fn header_of(place: &Placed) -> Section {
-    let Placed { kind, bits: flags, address, align, entry_size, .. } = *place;
-    Section { kind, flags, address, align, entry_size, ..Section::NONE }
+    let Placed { kind, bits: flags, address, entry_size, .. } = *place;
+    Section { kind, flags, address, align: place.header_align(), entry_size, ..Section::NONE }
 }
 
 /// The number of the first section that is not loaded: those of the link stand before those of the file itself.
