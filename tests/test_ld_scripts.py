@@ -51,10 +51,12 @@ class HeaderTest(BesideTest):
         """GNU ld makes the sections of `--section-start`, `-Ttext` and the like before all others (ldlang.c,
         `map_input_to_output_sections`): their headers stand first, in the order of the options."""
         objects = self.compile("a.s", START + '.quad number\n.data\nnumber: .quad 4, _start\n.section .rodata, "a"\n'
-                               '.quad 5\n.section more, "a"\n.quad 6\n.bss\n.skip 8\n.section .debug_x\n.quad number\n'),
+                               '.quad 5\n.section more, "a"\n.quad 6\n.bss\n.skip 8\n.section .debug_x\n'
+                               '.quad number\n'),
         late = "--section-start=more=0x20000000", "--section-start", ".data=0x10000000"
-        self.write("t.ld", "SECTIONS { . = 0x400000; .debug_x 0 : { *(.debug_x) } .text : { *(.text) } .none : { x = 1; }"
-                           " .data : { *(.data) } .kept : { y = .; } .rodata : { *(.rodata) } .bss : { *(.bss) } }")
+        self.write("t.ld", "SECTIONS { . = 0x400000; .debug_x 0 : { *(.debug_x) } .text : { *(.text) } "
+                           ".none : { x = 1; } .data : { *(.data) } .kept : { y = .; } .rodata : { *(.rodata) } "
+                           ".bss : { *(.bss) } }")
         for words in (("-Ttext=0x500000",), ("-Tdata=0x10000000",), ("-Tbss=0x10000000", "-Ttext=0x500000"), late,
                       ("-q", "-Tdata=0x10000000"), ("-q", *late), ("-s", *late), ("-T", "t.ld"), ("-q", "-T", "t.ld"),
                       ("-T", "t.ld", *late), ("-q", *late, "-T", "t.ld")):
@@ -225,8 +227,10 @@ SECTIONS { . = 0; .header : { *(.header) } . = ALIGN(512); .text : { *(.data) . 
         self.assertEqual(self.compare("--oformat=binary", "-T", "t.ld", *objects, env=NONE), "")
         # What GNU ld leaves of sections and of references by a table is its own.
         table = self.compile("c.s", "mov number@GOTPCREL(%rip), %rax\n.data\n.globl number\nnumber: .quad 1\n")
-        for words, why in (((table,), "references by a global offset table"), (("--gc-sections",), "--gc-sections")):
-            self.assertIn(f"{why}", self.compare("--oformat", "binary", *objects, *words, env={}))
+        group = self.compile("d.s", '.section .text.f, "axG", @progbits, f, comdat\n.weak f\nf: nop\n')
+        for words, why in (((table,), "references by a global offset table"), ((group,), "a group of sections"),
+                           (("--gc-sections",), "--gc-sections")):
+            self.assertIn(why, self.compare("--oformat", "binary", *objects, *words, env={}))
 
     def test_sections_that_are_not_loaded(self) -> None:
         """`.reloc` without the flag ALLOC, as memtest86+ has it: it is linked, or the link goes to GNU ld, or none is

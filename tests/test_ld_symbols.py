@@ -128,7 +128,7 @@ class OptionTest(SymbolTest):
     def test_none(self) -> None:
         """`-s`: the image has no table of symbols, and GNU ld's sections, also under the default script."""
         objects = self.objects()
-        names = self.compile("d.s", ".globl _start, provided, provided_hidden\n_start: provided: provided_hidden: nop\n")
+        names = self.compile("d.s", ".globl _start, provided, provided_hidden\n_start: provided: provided_hidden:\n")
         for words in (("-T", "t.ld"), (names,)):
             self.assertIsNone(self.same("-s", *words, *objects))
             self.assertEqual(*(HEADER.findall(self.must("readelf", "-SW", name)) for name in ("own", "gnu")))

@@ -46,7 +46,8 @@ pub(super) fn insert(data: &[u8], sections: OtherSections, plan: &mut Option<Fil
     inserted.extend(missing.into_iter().map(of_nothing));
     let order: Vec<usize> = (0..changed.sections.len()).map(|at| order.get(at).copied().unwrap_or(at)).collect();
     // Stable, so that relocations follow their section at once.
-    inserted.sort_by_cached_key(|one| order.iter().position(|number| *number == one.after));
+    let places = places_in(&order);
+    inserted.sort_by_key(|one| places.get(one.after).copied());
     empty.iter().for_each(|one| changed.put_empty(one));
     let numbers = Numbers::of(&order, &inserted, &dropped);
     let table = changed.sections.iter().position(|section| section.kind == elf::SHT_SYMTAB);
@@ -66,6 +67,15 @@ pub(super) fn insert(data: &[u8], sections: OtherSections, plan: &mut Option<Fil
     changed.names = Some(names);
     *plan = Some(changed);
     Ok(())
+}
+
+/// By section: its place in an order of all.
+fn places_in(order: &[usize]) -> Vec<usize> {
+    let mut places = vec![0; order.len()];
+    for (place, number) in order.iter().enumerate() {
+        places.get_mut(*number).into_iter().for_each(|own| *own = place);
+    }
+    places
 }
 
 /// The numbers that sections get.

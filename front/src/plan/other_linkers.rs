@@ -41,14 +41,15 @@ fn flat(command: &Command, objects: &[Object]) -> Option<String> {
     if command.collects_sections {
         return Some("a flat image with --gc-sections".to_owned());
     }
-    let has_note = |object: &&Object| object.property_notes().next().is_some();
-    let has_references = |object: &&Object| object.has_relaxed() || !object.got_references().is_empty();
-    let said = |object: &Object, what: &str| Some(format!("{}: {what} in a flat image", object.origin().full_name()));
-    match (objects.iter().find(has_references), objects.iter().find(has_note)) {
-        (Some(object), _) => said(object, "references by a global offset table"),
-        (None, Some(object)) => said(object, "a note of properties"),
-        (None, None) => None,
-    }
+    objects.iter().find_map(|object| {
+        let what = match object {
+            _ if object.has_relaxed() || !object.got_references().is_empty() => "references by a global offset table",
+            _ if object.has_groups() => "a group of sections",
+            _ if object.property_notes().next().is_some() => "a note of properties",
+            _ => return None,
+        };
+        Some(format!("{}: {what} in a flat image", object.origin().full_name()))
+    })
 }
 
 #[cfg(test)]
