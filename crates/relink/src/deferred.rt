@@ -86,18 +86,17 @@ impl Model for DeferredSession {
 
     ghost view = { λ s. record {
       project = project_of (staged_listing s.project s.staged);
-      last = shown s.canvas.bytes s.outcome;
-      is_linked = is_linked_since s.is_linked s.tables s.staged;
+      last = shown s.canvas.bytes s.last_link.outcome;
+      is_linked = is_linked_since s.last_link.is_linked s.tables s.staged;
       is_resolved = is_some s.tables;
-      edited = edit_since s.is_linked s.project s.tables s.staged;
+      edited = edit_since s.last_link.is_linked s.project s.tables s.staged;
     } };
 
     ghost invariant = { λ s. HasStaged s.project s.staged
         × HasTables (staged_listing s.project s.staged) s.tables
         × IsLastGood s.last_link.is_linked (listing_of s.project) s.canvas.bytes s.last_link.outcome
         s.last_link.previous
-        × (s.last_link.is_linked ≡ true
-        → shown s.canvas.bytes s.last_link.outcome ≡ link (held s.project)) };
+        × (s.last_link.is_linked ≡ true → shown s.canvas.bytes s.last_link.outcome ≡ link (held s.project)) };
 }
 
 /// The outcome of the last link as an edit sees it: where that link is not of the project before the edit, one that

@@ -29,7 +29,8 @@ use std::alloc::Global;
 use std::collections::VecDeque;
 use symres::SymbolTable;
 
-/// The tables that are kept of a project, lent to its link.
+/// The tables that are kept of a project, lent to its link: as `&*symbol_table`, for as long as the locals live, as the
+/// borrow checker asks.
 #[derive(Clone, Copy)]
 struct LentTables<'a> {
     /// The keys of its objects.
@@ -75,8 +76,8 @@ fn link_keyed(
     let origins = places_of(alloc, keys)?;
     let inputs = project.inputs();
     let names = room_for_names(alloc, inputs)?;
-    let origins = origins_for(alloc, &previous)?;
-    let previous = view_previous(&previous, &origins);
+    let previous_origins = origins_for(alloc, &previous)?;
+    let previous = view_previous(&previous, &previous_origins);
     match relink(alloc, project, symbol_table, &lent, previous, canvas, meter) {
         Err(no_memory) => Err(no_memory),
         Ok(RelinkOutcome::Faulty(text)) => Ok(UpdateOutcome::Faulty(text)),
@@ -129,8 +130,8 @@ pub(crate) fn link_next(
     let view = next.view(&inputs);
     let tables = LentTables {
         keys: next.keys(),
-        symbol_table,
-        matches,
+        symbol_table: &*symbol_table,
+        matches: &*matches,
     };
     link_keyed(alloc, &view, tables, previous, canvas, meter)
 }
@@ -156,8 +157,8 @@ pub(crate) fn link_without_previous(
     let view = project.view(&inputs);
     let tables = LentTables {
         keys: project.keys(),
-        symbol_table,
-        matches,
+        symbol_table: &*symbol_table,
+        matches: &*matches,
     };
     link_keyed(alloc, &view, tables, None, canvas, &mut Meter::new())
 }
@@ -193,8 +194,8 @@ pub(crate) fn link_committed(
     let view = project.view(&inputs);
     let tables = LentTables {
         keys: project.keys(),
-        symbol_table,
-        matches,
+        symbol_table: &*symbol_table,
+        matches: &*matches,
     };
     link_keyed(alloc, &view, tables, previous, canvas, meter)
 }

@@ -225,11 +225,12 @@ pub fn relink(
         → ended ≡ RewrittenInPlace) }
     ensures unchanged { OnErr result (canvas.new.bytes ≡ canvas.old.bytes) }
 {
+    // lent again for as long as the locals live, as the borrow checker asks
     let context = PassContext {
         alloc,
-        project,
-        symbol_table,
-        matches,
+        project: &*project,
+        symbol_table: &*symbol_table,
+        matches: &*matches,
         previous,
         with_map: true,
     };

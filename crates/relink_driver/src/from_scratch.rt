@@ -18,12 +18,13 @@ use std::alloc::Global;
 use std::hash::RandomState;
 use symres::SymbolTable;
 
-/// Links a project from scratch, over its resolved names and its matches. Fails if memory runs out.
-fn link_over(
+/// Links a project from scratch, over its resolved names and its matches. Fails if memory runs out. The borrow checker
+/// asks for one lifetime of all that the context holds.
+fn link_over<'x>(
     alloc: Global,
-    project: &ProjectView<'_>,
-    symbol_table: &SymbolTable,
-    matches: &[&Matches],
+    project: &'x ProjectView<'_>,
+    symbol_table: &'x SymbolTable,
+    matches: &'x [&'x Matches],
     with_map: bool,
     meter: &mut Meter,
 ) -> Result<Output, NoMemory>
