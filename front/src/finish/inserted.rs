@@ -207,7 +207,7 @@ mod tests {
     /// ldlang.c, `map_input_to_output_sections`: a section of `--section-start` is made first.
     #[test]
     fn numbers_of_sections_in_another_order() {
-        let inserted = [of_relocations(RelocationTable { section: 3, entries: vec![0; 24].into() }, b".data")];
+        let inserted = [of_relocations(RelocationTable { section: 3, entries: vec![vec![0; 24].into()] }, b".data")];
         let numbers = Numbers::of(&[0, 3, 1, 2, 4], &inserted, &[1]);
         assert_eq!(numbers.inserted, [2]);
         assert_eq!([0, 3, 2, 4].map(|number| numbers.get(number)), [0, 1, 3, 4]);

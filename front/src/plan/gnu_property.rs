@@ -1,7 +1,7 @@
 //! One note of properties for all objects of a link, in the first that has one (bfd/elf-properties.c,
 //! `_bfd_elf_link_setup_gnu_properties`).
 
-use super::program_headers::stack_size;
+use super::default_headers::stack_size;
 use crate::command::Command;
 use crate::layout::glob;
 use crate::objects::{Object, Properties, SectionIndex, PROPERTIES};
