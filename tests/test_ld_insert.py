@@ -3,6 +3,7 @@ from __future__ import annotations
 
 from tests.images import Image, read_image
 from tests.programs import OutsideTest, needs
+from tests.symbol_table import table_differences
 
 SCRIPT = """ENTRY(_start)
 SECTIONS { . = 0x400000; .text : { *(.text .text.*) } x = .; . = ALIGN(4096); .data : { *(.data) }
@@ -73,6 +74,19 @@ class InsertTest(OutsideTest):
             words = [word for script in (*scripts, "t.ld") for word in ("-T", script)]
             self.both(*words, "a.o")
             self.both("--gc-sections", *words, "a.o")
+
+    def test_addresses_between_scripts(self) -> None:
+        """`-Tdata=` between two scripts makes its section between theirs, beside which orphans stand; a symbol of an
+        empty section goes by that."""
+        self.write("empty.ld", "SECTIONS { .new : { *(.one) } } INSERT AFTER .heap;\n")
+        self.write("s.ld", """SECTIONS { . = 0x1000; .heap : { *(.none) } .stack : { top = 4; *(.nothing) }
+            .rodata : { *(.two) . = . + 8; } .rest : { *(.text* .data .bss .orphan) } }\n""")
+        self.compile("c.s", ' .ident "c"\n')
+        address = "-Tdata=0x875a80"
+        for words in ((address, "-T", "empty.ld", "-T", "s.ld"), ("-T", "empty.ld", address, "-T", "s.ld"),
+                      ("-T", "empty.ld", "-T", "s.ld", address)):
+            self.both(*words, "a.o", "c.o")
+            self.assertEqual(table_differences(self.read("gnu"), self.read("own")), [], words)
 
     def test_default_script(self) -> None:
         """A script of INSERT alone augments the default one."""

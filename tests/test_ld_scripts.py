@@ -2,6 +2,8 @@
 from __future__ import annotations
 
 from tests.beside import NONE, PLAIN, START, BesideTest
+from tests.fuzz.images import differences
+from tests.fuzz.images import read_image as read_all
 from tests.images import EXECUTE, WRITE, Image, read_image
 from tests.programs import LDI_WATCH, OutsideTest, needs
 from tests.symbol_table import read_relocations, read_table
@@ -27,8 +29,49 @@ TABLES = """SECTIONS { . = 0x400000; .text : { *(.text) } .data : { *(.data) *(.
 """
 
 
+ORDERED = START + """ .section .text.a, "ax"
+ .balign 8
+first: nop
+ .section .late, "ax"
+second: nop
+ .section .order, "ao", @progbits, .text.a
+ .quad first
+ .section .beside, "o", @progbits, .late
+ .quad second
+ .section .kept, "aR"
+ .quad 1
+ .section .eh_frame, "a", @unwind
+ .bss
+ .skip 8
+ .stabs "second:F(0,1)", 36, 0, 1, second
+"""
+HEADERS = """SECTIONS { . = 0x400000; .text : SUBALIGN(64) { *(.text .text.*) } .late 0x400800 : ALIGN(16) { *(.late) }
+  .one : { *(.order) } .kept : { *(.kept) } .eh_frame : { *(.eh_frame) . = .; } .init_array : { *(.bss) }
+  .empty : { *(.none) . = .; } .dynstr : { BYTE(0) } .dynamic : { QUAD(0) } .hash : { LONG(2) } STABS
+  .rest : { *(.beside) } }
+"""
+
+
 class HeaderTest(BesideTest):
     """Section headers of what is loaded."""
+
+    def headers(self, *words: str) -> None:
+        """They are those of GNU ld's file, to which sections they refer too."""
+        self.links(*words, "-o", "own", env=NONE)
+        self.must("ld.bfd", "--no-warn-rwx-segments", *words, "-o", "gnu")
+        own, gnu = (read_all(self.read(name), {}) for name in ("own", "gnu"))
+        self.assertEqual(differences(gnu, own, with_headers=True), [], words)
+
+    def test_flags_types_and_links(self) -> None:
+        """Alignments that addresses have, SHF_LINK_ORDER and the like, types of sections, and what they refer to; empty
+        sections too."""
+        self.compile("a.s", ORDERED)
+        self.compile("b.s", START.replace("_start", "other") + ORDERED.split("\n", 2)[2])
+        for stabs in ("", ".stab : { *(.stab) BYTE(0) } .stabstr : { *(.stabstr) BYTE(0) }",
+                      ".stab : { *(.stab) BYTE(0) } .stabstr 0 : { *(.stabstr) }"):
+            self.write("t.ld", HEADERS.replace("STABS", stabs))
+            for words in ((), ("-s",), ("-q",), ("--gc-sections", "-u", "first")):
+                self.headers("-T", "t.ld", *words, "a.o", "b.o")
 
     def test_entries(self) -> None:
         """The size of the entries of tables, and of strings and constants that are merged."""

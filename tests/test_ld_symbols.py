@@ -133,6 +133,16 @@ class OptionTest(SymbolTest):
             self.assertIsNone(self.same("-s", *words, *objects))
             self.assertEqual(*(HEADER.findall(self.must("readelf", "-SW", name)) for name in ("own", "gnu")))
 
+    def test_asked(self) -> None:
+        """Names that `-u`, `-e`, EXTERN and ENTRY ask for are undefined if neither objects nor PROVIDE define them."""
+        objects = self.objects()
+        for words in (("-u", "absent"), ("-u", "nowhere"), ("-u", "nobody", "-u", "plain"),
+                      ("-e", "no_start", "-u", "start"), ("--gc-sections", "-u", "absent"), ("-q", "-u", "absent"),
+                      ("-s", "-u", "absent")):
+            self.same(*words, "-T", "t.ld", *objects)
+        self.write("extern.ld", SCRIPT.replace("ENTRY(start)", "ENTRY(no_start) EXTERN(absent function)"))
+        self.same("-T", "extern.ld", *objects)
+
     def test_retained(self) -> None:
         """`--retain-symbols-file`: the names in the file alone; the last of `-s`, `-S` and this counts."""
         objects = self.objects()

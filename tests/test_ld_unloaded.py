@@ -240,6 +240,16 @@ class UnloadedTest(OutsideTest):
             self.same("-T", "own.ld", *names)
             self.assertEqual(read_table(self.read("own")), read_table(self.read("gnu")))
 
+    def test_fill(self) -> None:
+        """What fills gaps between input sections; a section of a gap alone has zeros, as nothing is written in it."""
+        text = " .globl NAME\nNAME: ret\n .data\n .balign 8\n .byte 1\n .section .own,\"\"\n .balign 4\n .byte 2\n"
+        names = [self.compile(f"{name}.s", text.replace("NAME", name)) for name in ("_start", "other")]
+        sections = (".info (INFO) : { *(.data) } =0x11223344", ".info (INFO) : { *(.data) } .own 0 : { *(.own) } =0x90",
+                    ".info (DSECT) : { . += 16; } =0x90", ".info (COPY) : { FILL(0x91) . += 16; *(.data) }")
+        for section in sections:
+            self.write("own.ld", f"SECTIONS {{ . = 0x1000; .text : {{ *(.text) }} {section} .data : {{ *(.data) }} }}")
+            self.same("-T", "own.ld", *names)
+
     def test_loaded_strings(self) -> None:
         """References to strings that are loaded and merged, by sections and by symbols."""
         text = """ .globl NAME\nNAME: mov $.Ltext, %edi\n ret

@@ -3,19 +3,24 @@ from __future__ import annotations
 
 import re
 import struct
+import zlib
 from collections.abc import Mapping
 from dataclasses import dataclass, field
+from itertools import zip_longest
 
-from tests.object_file import ALLOC, EXECUTABLE, NOBITS, SYMBOL, Header, ObjectFile
+from tests.object_file import ALLOC, EXECUTABLE, NOBITS, RELA, SYMBOL, Header, ObjectFile
 
 SEGMENT = struct.Struct("<IIQQQQQQ")
 MAPPED = re.compile(r"^(\S+)\s+(0x[0-9a-f]+)\s+(0x[0-9a-f]+)(?: load address (0x[0-9a-f]+))?$", re.M)
 """An output section in GNU ld's map."""
 Loads = Mapping[tuple[str, int, int], int]
 """Load addresses by the names, addresses and sizes of output sections."""
-LINK_ORDER = 0x80
 NOPS = frozenset(b"\x66\x2e\x0f\x1f\x84\x00\x40\x44\x80\x90")
 """The bytes that GNU ld fills gaps in code with, where `ldi` has 0."""
+
+
+Other = tuple[str, tuple[int | str, ...], bytes | None]
+"""Name, header and bytes of a section that is empty or not loaded."""
 
 
 @dataclass
@@ -29,8 +34,8 @@ class Section:
     """-1 where no segment has it."""
     data: bytes | None
     code: bool
-    header: tuple[int, ...] = ()
-    """Its type, flags, info, alignment, and the size of its entries."""
+    header: tuple[int | str, ...] = ()
+    """What its section header says but for its place."""
 
 
 @dataclass
@@ -41,6 +46,8 @@ class Image:
     sections: list[Section] = field(default_factory=list)
     symbols: dict[str, int] = field(default_factory=dict)
     local: dict[str, int] = field(default_factory=dict)
+    others: list[Other] = field(default_factory=list)
+    """Names, headers and bytes of the sections that are empty or not loaded, but for the file's own tables."""
 
 
 def loads_of(text: str) -> Loads:
@@ -63,7 +70,11 @@ def read_image(data: bytes, mapped: Loads | None = None) -> Image:
             contents = None if header.kind == NOBITS else data[header.offset:header.offset + header.size]
             load = _load(header, segments, (mapped or {}).get((name, header.address, header.size), -1))
             image.sections.append(Section(name, header.address, header.size, load, contents,
-                                          bool(header.flags & EXECUTABLE), _said(header)))
+                                          bool(header.flags & EXECUTABLE), _said(file, header)))
+        elif number and not _is_own_table(file, number):
+            contents = None if header.kind == NOBITS else data[header.offset:header.offset + header.size]
+            said = (header.address, header.size, *_said(file, header))
+            image.others.append((file.section_name(number).decode("latin-1"), said, contents))
         if header.kind == 2:
             names = headers[header.link].offset
             for name_at, info, _, section, value, _ in SYMBOL.iter_unpack(
@@ -75,9 +86,18 @@ def read_image(data: bytes, mapped: Loads | None = None) -> Image:
     return image
 
 
-def _said(header: Header) -> tuple[int, ...]:
-    """What a section header says, but for name, places, and what SHF_LINK_ORDER names, which `ld.ldi` leaves out."""
-    return header.kind, header.flags & ~LINK_ORDER, header.info, header.alignment, header.entry_size
+def _said(file: ObjectFile, header: Header) -> tuple[int | str, ...]:
+    """What a section header says, but for name and places; other sections by their names."""
+    named = [file.section_name(number).decode("latin-1") for number in (header.link, header.info)]
+    info = named[1] if header.kind == RELA else header.info
+    return header.kind, header.flags, named[0], info, header.alignment, header.entry_size
+
+
+def _is_own_table(file: ObjectFile, number: int) -> bool:
+    """Whether a section is the table of symbols, that of their names, or that of the names of sections."""
+    table = file.symbol_table()
+    names = () if table is None else (table, file.headers[table].link)
+    return number in (file.names_in, *names)
 
 
 def _load(header: Header, segments: list[tuple[int, ...]], mapped: int) -> int:
@@ -121,6 +141,9 @@ def differences(gnu: Image, ldi: Image, with_headers: bool = False) -> list[str]
             at = next(i for i in range(one.size) if not _same_byte(one.data[i], match.data[i], one.code))
             found.append(f"bytes of {one.name} at {at:#x}: {one.data[at:at + 8].hex()} {match.data[at:at + 8].hex()}")
     found += [f"section {other.name} {other.address:#x} {other.size:#x}: not in GNU ld's" for other in rest]
+    if with_headers:
+        pairs = zip_longest(*(sorted(image.others, key=lambda one: str(one[:2])) for image in (gnu, ldi)))
+        found += [f"another section: {_words(one)}: {_words(other)}" for one, other in pairs if not _alike(one, other)]
     for name, value in gnu.symbols.items():
         if ldi.symbols.get(name) != value:
             own = ldi.symbols.get(name)
@@ -131,6 +154,22 @@ def differences(gnu: Image, ldi: Image, with_headers: bool = False) -> list[str]
     if gnu.entry != ldi.entry:
         found.append(f"entry {gnu.entry:#x}: {ldi.entry:#x}")
     return found
+
+
+def _alike(one: Other | None, other: Other | None) -> bool:
+    """Whether two sections are the same, but for what fills gaps in code."""
+    if one is None or other is None or one[:2] != other[:2]:
+        return False
+    is_code = bool(int(one[1][3]) & EXECUTABLE)
+    return one[2] == other[2] or all(_same_byte(a, b, is_code) for a, b in zip(one[2] or b"", other[2] or b""))
+
+
+def _words(section: Other | None) -> str:
+    """A section that is empty or not loaded, in words."""
+    if section is None:
+        return "none"
+    name, said, contents = section
+    return f"{name} {said} {zlib.crc32(contents or b''):x}"
 
 
 def segment_differences(gnu: bytes, own: bytes) -> list[str]:

@@ -8,6 +8,7 @@ import sys
 import traceback
 from collections import Counter
 from dataclasses import dataclass, field
+from random import Random
 
 from tests.fuzz import objects
 from tests.fuzz.adapted import link_adapted
@@ -118,6 +119,8 @@ def main(words: list[str]) -> int:
             one = with_more_options(one, seed)
         if "--relocations" in given:
             one.after = [*one.after, "--emit-relocs"]
+        elif "--headers" in given and Random(f"{seed} strip").randrange(8) == 0:
+            one.after = [*one.after, "-s"]
         if {"--adapt", "--adapt-alone"}.intersection(given):
             prepare(one)
             came = Came(*adapted_came(one, "--adapt" in given))

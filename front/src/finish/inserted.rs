@@ -1,5 +1,6 @@
 //! Sections inserted among those of an image: relocations, each after the section that they apply to (`--emit-relocs`),
-//! and output sections without bytes that GNU ld's file has. Those that GNU ld's file lacks are removed.
+//! and output sections without bytes that GNU ld's file has. Those that GNU ld's file lacks are removed. Headers refer
+//! to other sections as those of GNU ld's file do.
 
 use bstr::BString;
 use object::elf;
@@ -29,13 +30,27 @@ struct Inserted {
 }
 
 /// Gives a file these sections, by which its section headers get other numbers.
-pub(super) fn insert(data: &[u8], sections: OtherSections, plan: &mut Option<FilePlan>) -> Result<(), NotAnImage> {
+pub(super) fn insert(data: &[u8], mut sections: OtherSections, plan: &mut Option<FilePlan>) -> Result<(), NotAnImage> {
     if sections.is_empty() {
         return Ok(());
     }
-    let OtherSections { relocations, missing, dropped, empty, order } = sections;
-    let image = Image::read(data)?;
     let mut changed = plan_or_unchanged(data, plan.take())?;
+    changed.put_empty(&sections.empty);
+    let links = std::mem::take(&mut sections.links);
+    if sections.has_their_numbers() {
+        changed.set_links(&links, &|number| number);
+    } else {
+        let numbers = renumber(data, sections, &mut changed)?;
+        changed.set_links(&links, &|number| numbers.get(number));
+    }
+    *plan = Some(changed);
+    Ok(())
+}
+
+/// Puts sections in, takes others out and brings them into their order; gives the new numbers.
+fn renumber(data: &[u8], sections: OtherSections, changed: &mut FilePlan) -> Result<Numbers, NotAnImage> {
+    let OtherSections { relocations, missing, dropped, order, .. } = sections;
+    let image = Image::read(data)?;
     let mut names = changed.names_of(&image)?;
     let mut inserted = Vec::with_capacity(relocations.len() + missing.len());
     for table in relocations {
@@ -48,7 +63,6 @@ pub(super) fn insert(data: &[u8], sections: OtherSections, plan: &mut Option<Fil
     // Stable, so that relocations follow their section at once.
     let places = places_in(&order);
     inserted.sort_by_key(|one| places.get(one.after).copied());
-    empty.iter().for_each(|one| changed.put_empty(one));
     let numbers = Numbers::of(&order, &inserted, &dropped);
     let table = changed.sections.iter().position(|section| section.kind == elf::SHT_SYMTAB);
     let table = table.map_or(0, |table| numbers.get(table) as u32);
@@ -65,8 +79,7 @@ pub(super) fn insert(data: &[u8], sections: OtherSections, plan: &mut Option<Fil
         changed.put(*place, Section { name, link, info, ..one.header }, one.content);
     }
     changed.names = Some(names);
-    *plan = Some(changed);
-    Ok(())
+    Ok(numbers)
 }
 
 /// By section: its place in an order of all.
@@ -171,11 +184,21 @@ impl FilePlan {
         }
     }
 
-    /// Gives a section without bytes another header.
-    fn put_empty(&mut self, empty: &EmptySection) {
-        if let Some(section) = self.sections.get_mut(usize::from(empty.number)) {
-            let Section { name, offset, .. } = *section;
-            *section = Section { name, offset, ..empty.header };
+    /// Gives sections without bytes other headers.
+    fn put_empty(&mut self, empty: &[(u16, Section)]) {
+        for (number, header) in empty {
+            if let Some(section) = self.sections.get_mut(usize::from(*number)) {
+                *section = Section { name: section.name, offset: section.offset, ..*header };
+            }
+        }
+    }
+
+    /// Lets headers refer to other sections, by numbers that some have got since.
+    fn set_links(&mut self, links: &[(u16, u16)], moved: &dyn Fn(usize) -> usize) {
+        for (own, link) in links {
+            if let Some(section) = self.sections.get_mut(moved((*own).into())) {
+                section.link = moved((*link).into()) as u32;
+            }
         }
     }
 

@@ -144,8 +144,6 @@ impl Entry<'_> {
 struct Writer<'a> {
     parts: Vec<Part<'a>>,
     entries: Vec<Entry<'a>>,
-    /// What segments are aligned to in the file, a power of two.
-    page: u64,
 }
 
 /// The file with the program headers of PHDRS, its segments aligned to `page` or more.
@@ -155,9 +153,8 @@ pub(super) fn write(data: &[u8], wanted: &[WantedSegment], page: u64) -> Result<
         return Err(NotWritten::TooMany(wanted.len()));
     }
     let parts = parts_of(&image)?;
-    let page = page.max(1);
-    let entries = entries_of(&parts, wanted, page);
-    let mut writer = Writer { parts, entries, page };
+    let entries = entries_of(&parts, wanted, page.max(1));
+    let mut writer = Writer { parts, entries };
     let end = writer.place_loads()?;
     let end = writer.place_others(end);
     if end > MAX_FILE {
@@ -240,45 +237,71 @@ impl Writer<'_> {
         entry.wants_headers() || parts.any(|part| part.header.is_in_file())
     }
 
+    /// The PT_LOADs by their numbers, in the order in which they are in the file: with headers first, then by load
+    /// addresses (elf.c, `elf_sort_segments`).
+    fn in_order(&self) -> Vec<usize> {
+        let load = |entry: &Entry<'_>| {
+            let first = entry.parts.first().and_then(|at| self.part(*at));
+            entry.wanted.load.or_else(|| first.map(|part| part.load)).unwrap_or(0)
+        };
+        let mut numbers: Vec<usize> = (0..self.entries.len()).collect();
+        numbers.retain(|at| self.entries.get(*at).map_or(false, Entry::is_load));
+        numbers.sort_by_key(|at| self.entries.get(*at).map(|entry| (!entry.wants_headers(), load(entry))));
+        numbers
+    }
+
     /// Gives the sections of each PT_LOAD their places, one segment after the other; gives the end of the last one.
     fn place_loads(&mut self) -> Result<u64, NotWritten> {
         let mut end = ELF_HEADER + PROGRAM_HEADER * self.entries.len() as u64;
+        let mut loads = self.entries.iter().filter(|entry| entry.is_load()).skip(1);
+        if let Some(late) = loads.find(|entry| entry.wants_headers()) {
+            return Err(NotWritten::LateHeaders(late.wanted.name.clone()));
+        }
         let mut placed: HashMap<usize, &BStr> = HashMap::new();
-        let mut places = Vec::new();
-        for (number, entry) in self.entries.iter().filter(|entry| entry.is_load()).enumerate() {
-            if number > 0 && entry.wants_headers() {
-                return Err(NotWritten::LateHeaders(entry.wanted.name.clone()));
-            }
-            let first = match entry.parts.first().and_then(|at| self.part(*at)) {
-                Some(part) => part.header.address,
+        for number in self.in_order() {
+            let start = end;
+            let places = match self.entries.get(number) {
+                Some(entry) => self.places_in(entry, &mut end)?,
                 None => continue,
             };
-            self.check_order(entry)?;
-            let start = end.wrapping_add(first.wrapping_sub(end) & (entry.align - 1));
-            // A segment without bytes takes no room in the file.
-            let start = if self.is_in_file(entry) { start } else { start & (self.page - 1) };
-            for at in &entry.parts {
-                let part = match self.part(*at) {
+            let entry = match self.entries.get_mut(number) {
+                Some(entry) => entry,
+                None => continue,
+            };
+            if places.is_empty() {
+                entry.written.offset = start;
+            }
+            let wanted = entry.wanted;
+            for (at, place) in places {
+                let part = match self.parts.get_mut(at) {
                     Some(part) => part,
                     None => continue,
                 };
-                if let Some(other) = placed.insert(*at, entry.wanted.name.as_bstr()) {
-                    let (section, first, second) = (part.name.to_owned(), other.to_owned(), entry.wanted.name.clone());
+                if let Some(other) = placed.insert(at, wanted.name.as_bstr()) {
+                    let (section, first, second) = (part.name.to_owned(), other.to_owned(), wanted.name.clone());
                     return Err(NotWritten::Twice { section, first, second });
                 }
-                let place = start.saturating_add(part.header.address.wrapping_sub(first));
-                places.push((*at, place));
-                if part.header.is_in_file() {
-                    end = place.saturating_add(part.header.size);
-                }
-            }
-        }
-        for (at, place) in places {
-            if let Some(part) = self.parts.get_mut(at) {
                 part.place = Some(place);
             }
         }
         Ok(end)
+    }
+
+    /// The places of the sections of a PT_LOAD behind others that end at a place, which moves.
+    fn places_in(&self, entry: &Entry<'_>, end: &mut u64) -> Result<Vec<(usize, u64)>, NotWritten> {
+        self.check_order(entry)?;
+        let parts = || entry.parts.iter().filter_map(|at| Some((*at, self.part(*at)?)));
+        let first = parts().next().map_or(0, |(_, part)| part.header.address);
+        let start = end.wrapping_add(first.wrapping_sub(*end) & (entry.align - 1));
+        let mut places = Vec::with_capacity(entry.parts.len());
+        for (at, part) in parts() {
+            let place = start.saturating_add(part.header.address.wrapping_sub(first));
+            places.push((at, place));
+            if part.header.is_in_file() {
+                *end = place.saturating_add(part.header.size);
+            }
+        }
+        Ok(places)
     }
 
     /// Places the sections that no PT_LOAD has: empty ones by those around them, others at the end.
@@ -345,10 +368,15 @@ impl Writer<'_> {
 
     /// A program header by its sections alone.
     fn segment_of(&self, entry: &Entry<'_>) -> Segment {
-        let mut segment = Segment { kind: entry.wanted.kind, flags: self.rights(entry), ..Segment::default() };
+        let (kind, offset) = (entry.wanted.kind, entry.written.offset);
+        let mut segment = Segment { kind, flags: self.rights(entry), offset, ..Segment::default() };
         let parts = || entry.parts.iter().filter_map(|at| self.part(*at));
         if let Some(first) = parts().next() {
             segment.offset = first.place.unwrap_or(0);
+            if entry.is_load() && !self.is_in_file(entry) {
+                // elf.c, `assign_file_positions_for_load_sections`: it is to be within the file.
+                segment.offset &= entry.align - 1;
+            }
             segment.address = first.header.address;
             segment.load = first.load;
             let ends = parts().filter(|part| part.header.is_in_file());

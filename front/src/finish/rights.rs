@@ -1,22 +1,20 @@
 //! Gives sections the rights to be written and executed that they have in GNU ld's file: `.text` of writable input
-//! sections and sections of data commands alone have others in the image of `ldi`. The loaded bytes stay. Notes and
-//! tables of functions or of names, which are SHT_PROGBITS in the image of `ldi`, get their types, by which other
-//! programs find them, and what has entries of one size gets that size, with SHF_MERGE and SHF_STRINGS. What is not
-//! at a multiple of its alignment gets the greatest that its address has.
+//! sections and sections of data commands alone have others in the image of `ldi`. The loaded bytes stay. Notes, tables
+//! of functions or of names and the like, which are SHT_PROGBITS in the image of `ldi`, get their types, by which other
+//! programs find them. Other flags, alignments and the sizes of entries are those of GNU ld's file too.
 
 use std::collections::HashMap;
 
 use object::elf;
 
 use super::image_headers::{Image, NotAnImage, Section, Segment, ELF_HEADER, PROGRAM_HEADER};
-use crate::objects::SectionFlags;
 use crate::session_client::SessionImage;
 
 /// The rights of a section.
 const RIGHTS: [(u32, u32); 2] = [(elf::SHF_WRITE, elf::PF_W), (elf::SHF_EXECINSTR, elf::PF_X)];
-const MASK: u64 = (elf::SHF_WRITE | elf::SHF_EXECINSTR | elf::SHF_MERGE | elf::SHF_STRINGS) as u64;
-/// The flags that are written: these, and that of sections of the large model.
-const FLAGS: u64 = MASK | SectionFlags::X86_64_LARGE.0;
+const MASK: u64 = (elf::SHF_WRITE | elf::SHF_EXECINSTR) as u64;
+/// The flags that are written.
+const FLAGS: u64 = !(elf::SHF_ALLOC as u64);
 /// Where fields of a section header stand, p_flags in a program header, and e_shoff in the header of the file.
 const KIND_OF_SECTION: u64 = 4;
 const FLAGS_OF_SECTION: u64 = 8;
@@ -26,26 +24,24 @@ const FLAGS_OF_SEGMENT: u64 = 4;
 const SECTION_HEADER: u64 = 64;
 const SECTIONS_AT: usize = 40;
 
-/// The types that are written in place of SHT_PROGBITS.
-const KINDS: [u32; 5] =
-    [elf::SHT_NOTE, elf::SHT_INIT_ARRAY, elf::SHT_FINI_ARRAY, elf::SHT_PREINIT_ARRAY, elf::SHT_STRTAB];
+/// The types that are not written in place of SHT_PROGBITS: the sections of these that a file has are its own tables.
+const OWN_KINDS: [u32; 5] = [elf::SHT_NULL, elf::SHT_SYMTAB, elf::SHT_REL, elf::SHT_RELA, elf::SHT_NOBITS];
 
-/// The rights that the output section of a place is to have, and its type.
+/// What the header of the output section of a place is to say.
 #[derive(Clone, Copy, PartialEq, Eq, Debug)]
 pub struct Rights {
     /// Its address.
     pub address: u64,
     /// Its bytes, more than 0.
     pub size: u64,
-    /// SHF_WRITE, SHF_EXECINSTR, SHF_MERGE, SHF_STRINGS and SHF_X86_64_LARGE, of `sh_flags`; other bits are not looked
-    /// at.
+    /// `sh_flags`; SHF_ALLOC is not looked at.
     pub flags: u64,
-    /// `sh_type`, of notes and of tables of functions and of names.
+    /// `sh_type`
     pub kind: u32,
+    /// `sh_addralign`
+    pub align: u64,
     /// `sh_entsize`
     pub entry_size: u64,
-    /// `sh_addralign`, of what is not at a multiple of its own alignment: 1 in the image of `ldi`.
-    pub align: u64,
 }
 
 /// Writes the rights and types of sections into their headers, and rights into those of the segments that have such a
@@ -73,15 +69,18 @@ fn changes(data: &[u8], wanted: &[Rights]) -> Result<Vec<(u64, Vec<u8>)>, NotAnI
             section.flags = flags;
             found.push((header.wrapping_add(FLAGS_OF_SECTION), flags.to_le_bytes().to_vec()));
         }
-        if let Some(own) = own.filter(|own| section.kind == elf::SHT_PROGBITS && KINDS.contains(&own.kind)) {
+        if let Some(own) = own.filter(|own| section.kind == elf::SHT_PROGBITS && !OWN_KINDS.contains(&own.kind)) {
             found.push((header.wrapping_add(KIND_OF_SECTION), own.kind.to_le_bytes().to_vec()));
         }
-        if let Some(own) = own.filter(|own| section.align == 1 && own.align != 1) {
-            found.push((header.wrapping_add(ALIGN_OF_SECTION), own.align.to_le_bytes().to_vec()));
-        }
-        if let Some(own) = own.filter(|own| own.entry_size != section.entry_size) {
-            found.push((header.wrapping_add(ENTRY_SIZE_OF_SECTION), own.entry_size.to_le_bytes().to_vec()));
-        }
+        let numbers = own.map_or([None; 2], |own| {
+            [
+                (own.align != section.align).then_some((ALIGN_OF_SECTION, own.align)),
+                (own.entry_size != section.entry_size).then_some((ENTRY_SIZE_OF_SECTION, own.entry_size)),
+            ]
+        });
+        found.extend(
+            numbers.into_iter().flatten().map(|(at, new)| (header.wrapping_add(at), new.to_le_bytes().to_vec())),
+        );
     }
     let is_changed = |segment: &Segment| {
         changed.iter().any(|number| image.sections.get(*number).map_or(false, |section| is_in(section, segment)))

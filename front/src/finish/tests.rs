@@ -251,7 +251,7 @@ fn sections_have_the_rights_of_gnu_ld() {
     let text = Made(".text", 5, 0x1000, 0x1000, Some(b"abcd"), 4);
     let data = Made(".data", 0, 0x2000, 0x2000, Some(b"efgh"), 4);
     let rights = |flags: [u64; 2]| {
-        let of = |address, flags| Rights { address, size: 4, flags, kind: 1, entry_size: 0, align: 1 };
+        let of = |address, flags| Rights { address, size: 4, flags, kind: 1, align: 4, entry_size: 0 };
         let form = Form { rights: vec![of(0x1000, flags[0]), of(0x2000, flags[1])], ..Form::default() };
         let file = finish(image(&[text, data]), &form, None, Vec::new()).unwrap().file.into_vec();
         let image = Image::read(&file).unwrap();
@@ -267,25 +267,32 @@ fn sections_have_the_rights_of_gnu_ld() {
 fn sections_have_the_types_of_gnu_ld() {
     let note = Made(".n", 4, 0x1000, 0x1000, Some(b"abcd"), 4);
     let kind = |kind| {
-        let own = Rights { address: 0x1000, size: 4, flags: 0, kind, entry_size: 0, align: 1 };
+        let own = Rights { address: 0x1000, size: 4, flags: 0, kind, align: 4, entry_size: 0 };
         let form = Form { rights: vec![own], ..Form::default() };
         let file = finish(image(&[note]), &form, None, Vec::new()).unwrap().file.into_vec();
         let sections = Image::read(&file).unwrap().sections;
         sections.iter().filter(|one| one.size == 4).map(|one| one.kind).collect::<Vec<u32>>()
     };
-    assert_eq!((kind(elf::SHT_NOTE), kind(elf::SHT_NOBITS)), (vec![elf::SHT_NOTE], vec![elf::SHT_PROGBITS]));
+    for (wanted, found) in [
+        (elf::SHT_NOTE, elf::SHT_NOTE),
+        (elf::SHT_HASH, elf::SHT_HASH),
+        (elf::SHT_NOBITS, elf::SHT_PROGBITS),
+        (elf::SHT_RELA, elf::SHT_PROGBITS),
+    ] {
+        assert_eq!(kind(wanted), [found]);
+    }
 }
 
-/// elf.c, `elf_fake_sections`: entries of one size, and whether they are merged.
+/// elf.c, `elf_fake_sections`: entries of one size, whether they are merged, and alignments.
 #[test]
 fn sections_have_the_entries_of_gnu_ld() {
     let strings = Made(".s", 4, 0x1000, 0x1000, Some(b"abc\0"), 4);
-    let own = Rights { address: 0x1000, size: 4, flags: 0x32, kind: 1, entry_size: 1, align: 1 };
+    let own = Rights { address: 0x1000, size: 4, flags: 0x32, kind: 1, align: 64, entry_size: 1 };
     let form = Form { rights: vec![own], ..Form::default() };
     let file = finish(image(&[strings]), &form, None, Vec::new()).unwrap().file.into_vec();
     let sections = Image::read(&file).unwrap().sections;
-    let found: Vec<_> = sections.iter().filter(|one| one.size == 4).map(|one| (one.flags, one.entry_size)).collect();
-    assert_eq!(found, [(0x32, 1)]);
+    let found = sections.iter().filter(|one| one.size == 4).map(|one| (one.flags, one.align, one.entry_size));
+    assert_eq!(found.collect::<Vec<_>>(), [(0x32, 64, 1)]);
 }
 
 #[test]

@@ -27,9 +27,6 @@ pub struct Unloaded {
     pub content: Bytes,
 }
 
-/// The bytes of a row of stabs (elf.c, `assign_section_numbers`).
-const ROW_OF_STABS: u64 = 12;
-
 /// Adds sections behind those that are loaded.
 pub(super) fn add(data: &[u8], unloaded: Vec<Unloaded>, plan: &mut Option<FilePlan>) -> Result<(), NotAnImage> {
     if unloaded.is_empty() {
@@ -51,24 +48,14 @@ pub(super) fn add(data: &[u8], unloaded: Vec<Unloaded>, plan: &mut Option<FilePl
     }
     changed.names_in += if changed.names_in >= first { unloaded.len() } else { 0 };
     let rest = changed.sections.split_off(first);
-    let stabs = place_of(&unloaded, b".stab").zip(place_of(&unloaded, b".stabstr"));
     for one in unloaded {
         changed.contents.insert(changed.sections.len(), vec![one.content.clone()]);
         changed.sections.push(header_of(&one, enter(&mut names, &one.name)));
-    }
-    if let Some((rows, names)) = stabs {
-        for rows in changed.sections.iter_mut().skip(first + rows).take(1) {
-            (rows.link, rows.entry_size) = ((first + names) as u32, ROW_OF_STABS);
-        }
     }
     changed.sections.extend(rest);
     changed.names = Some(names);
     *plan = Some(changed);
     Ok(())
-}
-
-fn place_of(unloaded: &[Unloaded], name: &[u8]) -> Option<usize> {
-    unloaded.iter().position(|one| one.name == name)
 }
 
 fn header_of(one: &Unloaded, name: u32) -> Section {

@@ -27,6 +27,7 @@ pub(crate) fn compile(script: &Script) -> Result<Program, Stop> {
     }
     program.default_region = Some(program.region(DEFAULT));
     for statement in &script.statements {
+        program.before.push(program.top.len());
         top(&mut program, statement)?;
     }
     Ok(program)

@@ -251,6 +251,8 @@ pub struct Placed {
     pub bits: u64,
     /// The size of its entries (`sh_entsize`).
     pub entry_size: u64,
+    /// The output section that its header refers to (`sh_link`).
+    pub link: Option<OutputId>,
     /// Whether it is taken out of the image, as it is empty.
     pub is_gone: bool,
     /// Its input sections in their order.
@@ -263,16 +265,21 @@ impl Placed {
         self.flags.has(Flags::ALLOC)
     }
 
-    /// Its alignment in the section header, which its address has too (elf.c, `elf_fake_sections`).
+    /// Its alignment in the section header, which its address has too (`sh_addralign`).
     pub fn header_align(&self) -> u64 {
-        let bits = self.align.max(1) | self.address;
-        bits & bits.wrapping_neg()
+        common_align(self.align, self.address)
     }
 
     /// Whether GNU ld's file has bytes for it.
     pub fn has_bytes(&self) -> bool {
         self.flags.has(Flags::LOAD | Flags::CONTENTS) && !self.flags.has(Flags::NEVER_LOAD)
     }
+}
+
+/// The greatest power of two that an alignment and an address have in common (elf.c, `elf_fake_sections`).
+pub(crate) fn common_align(align: u64, address: u64) -> u64 {
+    let bits = align.max(1) | address;
+    bits & bits.wrapping_neg()
 }
 
 /// An input section.
@@ -409,7 +416,7 @@ pub struct Symbol {
     /// Whether an assignment of it stands in an output section that counts, or outside of all: GNU ld's table of
     /// symbols has it then, even if it is undefined.
     pub is_recorded: bool,
-    /// Whether the command or the script asks for it: GNU ld's table of symbols has it, even if nothing defines it.
+    /// Whether ENTRY, EXTERN, `-e` or `-u` name it: GNU ld's table of symbols has it, even if nothing defines it.
     pub is_asked_for: bool,
     /// Whether GNU ld has given it a value as the start or end of a section, which may not stay.
     pub is_bound: bool,
@@ -507,6 +514,11 @@ impl Evaluation {
     pub fn section_address(&self, section: &InputSection) -> Option<u64> {
         let place = self.output(section.output()?)?.place.as_ref()?;
         Some(place.address.wrapping_add(section.offset))
+    }
+
+    /// The places of the output sections that are in the image, in their order.
+    pub fn places(&self) -> impl Iterator<Item = (OutputId, &Placed)> {
+        self.order.iter().filter_map(move |id| Some((*id, self.output(*id)?.in_image()?)))
     }
 
     /// The output sections that are in the image, in their order.

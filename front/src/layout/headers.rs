@@ -3,8 +3,8 @@
 use super::flags::Flags;
 use super::ids::{OutputId, SectionId};
 use super::link::Link;
-use super::make_evaluation::kind_of;
 use super::program::Place;
+use super::section_headers::kind_of;
 use super::segments::{is_relro, loads, InMemory, Paging};
 use object::elf;
 

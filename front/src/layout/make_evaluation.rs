@@ -1,8 +1,7 @@
 //! Makes the `Evaluation` from what the passes have found.
 
 use super::evaluation::{
-    Base, Definer, Entry, Evaluation, Fate, Gap, InputSection, OutputSection, Placed, Region, Statement, StatementKind,
-    Symbol, Value,
+    Base, Definer, Entry, Evaluation, Fate, Gap, OutputSection, Region, Statement, StatementKind, Symbol, Value,
 };
 use super::expr::compiled::value_of;
 use super::flags::Flags;
@@ -10,10 +9,10 @@ use super::ids::{OutputId, StatementId, SymbolId};
 use super::interned_names::FastMap;
 use super::link::Link;
 use super::passes::values::width_of;
-use super::program::{Output, OutputKind, Place, Step, StepKind};
+use super::program::{Output, OutputKind, Step, StepKind};
+use super::section_headers::HeaderLinks;
 use super::symbols::SymbolState;
 use crate::script::tree::{Name, Provision};
-use object::elf;
 use std::collections::HashSet;
 
 /// GNU ld's entry if nothing says it (elf.em, `ENTRY`: the scripts of x86-64 say `_start`).
@@ -222,12 +221,13 @@ impl Link<'_> {
     }
 
     fn outputs(&self) -> Vec<OutputSection> {
-        let mut segments = self.segments();
+        let (mut segments, links) = (self.segments(), self.header_links());
         let with_segments = |(number, output): (usize, &Output)| {
-            let own = segments.remove(&OutputId::new(number)).unwrap_or_default();
+            let id = OutputId::new(number);
+            let own = segments.remove(&id).unwrap_or_default();
             let gone = output.place.as_ref().filter(|place| place.is_gone);
-            let nearby = gone.and_then(|place| self.nearby(OutputId::new(number), place.address));
-            OutputSection { nearby, ..self.output_result(output, own) }
+            let nearby = gone.and_then(|place| self.nearby(id, place.address));
+            OutputSection { nearby, ..self.output_result((id, output), own, &links) }
         };
         self.program.outputs.iter().enumerate().map(with_segments).collect()
     }
@@ -255,89 +255,25 @@ impl Link<'_> {
         found
     }
 
-    fn output_result(&self, output: &Output, segments: Vec<Name>) -> OutputSection {
+    fn output_result(
+        &self,
+        (id, output): (OutputId, &Output),
+        segments: Vec<Name>,
+        links: &HeaderLinks,
+    ) -> OutputSection {
         let is_in_segment = self.program.phdrs.is_none() || segments.iter().any(|segment| segment != "NONE");
         OutputSection {
             name: self.program.names.get(output.name).into(),
             span: self.step(output.statement).and_then(|step| step.span),
             is_orphan: output.is_orphan,
             body: output.body.clone(),
-            place: output.place.as_ref().map(|place| self.placed(place, is_in_segment)),
+            place: self.placed(id, is_in_segment, links),
             region: output.region,
             load_region: output.load_region,
             segments,
             has_own_address: output.address.is_some(),
             nearby: None,
         }
-    }
-
-    fn placed(&self, place: &Place, is_in_segment: bool) -> Placed {
-        let merging = |section: &InputSection| section.flags.has(Flags::MERGE);
-        let merges =
-            place.flags.has(Flags::MERGE) && place.inputs.iter().filter_map(|id| self.section(*id)).any(merging);
-        let kind = kind_of(place, is_in_segment);
-        Placed {
-            address: place.address,
-            load: place.load,
-            size: place.size,
-            align: place.align,
-            flags: place.flags,
-            kind,
-            bits: place.bits | bits_of(place.flags),
-            entry_size: if merges { place.entry_size } else { entry_size_of(kind) },
-            is_gone: place.is_gone,
-            inputs: place.inputs.clone(),
-        }
-    }
-}
-
-/// The type in the section header (elf.c, `elf_fake_sections`).
-pub(super) fn kind_of(place: &Place, is_in_segment: bool) -> u32 {
-    // elf.c, `assign_file_positions_for_load_sections`: what has no bytes in a PT_LOAD is SHT_NOBITS.
-    if is_in_segment && place.flags.has(Flags::ALLOC) && !place.flags.has(Flags::LOAD | Flags::CONTENTS) {
-        return elf::SHT_NOBITS;
-    }
-    let by_flags = match place.own_kind {
-        elf::SHT_NULL if place.flags.has(Flags::ALLOC) && !place.flags.has(Flags::LOAD | Flags::CONTENTS) => {
-            elf::SHT_NOBITS
-        }
-        elf::SHT_NULL => elf::SHT_PROGBITS,
-        own => own,
-    };
-    match place.kind {
-        elf::SHT_NULL => by_flags,
-        elf::SHT_NOBITS if by_flags == elf::SHT_PROGBITS && place.flags.has(Flags::ALLOC) => by_flags,
-        kind => kind,
-    }
-}
-
-/// The size of the entries of a section of a type, if no strings or constants are merged in it (elf.c,
-/// `elf_fake_sections`).
-fn entry_size_of(kind: u32) -> u64 {
-    match kind {
-        elf::SHT_INIT_ARRAY | elf::SHT_FINI_ARRAY | elf::SHT_PREINIT_ARRAY => 8,
-        _ => 0,
-    }
-}
-
-/// The flags in the section header (elf.c, `elf_fake_sections`).
-fn bits_of(flags: Flags) -> u64 {
-    let mut bits = 0;
-    for (flag, bit) in [
-        (Flags::ALLOC, elf::SHF_ALLOC),
-        (Flags::CODE, elf::SHF_EXECINSTR),
-        (Flags::MERGE, elf::SHF_MERGE),
-        (Flags::STRINGS, elf::SHF_STRINGS),
-        (Flags::TLS, elf::SHF_TLS),
-    ] {
-        if flags.has(flag) {
-            bits |= u64::from(bit);
-        }
-    }
-    if flags.has(Flags::READONLY) {
-        bits
-    } else {
-        bits | u64::from(elf::SHF_WRITE)
     }
 }
 

@@ -29,6 +29,7 @@ mod passes;
 mod placement_by_name;
 mod program;
 mod rows;
+mod section_headers;
 pub mod segments;
 pub mod settings;
 mod size_used;

@@ -187,7 +187,8 @@ pub(crate) struct Place {
     pub number: usize,
     /// Taken out of the image, as it is empty.
     pub is_gone: bool,
-    pub has_input: bool,
+    /// The input section that was put in first.
+    pub first: Option<SectionId>,
     pub inputs: Vec<SectionId>,
     /// Its type in the section header, as far as its name or its first input section says it; else 0.
     pub kind: u32,
@@ -229,6 +230,8 @@ pub(crate) struct Program {
     pub steps: Vec<Step>,
     /// The statements outside of output sections; each output section is one.
     pub top: Vec<StatementId>,
+    /// By statement of the scripts: how many of those stand before it.
+    pub before: Vec<usize>,
     pub outputs: Vec<Output>,
     /// The output sections in their order.
     pub order: Vec<OutputId>,

@@ -28,8 +28,8 @@ pub struct Settings {
     pub section_starts: Vec<(Name, u64)>,
     /// Addresses of SEGMENT_START: `text-segment`, `rodata-segment`, `ldata-segment`, and `text`, `data`, `bss`.
     pub segment_starts: Vec<(Name, u64)>,
-    /// Whether these options stand behind the script, so that their sections are made after its own.
-    pub starts_late: bool,
+    /// How many statements of the scripts stand before these options: their sections are made before those of others.
+    pub starts_after: usize,
     /// `--orphan-handling`
     pub orphans: OrphanHandling,
     /// `--unique`: patterns of names whose orphans stay apart; `None` without it, no pattern for all.
@@ -78,7 +78,7 @@ impl Default for Settings {
             entry: None,
             section_starts: Vec::new(),
             segment_starts: Vec::new(),
-            starts_late: false,
+            starts_after: 0,
             orphans: OrphanHandling::Place,
             unique: None,
             sort_common: None,

@@ -621,3 +621,23 @@ fn a_table_of_frames_has_a_row_for_each() {
     let without = frames.replace(".eh_frame :", "/DISCARD/ :");
     assert_eq!(of(&without, &objects[..3]), (None, [0x1000, 0], None));
 }
+
+/// elf.c, `elf_fake_sections`, `assign_section_numbers`: sizes of entries, alignments that addresses have, and the
+/// sections that headers refer to by their types.
+#[test]
+fn headers_say_what_gnu_ld_says() {
+    let script = "SECTIONS { . = 0x1002; .init_array : { *(.bss) } .stab : { LONG(1) } .stabstr : { BYTE(0) }
+          .dynstr : { BYTE(0) } .dynamic : { QUAD(0) } .text : SUBALIGN(16) { *(.text) } .data : { *(.data) } }";
+    let found = laid(script, &[plain()]);
+    let header = |name: &str| {
+        let (_, place) = found.in_image().find(|(output, _)| output.name == name).unwrap();
+        let link = place.link.and_then(|link| found.output(link)).map(|output| output.name.to_string());
+        (place.kind, place.entry_size, place.header_align(), link)
+    };
+    let to = |name: &str| Some(name.to_owned());
+    assert_eq!(header(".init_array"), (elf::SHT_NOBITS, 8, 4, None));
+    assert_eq!(header(".stab"), (elf::SHT_PROGBITS, 12, 1, to(".stabstr")));
+    assert_eq!(header(".dynamic"), (elf::SHT_DYNAMIC, 16, 1, to(".dynstr")));
+    assert_eq!(header(".text"), (elf::SHT_PROGBITS, 0, 16, None));
+    assert_eq!(super::evaluation::common_align(64, 0x1004), 4);
+}

@@ -26,8 +26,8 @@ const ADDEND_AT: usize = 16;
 pub(super) struct Profiled {
     /// The bytes.
     pub(super) data: Bytes,
-    /// Flags that `ldi` need not know and that the layout goes by: SHF_GROUP, SHF_LINK_ORDER and SHF_X86_64_LARGE;
-    /// ascending.
+    /// Flags that `ldi` need not know and that layout and image go by: SHF_GROUP, SHF_LINK_ORDER, SHF_GNU_RETAIN and
+    /// SHF_X86_64_LARGE; ascending.
     pub(super) cleared: Vec<(SectionIndex, SectionFlags)>,
     /// The sections that had SHF_GNU_RETAIN.
     pub(super) retained: Vec<SectionIndex>,
@@ -75,15 +75,14 @@ impl Profiled {
         is_of_system: bool,
     ) {
         let retain = if is_of_system { SectionFlags::GNU_RETAIN.0 } else { 0 };
-        let cleared = flags.0 & (SectionFlags::GROUP.0 | SectionFlags::LINK_ORDER.0 | SectionFlags::X86_64_LARGE.0);
+        let others = SectionFlags::GROUP.0 | SectionFlags::LINK_ORDER.0 | SectionFlags::X86_64_LARGE.0;
+        let cleared = flags.0 & (retain | others);
         if flags.0 & retain != 0 {
             self.retained.push(number);
         }
         if cleared != 0 {
             self.cleared.push((number, SectionFlags(cleared)));
-        }
-        if cleared | flags.0 & retain != 0 {
-            headers.put_flags(draft, number, flags.0 & !(cleared | retain));
+            headers.put_flags(draft, number, flags.0 & !cleared);
         }
     }
 

@@ -277,8 +277,10 @@ fn a_retained_section_loses_its_flag_in_files_of_gnu_alone() {
     data[7] = 3;
     let changed = object_of(&data);
     assert_eq!(changed.retained(), [SectionIndex(1)]);
-    assert_eq!(changed.section(SectionIndex(1)).unwrap().flags, SectionFlags(3));
+    assert_eq!(changed.section(SectionIndex(1)).unwrap().flags, SectionFlags(0x20_0003));
     assert_eq!(changed.data().len(), data.len());
+    let sent = object_of(changed.data());
+    assert_eq!((sent.section(SectionIndex(1)).unwrap().flags, sent.retained().len()), (SectionFlags(3), 0));
 }
 
 /// psABI, B.2: an object is sent as GNU ld would relax it.

@@ -592,8 +592,8 @@ fn rights_of(inputs: &Inputs, evaluation: &Evaluation) -> Vec<Rights> {
         size: place.size,
         flags: place.bits,
         kind: place.kind,
-        entry_size: if place.inputs.iter().any(is_of_table) { ENTRY_SIZE as u64 } else { place.entry_size },
         align: place.header_align(),
+        entry_size: if place.inputs.iter().any(is_of_table) { ENTRY_SIZE as u64 } else { place.entry_size },
     };
     let loaded = evaluation.in_image().filter(|(_, place)| place.is_allocated() && place.size != 0);
     loaded.map(|(_, place)| rights(place)).collect()

@@ -48,6 +48,8 @@ pub struct Scripts {
     pub reading: Reading,
     /// What each says of files and names.
     pub parts: Vec<ScriptInputs>,
+    /// How many statements there are up to the end of each that `-T` gives.
+    ends: Vec<usize>,
     /// The files that were read for them, with what they include.
     pub files: Vec<PathBuf>,
 }
@@ -79,6 +81,7 @@ impl Scripts {
                 defsym.scripts_before == index + 1 || is_last && defsym.scripts_before > index + 1
             })?;
         }
+        let ends = ranges.iter().map(|range| range.end).collect();
         // What stands before INSERT goes into the default script if no other is given (ldlang.c, `lang_add_insert`).
         let is_own = command.default_script.is_some() || !ranges.iter().all(|range| reader.has_insert(range));
         if !is_own {
@@ -93,7 +96,12 @@ impl Scripts {
         let text = text.flat_map(|(_, file)| file.text.iter().copied()).collect();
         let path =
             files.first().cloned().unwrap_or_else(|| names.first().map_or_else(PathBuf::new, |name| name.into()));
-        Ok(Scripts { path, text, is_own, reading, parts, files })
+        Ok(Scripts { path, text, is_own, reading, parts, ends, files })
+    }
+
+    /// How many statements the first so many scripts of `-T` have.
+    pub fn end_of(&self, count: usize) -> usize {
+        count.checked_sub(1).and_then(|last| self.ends.get(last)).copied().unwrap_or(0)
     }
 
     /// The symbol of ENTRY; the last one counts.
@@ -181,7 +189,7 @@ fn default_script(command: &Command, environment: &Environment) -> Result<Script
     let range = reader.text(Path::new(path), text.clone()).map_err(ScriptsFault::NoScript)?;
     let reading = reader.finish();
     let parts = vec![part_of(&reading.script, range)];
-    Ok(Scripts { path: path.into(), text, is_own: false, reading, parts, files: Vec::new() })
+    Ok(Scripts { path: path.into(), text, is_own: false, reading, parts, ends: Vec::new(), files: Vec::new() })
 }
 
 /// The name and the text of the default script.

@@ -20,7 +20,7 @@ pub fn settings_of(command: &Command, scripts: &Scripts) -> Settings {
         entry: command.entry.clone(),
         section_starts: addresses(&command.section_starts),
         segment_starts: addresses(&command.segment_starts),
-        starts_late: !command.scripts.is_empty() && command.scripts_before_starts == command.scripts.len(),
+        starts_after: scripts.end_of(command.scripts_before_starts),
         has_stack: says_stack(command),
         keeps_empty: command.emits_relocations,
         script_first: scripts.is_own && script_is_first(command),

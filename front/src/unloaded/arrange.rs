@@ -10,8 +10,9 @@ use super::strings::{KeptStrings, Strings};
 use super::NotMade;
 use crate::fast_map::FastMap;
 use crate::finish::Unloaded;
-use crate::layout::evaluation::{Evaluation, Gap, InputSection, OutputSection, Placed, StatementKind};
+use crate::layout::evaluation::{common_align, Evaluation, Gap, InputSection, OutputSection, Placed, StatementKind};
 use crate::layout::ids::SectionId;
+use crate::layout::Flags;
 use crate::objects::{MergedPart, Object, SectionFlags, Shortened};
 use crate::snapshot::Bytes;
 
@@ -99,7 +100,7 @@ impl<'a> Arrangement<'a> {
             kind: one.place.kind,
             flags: one.place.bits,
             address: one.place.address,
-            align: one.align,
+            align: common_align(one.align, one.place.address),
             entry_size: one.place.entry_size,
             size: one.size,
             content: Bytes::default(),
@@ -148,7 +149,7 @@ struct Making<'a> {
 impl<'a> Making<'a> {
     fn arranged(&self, into: &mut Arrangement<'a>, kept: &mut KeptStrings) -> Result<Option<Arranged<'a>>, NotMade> {
         let taken = self.taken();
-        let has_more = self.has_more();
+        let has_more = self.has_more() || self.is_filled(&taken);
         if self.place.size == 0 || taken.is_empty() && !has_more {
             return Ok(None);
         }
@@ -193,6 +194,20 @@ impl<'a> Making<'a> {
         let statements = self.output.body.iter().filter_map(|id| self.evaluation.statement(*id));
         let mut kinds = statements.map(|statement| &statement.kind);
         kinds.any(|kind| matches!(kind, StatementKind::Data { .. } | StatementKind::Dot { gap: Some(_), .. }))
+    }
+
+    /// Whether something fills gaps between input sections, each as large as the layout has it.
+    fn is_filled(&self, taken: &[SectionId]) -> bool {
+        let is_laid_out = |section: &InputSection| {
+            !is_compressed(section) && (!is_mergeable(section) || self.part(section).is_some())
+        };
+        let mut statements = self.output.body.iter().filter_map(|id| self.evaluation.statement(*id));
+        let is_gap_filled = |kind: &StatementKind| match kind {
+            StatementKind::Input { gaps, .. } => gaps.iter().any(|gap| filled(gap).is_some()),
+            _ => false,
+        };
+        statements.any(|statement| is_gap_filled(&statement.kind))
+            && taken.iter().all(|id| self.section(*id).map_or(true, is_laid_out))
     }
 
     /// A section as the layout has merged it.
@@ -244,12 +259,10 @@ impl<'a> Making<'a> {
 
     /// merge.c, `_bfd_add_merge_section`; of other alignments and sizes of characters than 1 no compiler has any.
     fn is_merged(&self, section: &InputSection, content: &Content<'_>) -> bool {
-        let flags = SectionFlags(section.bits);
         let object = self.objects.get(section.object.0 as usize);
         let has_relocations =
             object.zip(section.number()).map_or(true, |(object, number)| object.has_relocations(number));
-        flags.has(SectionFlags::MERGE)
-            && flags.has(SectionFlags::STRINGS)
+        is_mergeable(section)
             && section.entry_size == 1
             && content.align == 1
             && !has_relocations
@@ -304,7 +317,8 @@ impl<'a> Making<'a> {
         Ok(())
     }
 
-    /// Arranges input sections, data and what fills gaps where the layout has them.
+    /// Arranges input sections, data and what fills gaps where the layout has them; a section of gaps alone has zeros
+    /// (ldwrite.c, `build_link_order`).
     fn keep_places(&self, into: &mut Arrangement<'a>, taken: &[SectionId], arranged: &mut Arranged<'a>) {
         arranged.size = self.place.size;
         for id in taken {
@@ -316,6 +330,7 @@ impl<'a> Making<'a> {
                 arranged.pieces.push(Piece { at: section.offset, bytes, section: Some(*id), shortened });
             }
         }
+        let filled = |gap| if self.place.flags.has(Flags::CONTENTS) { filled(gap) } else { None };
         for statement in self.output.body.iter().filter_map(|id| self.evaluation.statement(*id)) {
             match &statement.kind {
                 StatementKind::Data { offset, size, value } => {
@@ -335,6 +350,12 @@ impl<'a> Making<'a> {
         }
         arranged.pieces.sort_by_key(|piece| piece.at);
     }
+}
+
+/// Whether a section has strings that are merged with those of others.
+fn is_mergeable(section: &InputSection) -> bool {
+    let flags = SectionFlags(section.bits);
+    flags.has(SectionFlags::MERGE) && flags.has(SectionFlags::STRINGS)
 }
 
 fn is_compressed(section: &InputSection) -> bool {

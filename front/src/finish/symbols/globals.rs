@@ -268,10 +268,12 @@ impl<'a> Names<'a> {
         SymbolEntry { info: binding << 4 | one.kind, other, ..SymbolEntry::default() }
     }
 
-    /// Whether the command or the script asks for a name that nothing defines (ldlang.c, `ldlang_add_undef`).
+    /// Whether the command or the script asks for a name that nothing defines (ldlang.c, `ldlang_add_undef`); not, if
+    /// all objects that refer to it do so weakly.
     fn is_asked_for(&self, one: &LinkedName) -> bool {
-        let is_free = |known: &Symbol| known.is_asked_for && matches!(known.definer, Definer::None);
-        one.defined_by.is_none() && self.known(one).map_or(false, is_free)
+        let is_weak = one.is_referred && !one.is_needed;
+        let is_free = |known: &Symbol| known.is_asked_for && known.definer == Definer::None;
+        one.defined_by.is_none() && !is_weak && self.known(one).map_or(false, is_free)
     }
 
     /// What the layout says of a name.

@@ -18,7 +18,7 @@ use std::collections::HashSet;
 
 use bstr::{BString, ByteSlice};
 
-use super::image_headers::{Image, NotAnImage};
+use super::image_headers::{Image, NotAnImage, Section};
 use super::unloaded::Unloaded;
 use crate::command::Discard;
 use crate::layout::Evaluation;
@@ -161,20 +161,23 @@ pub struct OtherSections {
     pub(super) missing: Vec<EmptySection>,
     /// The numbers, ascending, of the sections without bytes that the image has and GNU ld's file has not.
     pub(super) dropped: Vec<usize>,
-    /// The sections without bytes of both, by their numbers, whose headers are others in GNU ld's file.
-    pub(super) empty: Vec<EmptySection>,
+    /// The numbers of the sections without bytes of both whose headers are others in GNU ld's file, with those headers.
+    pub(super) empty: Vec<(u16, Section)>,
     /// By place: the number of the section that stands there in GNU ld's file; that of the place, past its end.
     pub(super) order: Vec<usize>,
+    /// Numbers of sections, with those of the sections that their headers refer to.
+    pub(super) links: Vec<(u16, u16)>,
 }
 
 impl OtherSections {
     /// Whether the sections are those of the image.
     pub(super) fn is_empty(&self) -> bool {
-        self.relocations.is_empty()
-            && self.missing.is_empty()
-            && self.dropped.is_empty()
-            && self.empty.is_empty()
-            && self.order.is_empty()
+        self.has_their_numbers() && self.empty.is_empty() && self.links.is_empty()
+    }
+
+    /// Whether the sections have the numbers that they have in the image.
+    pub(super) fn has_their_numbers(&self) -> bool {
+        self.relocations.is_empty() && self.missing.is_empty() && self.dropped.is_empty() && self.order.is_empty()
     }
 }
 

@@ -20,10 +20,12 @@ pub(super) struct Outputs {
     missing: Vec<EmptySection>,
     /// The numbers of those of the image that GNU ld's file has not.
     dropped: Vec<usize>,
-    /// Those without bytes of both that GNU ld's file has with another header.
-    empty: Vec<EmptySection>,
+    /// The numbers of those without bytes of both that GNU ld's file has with another header, with that header.
+    empty: Vec<(u16, Section)>,
     /// By place: the number of the section that stands there in GNU ld's file.
     order: Vec<usize>,
+    /// Numbers of sections, with those of the sections that their headers refer to.
+    links: Vec<(u16, u16)>,
 }
 
 /// An output section without bytes that GNU ld's file has and the image has not.
@@ -73,6 +75,7 @@ impl Outputs {
             dropped: Vec::new(),
             empty: Vec::new(),
             order: Vec::new(),
+            links: Vec::new(),
         };
         let mut wanted: Vec<Wanted<'_>> = Vec::new();
         for id in &symbols.evaluation.order {
@@ -94,6 +97,7 @@ impl Outputs {
         let count = image.sections.len() + unloaded.len();
         outputs.make_missing(symbols.evaluation, count);
         outputs.find_instead(&headers, symbols);
+        outputs.find_links(symbols.evaluation);
         if symbols.map.is_none() {
             let empty = headers.iter().filter(|header| header.size == 0);
             outputs.dropped = empty.map(|header| usize::from(header.output.number)).collect();
@@ -111,6 +115,14 @@ impl Outputs {
             if let Some(nearby) = nearby {
                 self.instead.insert(header.output.number, nearby.number);
             }
+        }
+    }
+
+    /// Finds the sections that headers refer to.
+    fn find_links(&mut self, evaluation: &Evaluation) {
+        for (id, place) in evaluation.places() {
+            let found = self.get(id).zip(place.link.and_then(|link| self.get(link)));
+            self.links.extend(found.map(|(own, link)| (own.number, link.number)));
         }
     }
 
@@ -137,18 +149,16 @@ impl Outputs {
         }
     }
 
-    /// The sections without bytes of both that GNU ld's file has with another header.
-    fn other_headers(&self, image: &Image<'_>, evaluation: &Evaluation) -> Vec<EmptySection> {
-        let of = |id: &OutputId| {
-            let place = evaluation.output(*id)?.in_image().filter(|place| place.size == 0)?;
-            let number = self.get(*id)?.number;
-            let own = image.sections.get(usize::from(number)).filter(|own| own.is_allocated())?;
+    /// The numbers of the sections without bytes of both that GNU ld's file has with another header, with that header.
+    fn other_headers(&self, image: &Image<'_>, evaluation: &Evaluation) -> Vec<(u16, Section)> {
+        let of = |(id, place): (OutputId, &Placed)| {
+            let number = self.get(id)?.number;
+            let own = image.sections.get(usize::from(number)).filter(|own| own.is_allocated() && own.size == 0)?;
             let Section { name, offset, link, info, .. } = *own;
             let header = Section { name, offset, link, info, ..header_of(place) };
-            let name = BString::default();
-            (header != *own).then_some(EmptySection { after: number.into(), number, name, header })
+            (header != *own).then_some((number, header))
         };
-        evaluation.order.iter().filter_map(of).collect()
+        evaluation.places().filter(|(_, place)| place.size == 0).filter_map(of).collect()
     }
 
     /// By place: the number of the section that stands there in GNU ld's file, of `count`; nothing if all stand where
@@ -170,8 +180,8 @@ impl Outputs {
 
     /// How the sections of the file differ from those of the image (ldlang.c, `strip_excluded_output_sections`).
     pub(super) fn into_sections(self, relocations: Vec<RelocationTable>) -> OtherSections {
-        let Outputs { missing, dropped, empty, order, .. } = self;
-        OtherSections { relocations, missing, dropped, empty, order }
+        let Outputs { missing, dropped, empty, order, links, .. } = self;
+        OtherSections { relocations, missing, dropped, empty, order, links }
     }
 
     /// Gives sections that are not loaded their numbers, from the first one on: those that are not empty, in their

@@ -45,13 +45,20 @@ impl Link<'_> {
                 (None, name) => (name, &b""[..]),
             })
             .collect();
-        for id in self.program.top.clone() {
+        let starts_at = self.program.before.get(self.settings.starts_after).copied();
+        for (at, id) in self.program.top.clone().into_iter().enumerate() {
+            if starts_at == Some(at) {
+                self.set_addresses()?;
+            }
             match self.step(id).map(|step| step.kind.clone()) {
                 Some(StepKind::Output(output)) => self.map_output(output, rows, &files)?,
                 Some(StepKind::Assign { value, .. }) => self.make_named(value)?,
                 Some(StepKind::Assert { condition, .. }) => self.make_named(condition)?,
                 _ => {}
             }
+        }
+        if starts_at.map_or(true, |at| at >= self.program.top.len()) {
+            self.set_addresses()?;
         }
         Ok(())
     }
@@ -203,7 +210,7 @@ impl Link<'_> {
             (Some(Output { place: Some(place), .. }), Some(input)) => (place, input),
             _ => return Ok(false),
         };
-        join(place, input, flags);
+        join(place, (section, input), flags);
         place.align = place.align.max(input.align);
         place.inputs.push(section);
         input.fate = Fate::Output(id);
@@ -275,7 +282,7 @@ impl Link<'_> {
                 align: 1,
                 number,
                 is_gone: false,
-                has_input: false,
+                first: None,
                 inputs: Vec::new(),
                 kind,
                 bits,
@@ -362,10 +369,10 @@ impl Alike {
 }
 
 /// The flags and the type of an output section with one more input section.
-fn join(place: &mut Place, input: &InputSection, mut flags: Flags) {
+fn join(place: &mut Place, (id, input): (SectionId, &InputSection), mut flags: Flags) {
     let merging = Flags::MERGE | Flags::STRINGS;
     place.flags = place.flags & (flags | !Flags::READONLY);
-    if place.has_input {
+    if place.first.is_some() {
         flags = flags.without(Flags::READONLY);
         let is_other = place.flags & merging != flags & merging;
         if is_other || flags.has(Flags::MERGE) && place.entry_size != input.entry_size {
@@ -374,8 +381,8 @@ fn join(place: &mut Place, input: &InputSection, mut flags: Flags) {
         }
     }
     place.flags |= flags.without(Flags::CREATED | Flags::EXCLUDE);
-    if !place.has_input {
-        place.has_input = true;
+    if place.first.is_none() {
+        place.first = Some(id);
         place.bits = special_sections::of_first(input.bits);
         if flags.has(Flags::MERGE) {
             place.entry_size = input.entry_size;

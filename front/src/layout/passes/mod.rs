@@ -97,15 +97,9 @@ impl Link<'_> {
 
     /// Each input section goes to the output section that takes it.
     fn map_all(&mut self, objects: &[Object], rows: &Rows) -> Result<LinkedStabs, Stop> {
-        if !self.settings.starts_late {
-            self.set_addresses()?;
-        }
         self.strip_debugging();
         let stabs = self.link_stabs(objects);
         self.map(rows, objects)?;
-        if self.settings.starts_late {
-            self.set_addresses()?;
-        }
         self.find_linked(objects, rows);
         Ok(stabs)
     }
@@ -174,7 +168,7 @@ impl Link<'_> {
 
     /// The addresses that `--section-start` and `-Ttext` give (ldlang.c, `lang_address_statement_enum`): not those of a
     /// segment that the script asks for by SEGMENT_START.
-    fn set_addresses(&mut self) -> Result<(), Stop> {
+    pub(super) fn set_addresses(&mut self) -> Result<(), Stop> {
         let mut starts: Vec<(Name, u64)> = Vec::new();
         for (segment, address) in &self.settings.segment_starts {
             let is_used = self
