@@ -61,7 +61,7 @@ class FallbackTest(LinkTest):
         """Options that GNU ld does not have are not passed on, shortened or in a response file."""
         self.write("words", "--no-serv --Map-format 'gnu' -o r.o")
         for words in (("--no-serv", "-o", "r.o"), ("@words",), ("-no-server", "@words", "--Map-f=gnu")):
-            done = self.ld("-r", "a.o", *words, env=self.env())
+            done = self.ld("-r", "a.o", *words, env=self.env(LDI_FALLBACK="ld.bfd"))
             self.assertEqual(done.returncode, 0, done.stderr)
             (self.folder / "r.o").unlink()
 
